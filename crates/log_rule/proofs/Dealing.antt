@@ -31,7 +31,7 @@ use Rattle.log_rule.specs.declared.rule.Key.{Key}
 use Rattle.log_rule.specs.Edges.{IsAmong}
 use Rattle.log_rule.specs.Kept.{Attends, IsKeeper, IsReader, Kept, keepers_of, readers_of, reads_as}
 use Rattle.log_rule.specs.Numbers.{AreNumbered, is_number, numbers_as}
-use Rattle.log_rule.specs.Table.{LogRuled, all_known, first_reading, keeper_left, keeper_right, knows_all, news_left, news_of, news_right, now_at, other_readings, reader_left, reader_right, told_seat}
+use Rattle.log_rule.specs.Table.{LogRuled, all_known, first_reading, keeper_left, keeper_right, knowledge_right, knows_all, new_seat, news_left, news_right, now_at, other_readings, reader_left, reader_right, told_seat}
 use Rattle.log_rule.proofs.Growing.{Grows, attends_on, grows, not_keeping, placed_on}
 use Rattle.log_rule.proofs.Resting.{attending, rest_looks, rested_here}
 use Rattle.log_rule.proofs.Known.{is_among}
@@ -200,25 +200,42 @@ numbers key id v n low all s r at =
     record { whole = mine.whole; exact = mine.exact } refl
     (numbered_split ps id v.pass l q h (λ m. plus_none (numbers_as m v.pass)) record { claims = λ less. absurd (omega (arith, less, all)); armed = λ less _. absurd (omega (arith, less, all)) } (owns_none q refl refl) r.numbered)
 
--- ---- what a pass committed is told
+-- ---- committed frames are told
 
-pub news : (key : Key) (id : ℕ) (v : View) → Splits (LogRuled key) id v (news_left v) (news_right v)
-news key id v s r at =
+pub known_all : (ws : List ℕ) (qs : List Pass) (xs : List Reading) → AllByRecursion (IsReader ws qs) xs → AllByRecursion (IsAmong qs) (all_known xs)
+known_all ws qs [] a = tt
+known_all ws qs (x ∷ xs) a = all_append (IsAmong qs) x.known (all_known xs) a.0.known (known_all ws qs xs a.1)
+
+-- known alone, of no consumer
+abbrev telling : List FrameWords → Reading
+telling fs = record { number = 8; position = 0; known = fs; misses = 0 }
+
+tells_alone : (key : Key) (id : ℕ) (v : View) (fs : List FrameWords) → ((s : State (Unit {0}) View) → LogRuled key s → get_elem? s.views id ≡ some v → AllByRecursion (IsAmong (map pass_in s.views)) fs)
+    → Splits (LogRuled key) id v v (new_seat (record (newcomer v.pass.identity v.pass.start 0 0) { reading = telling fs ∷ [] }))
+tells_alone key id v fs committed s r at =
     let ps : List Pass = map pass_in s.views in let bs : Bounds = now_at key (slice_index s.words limit_place) r.cleaned in let h = here key id v s r at in let a = attends key id v s r at in
     let idle = (r.ruled.claims.each id v.pass h).right.idle in
-    let q : Pass = record (newcomer v.pass.identity v.pass.start 0 0) { reading = news_of v.pass ∷ [] } in
-    let ruled : Ruled bs s.words (set ps id v.pass ++ q ∷ []) = subst (λ (x : Identity × ℕ). Ruled bs s.words (set ps id v.pass ++ attending (newcomer x.0 x.1 0 0) (news_of v.pass ∷ []) no_keeping ∷ []))
+    let q : Pass = record (newcomer v.pass.identity v.pass.start 0 0) { reading = telling fs ∷ [] } in
+    let ruled : Ruled bs s.words (set ps id v.pass ++ q ∷ []) = subst (λ (x : Identity × ℕ). Ruled bs s.words (set ps id v.pass ++ attending (newcomer x.0 x.1 0 0) (telling fs ∷ []) no_keeping ∷ []))
     (λ i. (sym (identity_is key id v s r at) i, sym (start_is key id v s r at) i))
-    (split_off bs s.words ps r.ruled id 0 v.pass.right.parts v.pass v.pass.reading (news_of v.pass ∷ []) v.pass.keeping no_keeping h (r.ruled.claims.each id v.pass h).right.able (plus_none v.pass.right.parts) idle) in
-    cut key id v s r at (news_left v) (news_right v) ruled
+    (split_off bs s.words ps r.ruled id 0 v.pass.right.parts v.pass v.pass.reading (telling fs ∷ []) v.pass.keeping no_keeping h (r.ruled.claims.each id v.pass h).right.able (plus_none v.pass.right.parts) idle) in
+    cut key id v s r at v (new_seat q) ruled
     (kept_split bs r.there s.words ps r.ruled r.kept id v.pass v.pass q h ruled (λ f. plus_none (weight f v.pass)) (λ f. plus_none (committed_weight f v.pass))
-    (λ j lt. (let z : reads_as j (news_of v.pass) ≡ 0 = ap (λ (x : Bool). cond x 1 0) (ne_eqb 8 j (λ e. omega arith)) in none_more (readers_of j v.pass) (reads_as j (news_of v.pass)) z)) (plus_none (keepers_of v.pass))
-    a record { readings = (record { position = λ lt. absurd (omega arith); known = all_from (IsAmong ps) v.pass.work.frames (λ f among. is_among ps id v.pass f h among) }, tt); keeping = none_kept bs r.there s.words ps })
+    (λ j lt. (let z : reads_as j (telling fs) ≡ 0 = ap (λ (x : Bool). cond x 1 0) (ne_eqb 8 j (λ e. omega arith)) in none_more (readers_of j v.pass) (reads_as j (telling fs)) z)) (plus_none (keepers_of v.pass))
+    a record { readings = (record { position = λ lt. absurd (omega arith); known = committed s r at }, tt); keeping = none_kept bs r.there s.words ps })
     (r.sure.each id v at) refl
     (numbered_split ps id v.pass v.pass q h (λ n. plus_none (numbers_as n v.pass)) (r.numbered.each id v.pass h) (owns_none q refl refl) r.numbered)
   where
     none_more : (a c : ℕ) → c ≡ 0 → a + (c + 0) ≡ a
     none_more a c e = omega arith
+
+-- what a pass committed
+pub news : (key : Key) (id : ℕ) (v : View) → Splits (LogRuled key) id v (news_left v) (news_right v)
+news key id v = tells_alone key id v v.pass.work.frames (λ s r at. all_from (IsAmong (map pass_in s.views)) v.pass.work.frames (λ f among. is_among (map pass_in s.views) id v.pass f (here key id v s r at) among))
+
+-- what its consumers know
+pub knowledge : (key : Key) (id : ℕ) (v : View) → Splits (LogRuled key) id v (news_left v) (knowledge_right v)
+knowledge key id v = tells_alone key id v (all_known v.pass.reading) (λ s r at. known_all s.words (map pass_in s.views) v.pass.reading (attends key id v s r at).readings)
 
 -- two seats of the log: what the one's passes committed, the other's consumers know then
 pub tells : (key : Key) (id other : ℕ) (v w : View) → w.pass ≡ record (newcomer key.identity key.start 0 0) { reading = w.pass.reading } → Joins (LogRuled key) id v other w (told_seat v w) (spent_seat key.identity key.start)
@@ -247,10 +264,6 @@ tells key id other v w new s r at ne at' =
       numbered = subst AreNumbered (sym is) (numbered_join ps id other v.pass w.pass l.pass q.pass h at1 (λ n. ap (λ (m : ℕ). numbers_as n v.pass + m) (sym (ap (λ (p : Pass). numbers_as n p) new))) ((attends_goes v.pass rs v.pass.keeping).owns (r.numbered.each id v.pass h)) (owns_none q.pass refl refl) r.numbered);
     }
   where
-    known_all : (ws : List ℕ) (qs : List Pass) (xs : List Reading) → AllByRecursion (IsReader ws qs) xs → AllByRecursion (IsAmong qs) (all_known xs)
-    known_all ws qs [] a = tt
-    known_all ws qs (x ∷ xs) a = all_append (IsAmong qs) x.known (all_known xs) a.0.known (known_all ws qs xs a.1)
-
     same_numbers : (j : ℕ) (fs : List FrameWords) (xs : List Reading) → total (reads_as j) (map (knows_all fs) xs) ≤ total (reads_as j) xs
     same_numbers j fs [] = omega arith
     same_numbers j fs (x ∷ xs) = let r = same_numbers j fs xs in omega arith

@@ -8,8 +8,10 @@ use Rattle.atomic_table.specs.Table.{Allows, Joins, State, keeps}
 use Rattle.atomic_table.proofs.Lists.{at_map, at_set, set_else}
 use Rattle.theory.specs.Bytes.{Identity}
 use Rattle.theory.specs.Entry.{Entry, length_of}
+use Rattle.theory.specs.Placed.{Among}
 use Rattle.theory.specs.Position.{max_position}
 use Rattle.theory.specs.Tiling.{Tiles}
+use Rattle.theory.proofs.Lists.{all_weaker}
 use Rattle.publication.specs.declared.pass.FrameWords.{FrameWords}
 use Rattle.publication.specs.declared.pass.Pass.{Pass}
 use Rattle.log_rule.specs.declared.claims.view.View.{View}
@@ -30,10 +32,13 @@ use Rattle.log_rule.specs.Kept.{Attends, Kept, keepers_of, readers_of}
 use Rattle.log_rule.specs.Numbers.{AreNumbered, is_number, numbers_as}
 use Rattle.log_rule.specs.Readings.{reading}
 use Rattle.log_rule.specs.Shares.{Weighs, claimed_bytes}
-use Rattle.log_rule.specs.Table.{LogRuled, now_at}
+use Rattle.log_rule.specs.Edges.{IsAmong}
+use Rattle.log_rule.specs.Table.{LogRuled, all_known, now_at}
 use Rattle.log_rule.proofs.Growing.{Grows, attends_on, grows, placed_on}
 use Rattle.log_rule.proofs.Consumers.{loaded, spared_same}
-use Rattle.log_rule.proofs.Dealing.{none_kept}
+use Rattle.log_rule.proofs.Dealing.{known_all, none_kept}
+use Rattle.log_rule.proofs.InTerm.{done_long}
+use Rattle.log_rule.proofs.Known.{done_of, whole_has}
 use Rattle.log_rule.proofs.Owning.{numbered_join, owns_both, owns_none, single_at}
 use Rattle.log_rule.proofs.Sums.{parted}
 use Rattle.log_rule.proofs.Edges.{tail_low}
@@ -127,8 +132,8 @@ gathers key id other v w off off' able s r at ne at' =
 
 -- ---- how much is claimed
 
-weighs : (b : Bounds) (ws : List ℕ) (ps : List Pass) → Ruled b ws ps → AreNumbered ps → (id : ℕ) (v : Pass) → get_elem? ps id ≡ some v → Weighs v v
-weighs b ws ps r a id v at =
+weighs : (b : Bounds) (there ws : List ℕ) (ps : List Pass) → Ruled b ws ps → Kept b there ws ps → AreNumbered ps → (id : ℕ) (v : Pass) → get_elem? ps id ≡ some v → Weighs v v
+weighs b there ws ps r kept a id v at =
     let k = r.claims.each id v at in let most = tail_low b ws ps r in let mine = total_at (weight length_of) ps id v at in
     let share : weight length_of v ≡ claimed_bytes v = total_map length_of entry_of v.right.claims in
     let all : v.right.parts ≡ 1024 → (h : Entry → ℕ) → total (weight h) ps ≡ weight h v = λ e h. total_one parts_of (weight h) ps id v at (r.claims.parted ∙ sym e) (λ j w e' none. ap (λ cs. total h (map entry_of cs)) ((r.claims.each j w e').right.idle none)) in record {
@@ -142,6 +147,7 @@ weighs b ws ps r a id v at =
       };
       parted = parted b ws v (r.memory.each id v at);
       single = single_at ps id v at a;
+      known = λ all. all_weaker (IsAmong ps) (λ f. Among f v.work.frames) (λ f among. whole_has b ws ps r id v at all f among (done_long b.identity f (done_of b ws ps r f among))) (all_known v.reading) (known_all ws ps v.reading (kept.each id v at).readings);
       same = refl;
     }
   where
@@ -157,5 +163,5 @@ weigh key slots id i m s q homes at small =
       keeps,
       tt,
       loaded key s q id i v v.pass.reading v.pass.keeping at (λ j. refl) refl (attends_on bs q.there q.kept.eight s.words s.words qs (set qs id v.pass) g (spared_same s.words) v.pass (q.kept.each id v.pass here)),
-      (refl, refl, record { sure = refl; leads = λ one. refl }, weighs bs s.words qs q.ruled q.numbered id v.pass here),
+      (refl, refl, record { sure = refl; leads = λ one. refl }, weighs bs q.there s.words qs q.ruled q.kept q.numbered id v.pass here),
     )

@@ -3,6 +3,7 @@ use Rattle.std.specs.Prelude.{◌≡◌, ℕ, ◌+◌, ◌<◌, ◌≤◌, ◌==
 use Rattle.std.specs.List.{AllByRecursion}
 use Rattle.theory.specs.Position.{max_position, span}
 use Rattle.theory.specs.Bytes.{Identity}
+use Rattle.theory.specs.Placed.{Among}
 use Rattle.theory.specs.Entry.{Entry, length_of}
 use Rattle.theory.specs.Tiling.{Tiles}
 use Rattle.publication.specs.declared.pass.ClaimRange.{ClaimRange}
@@ -13,6 +14,7 @@ use Rattle.log_rule.specs.Claims.Rule.{IsClaimEntry, entries_of, weight}
 use Rattle.log_rule.specs.Claims.Events.{committed_weight}
 use Rattle.log_rule.specs.Edges.{in_entry}
 use Rattle.log_rule.specs.Numbers.{numbers_as}
+use Rattle.log_rule.specs.Table.{all_known}
 
 abbrev pub range_bytes : ClaimRange → ℕ
 range_bytes c = span c.cuts
@@ -43,4 +45,6 @@ pub record Weighs (v w : Pass) : Type 0 where
   pub parted : (h : Extent → ℕ) → weight (in_entry h) v ≡ committed_weight (λ f. h (extent_of f)) v + total (λ f. h (extent_of f)) v.work.drafts
   -- none of its numbers is there twice
   pub single : (n : ℕ) → numbers_as n v ≤ 1
+  -- where it has all parts, its consumers know no frame but such as it has committed
+  pub known : v.right.parts ≡ 1024 → AllByRecursion (λ f. Among f v.work.frames) (all_known v.reading)
   pub same : w ≡ v

@@ -108,6 +108,13 @@ abbrev pub all_known : List Reading → List FrameWords
 all_known [] = []
 all_known (r ∷ rs) = r.known ++ all_known rs
 
+-- so is what its consumers know
+abbrev pub knowledge_of : Pass → Reading
+knowledge_of v = record { number = 8; position = 0; known = all_known v.reading; misses = 0 }
+
+abbrev pub knowledge_right : View → View
+knowledge_right v = new_seat (record (newcomer v.pass.identity v.pass.start 0 0) { reading = knowledge_of v.pass ∷ [] })
+
 abbrev pub knows_all : List FrameWords → Reading → Reading
 knows_all fs r = record r { known = r.known ++ fs }
 

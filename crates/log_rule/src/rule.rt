@@ -207,6 +207,17 @@ impl Split<View> for News {
     ghost right = { news_right };
 }
 
+/// What the consumers of a seat know goes to a seat of its own, to be told.
+pub struct Knowledge;
+
+impl Split<View> for Knowledge {
+    ghost use Rattle.log_rule.specs.Table.{knowledge_right, news_left};
+
+    ghost left = { news_left };
+
+    ghost right = { knowledge_right };
+}
+
 /// The stream of a log, which a call picks for its step.
 pub trait Carried {
     ghost identity: { Identity };
