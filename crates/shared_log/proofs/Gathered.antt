@@ -1,17 +1,21 @@
 -- Publishers are gathered one after the other, and their shares are counted.
-use Rattle.std.proofs.Common.{◌≡◌, ℕ, ◌+◌, ◌^◌, ◌<◌, ◌≤◌, cond, Bool, List, [], ◌∷◌, ◌++◌, length, set, map, replicate, All, append-nil, append_assoc, get_or-set_same, get_or-set_other, length-set, eq-eqb, ne_eqb, sym, refl, ap, ◌∙◌, subst, arith}
+use Rattle.std.proofs.Common.{◌≡◌, ℕ, ◌+◌, ◌^◌, ◌<◌, ◌≤◌, cond, Bool, List, [], ◌∷◌, ◌++◌, length, set, map, replicate, All, append-nil, append_assoc, get_or-set_same, get_or-set_other, length-set, ⊎_elim, eq-eqb, ne_eqb, sym, refl, ap, ◌∙◌, subst, arith}
 use Rattle.std.proofs.lemmas.List.{get_or-replicate}
 use Rattle.std.proofs.lemmas.List.Sums.{sum_by-set}
 use mathlib.Core.Logic.{dite}
 use native.Mathlib.Decide.{ℕ_discrete}
 use Rattle.std.specs.Prelude.{slice_index, slice_set, sum}
 use Rattle.theory.specs.Bytes.{Identity}
-use Rattle.std.specs.List.{AllByRecursion}
+use Rattle.std.specs.List.{AllByRecursion, flat_map}
 use Rattle.theory.specs.Entry.{Entry}
 use Rattle.theory.specs.Position.{IsGeometry, max_position}
+use Rattle.theory.specs.Placed.{Among}
+use Rattle.theory.proofs.Lists.{all_weaker, among_cases, among_left, among_right}
 use Rattle.theory.proofs.Tables.{sum_set}
 use Rattle.publication.specs.declared.pass.ClaimRange.{ClaimRange}
+use Rattle.publication.specs.declared.pass.FrameWords.{FrameWords}
 use Rattle.publication.specs.declared.pass.Pass.{Pass}
+use Rattle.publication.specs.declared.pass.Reading.{Reading}
 use Rattle.log_rule.specs.Claims.Sums.{total}
 use Rattle.log_rule.specs.Claims.Rule.{entries_of, entry_of, weight}
 use Rattle.log_rule.specs.Edges.{in_entry}
@@ -23,13 +27,14 @@ use Rattle.log_rule.proofs.Claimed.Totals.{total_append}
 use Rattle.log_rule.specs.Shares.{IsTiled, Weighs, claimed_bytes, owner_bytes}
 use Rattle.shared_log.specs.Handles.{LogValue}
 use Rattle.shared_log.specs.Keepers.{KeeperValue}
-use Rattle.shared_log.specs.Books.{AreAll, Gathers, HasEntries, IsDone, IsIdle, IsCommitted, ShowsBook, committed_in, numbers_in, share_as, weight_in}
+use Rattle.shared_log.specs.Books.{AreAll, Gathers, HasEntries, IsDone, IsIdle, IsCommitted, IsCommittedBy, ShowsBook, committed_in, committed_of, numbers_in, share_as, weight_in}
+use Rattle.log_rule.specs.Table.{all_known}
 use Rattle.log_rule.proofs.Shares.{share_is}
 use Rattle.shared_log.proofs.Owned.{own_share}
 use Rattle.shared_log.proofs.Shares.{both_share}
 
 -- these publishers are left: what is counted of the others, and what the keeper has of them
-pub record IsGathering (l : LogValue) (all left : List PublisherValue) (shares : List ℕ) (tail : ℕ) (k : PublisherValue) : Type 0 where
+pub record IsGathering (l : LogValue) (reading : List Reading) (all left : List PublisherValue) (shares : List ℕ) (tail : ℕ) (k : PublisherValue) : Type 0 where
   pub idle : IsIdle l k
   pub undone : All (IsDone l) left
   -- those that were gathered
@@ -46,8 +51,11 @@ pub record IsGathering (l : LogValue) (all left : List PublisherValue) (shares :
   pub summed : sum shares ≡ claimed_bytes k.pass
   pub tail_is : tail ≡ l.start + claimed_bytes k.pass
   pub weighs : Weighs k.pass k.pass
+  -- its consumers know what they knew, and what it has committed those did that were gathered
+  pub knows : k.pass.reading ≡ reading
+  pub frames : (f : FrameWords) → Among f k.pass.work.frames → Among f (flat_map committed_of gone)
 
-pub begun : (l : LogValue) (ps : List PublisherValue) (k q : KeeperValue) → AreAll l ps k → Weighs k.held.pass q.held.pass → IsIdle l q.held → IsGathering l ps ps (replicate 8 0) l.start q.held
+pub begun : (l : LogValue) (ps : List PublisherValue) (k q : KeeperValue) → AreAll l ps k → Weighs k.held.pass q.held.pass → IsIdle l q.held → IsGathering l k.held.pass.reading ps ps (replicate 8 0) l.start q.held
 begun l ps k q a w idle =
     let none : q.held.pass.right.claims ≡ [] = ap (λ (v : Pass). v.right.claims) w.same ∙ a.unclaimed in let some = a.whole in let same = ap (λ (v : Pass). v.right.parts) w.same in record {
       idle = idle;
@@ -65,8 +73,20 @@ begun l ps k q a w idle =
       summed = sym (nothing q.held.pass none);
       tail_is = sym (plus_none l.start (claimed_bytes q.held.pass) (nothing q.held.pass none));
       weighs = subst (λ (v : Pass). Weighs v q.held.pass) (sym w.same) w;
+      knows = ap (λ (v : Pass). v.reading) w.same;
+      frames = λ f among.
+          no_frames k.held.pass.work.frames
+          (none_left (weight (in_entry (λ r. 1)) k.held.pass) (total (λ (g : FrameWords). 1) k.held.pass.work.frames) (total (λ (g : FrameWords). 1) k.held.pass.work.drafts) (ap (λ (cs : List ClaimRange). total (in_entry (λ r. 1)) (map entry_of cs)) a.unclaimed) (w.parted (λ r. 1)))
+          f (subst (λ (v : Pass). Among f v.work.frames) w.same among);
     }
   where
+    none_left : (w n m : ℕ) → w ≡ 0 → w ≡ n + m → n ≡ 0
+    none_left w n m z e = omega arith
+
+    no_frames : (fs : List FrameWords) → total (λ (g : FrameWords). 1) fs ≡ 0 → (f : FrameWords) → Among f fs → Among f []
+    no_frames [] z f among = among
+    no_frames (g ∷ fs) z f among = absurd (omega (arith, z))
+
     at_most : (n m : ℕ) → n ≤ n + m
     at_most n m = omega arith
 
@@ -83,9 +103,9 @@ begun l ps k q a w idle =
     nothing v e = ap (total Rattle.log_rule.specs.Shares.range_bytes) e
 
 -- one publisher more
-pub gathered_on : (l : LogValue) (all left rest : List PublisherValue) (shares : List ℕ) (tail number share : ℕ) (p k q : PublisherValue) → IsGathering l all left shares tail k → left ≡ rest ++ p ∷ [] → All (IsDone l) rest → HasEntries p → IsCommitted p → IsIdle l q → Gathers k.pass p q.pass (number, share)
-    → IsGathering l all rest (slice_set shares number (slice_index shares number + share)) (tail + share) q
-gathered_on l all left rest shares tail number share p k q g e undone entries ended idle x =
+pub gathered_on : (l : LogValue) (reading : List Reading) (all left rest : List PublisherValue) (shares : List ℕ) (tail number share : ℕ) (p k q : PublisherValue) → IsGathering l reading all left shares tail k → left ≡ rest ++ p ∷ [] → All (IsDone l) rest → HasEntries p → IsCommitted p → IsIdle l q → Gathers k.pass p q.pass (number, share)
+    → IsGathering l reading all rest (slice_set shares number (slice_index shares number + share)) (tail + share) q
+gathered_on l reading all left rest shares tail number share p k q g e undone entries ended idle x =
     let last : (f : PublisherValue → ℕ) → total f left ≡ total f rest + f p = λ f. ap (total f) e ∙ total_append f rest (p ∷ []) ∙ (let z : total f rest + (f p + 0) ≡ total f rest + f p = omega arith in z) in
     let eight = g.eight in let low = x.number.1 in let at = x.number.0 in let inside : number < length shares = omega (arith, eight, low, at) in
     let less : p.pass.right.parts < 1024 = few (total parts_in left) (total parts_in rest) p.pass.right.parts k.pass.right.parts (last parts_in) g.parts x.some in
@@ -121,6 +141,12 @@ gathered_on l all left rest shares tail number share p k q g e undone entries en
       summed = sum_set shares number share inside ∙ ap (λ (n : ℕ). n + share) g.summed ∙ sym more;
       tail_is = (let t = g.tail_is in tails tail l.start (claimed_bytes k.pass) share (claimed_bytes q.pass) t more);
       weighs = x.weighs;
+      knows = ap (λ (v : Pass). v.reading) x.pass ∙ g.knows;
+      frames = λ f among.
+          ⊎_elim
+          (λ (there : Among f k.pass.work.frames). among_right f p.pass.work.frames (flat_map committed_of g.gone) (g.frames f there))
+          (λ (mine : Among f p.pass.work.frames). among_left f p.pass.work.frames (flat_map committed_of g.gone) mine)
+          (among_cases f k.pass.work.frames p.pass.work.frames (subst (λ (v : Pass). Among f v.work.frames) x.pass among));
     }
   where
     three : (left rest p k q all : ℕ) → left ≡ rest + p → left + k ≡ all → q ≡ k + p → rest + q ≡ all
@@ -149,9 +175,9 @@ index_low : (xs : List ℕ) (k : ℕ) → k < length xs → slice_index xs k ≤
 index_low xs k lt = let e = sum_by-set (λ (x : ℕ). x) xs k 0 0 lt in omega arith
 
 -- each sum fits a word
-pub sums_low : (l : LogValue) (all left : List PublisherValue) (shares : List ℕ) (tail number share : ℕ) (q : PublisherValue) → IsGathering l all left (slice_set shares number (slice_index shares number + share)) (tail + share) q → number < 8 → q.pass.start + claimed_bytes q.pass ≤ 2 ^ 55
+pub sums_low : (l : LogValue) (reading : List Reading) (all left : List PublisherValue) (shares : List ℕ) (tail number share : ℕ) (q : PublisherValue) → IsGathering l reading all left (slice_set shares number (slice_index shares number + share)) (tail + share) q → number < 8 → q.pass.start + claimed_bytes q.pass ≤ 2 ^ 55
     → (tail + share ≤ 2 ^ 55) × (slice_index shares number + share ≤ 2 ^ 55)
-sums_low l all left shares tail number share q g low most =
+sums_low l reading all left shares tail number share q g low most =
     let eight = g.eight in let at = g.idle.of.start in let sum_is = g.summed in let t = g.tail_is in
     let n : ℕ = slice_index shares number + share in let long : length (set shares number n) ≡ length shares = length-set shares number n in
     let there : slice_index (set shares number n) number ≡ n = get_or-set_same shares number n 0 (omega (arith, eight, long, low)) in
@@ -165,8 +191,8 @@ sums_low l all left shares tail number share q g low most =
     by_share n x all m p e le f low = omega arith
 
 -- all of them
-pub shows : (l : LogValue) (all : List PublisherValue) (shares : List ℕ) (tail : ℕ) (k : PublisherValue) → IsGeometry l.identity.geometry → IsGathering l all [] shares tail k → ShowsBook l all (record { start = l.start; tail = tail; shares = shares })
-shows l all shares tail k legal g =
+pub shows : (l : LogValue) (reading : List Reading) (all : List PublisherValue) (shares : List ℕ) (tail : ℕ) (k : PublisherValue) → IsGeometry l.identity.geometry → IsGathering l reading all [] shares tail k → ShowsBook l all (record { start = l.start; tail = tail; shares = shares })
+shows l reading all shares tail k legal g =
     let p = g.parts in let whole : k.pass.right.parts ≡ 1024 = omega arith in let t = g.weighs.whole whole in
     let tiled : IsTiled l.identity l.start tail (λ h. weight h k.pass) = subst (λ (x : Identity × ℕ × ℕ). IsTiled x.0 x.1 x.2 (λ h. weight h k.pass)) (λ i. (g.idle.of.identity i, g.idle.of.start i, (ap (λ (n : ℕ). n + claimed_bytes k.pass) g.idle.of.start ∙ sym g.tail_is) i)) t in record {
       geometry = legal;
@@ -192,3 +218,10 @@ shows l all shares tail k legal g =
 
     all_of : (a c : ℕ) → 0 + a ≡ c → c ≡ a
     all_of a c e = omega arith
+
+-- what its consumers know was committed by one of them
+pub knows_committed : (l : LogValue) (reading : List Reading) (all : List PublisherValue) (shares : List ℕ) (tail : ℕ) (k : PublisherValue) → IsGathering l reading all [] shares tail k → AllByRecursion (IsCommittedBy all) (all_known reading)
+knows_committed l reading all shares tail k g =
+    let p = g.parts in let whole : k.pass.right.parts ≡ 1024 = omega arith in
+    all_weaker (λ (f : FrameWords). Among f k.pass.work.frames) (IsCommittedBy all) (λ f among. subst (λ (ps : List PublisherValue). Among f (flat_map committed_of ps)) (sym g.these) (g.frames f among)) (all_known reading)
+    (subst (λ (rs : List Reading). AllByRecursion (λ (f : FrameWords). Among f k.pass.work.frames) (all_known rs)) g.knows (g.weighs.known whole))

@@ -1,9 +1,11 @@
 -- What becomes of passes that end, and what the book of a log says.
-use Rattle.std.specs.Prelude.{◌≡◌, ℕ, ◌+◌, ◌<◌, ◌≤◌, ◌==◌, cond, List, [], All, slice_index, sum}
-use Rattle.std.specs.List.{AllByRecursion}
+use Rattle.std.specs.Prelude.{◌≡◌, ℕ, ◌+◌, ◌<◌, ◌≤◌, ◌==◌, cond, List, [], ◌∷◌, All, slice_index, sum}
+use Rattle.std.specs.List.{AllByRecursion, flat_map}
 use Rattle.theory.specs.Entry.{Entry}
+use Rattle.theory.specs.Placed.{Among}
 use Rattle.theory.specs.Position.{IsGeometry, max_position}
 use Rattle.theory.specs.Tiling.{share_of}
+use Rattle.publication.specs.declared.pass.FrameWords.{FrameWords}
 use Rattle.publication.specs.declared.pass.Pass.{Pass}
 use Rattle.log_rule.specs.Claims.Sums.{total}
 use Rattle.log_rule.specs.Claims.Rule.{IsClaimEntry, entries_of, weight}
@@ -14,6 +16,7 @@ use Rattle.publication.specs.Steps.{Extent, extent_of}
 use Rattle.log_rule.specs.Claims.Handles.{PublisherValue, parts_in}
 use Rattle.log_rule.specs.Claims.Closing.{both, handed_over}
 use Rattle.log_rule.specs.Shares.{IsTiled, Weighs, claimed_bytes}
+use Rattle.log_rule.specs.Table.{knowledge_of}
 use Rattle.shared_log.specs.Handles.{IsOf, LogValue, OwnsClaims}
 use Rattle.shared_log.specs.Keepers.{KeeperValue}
 use Rattle.shared_log.specs.declared.book.Book.{Book}
@@ -51,6 +54,13 @@ weight_in h p = weight h p.pass
 -- what frames all of them committed
 abbrev pub committed_in : (Extent → ℕ) → PublisherValue → ℕ
 committed_in h p = committed_weight (λ f. h (extent_of f)) p.pass
+
+-- the frames that it has committed; and one of them is this
+abbrev pub committed_of : PublisherValue → List FrameWords
+committed_of p = p.pass.work.frames
+
+abbrev pub IsCommittedBy : List PublisherValue → FrameWords → Type 0
+IsCommittedBy publishers f = Among f (flat_map committed_of publishers)
 
 -- each of its claims is an entry of a stream
 abbrev pub HasEntries : PublisherValue → Type 0
@@ -92,3 +102,7 @@ pub record Gathers (v : Pass) (p : PublisherValue) (w : Pass) (answer : ℕ × �
   pub share : answer.1 ≡ claimed_bytes p.pass
   pub pass : w ≡ both v p.pass
   pub weighs : Weighs w w
+
+-- its consumers know too what the other's do
+abbrev pub Remembers : Pass → Pass → Pass → Type 0
+Remembers v r w = w ≡ record v { reading = knowledge_of r ∷ v.reading }

@@ -2,14 +2,17 @@
 
 ghost use Rattle.std.specs.Prelude.{◌≡◌, ◌+◌, ◌^◌, ◌≤◌, []};
 ghost use Rattle.log_rule.specs.Shares.{Weighs, claimed_bytes};
+ghost use Rattle.std.specs.List.{AllByRecursion};
 ghost use Rattle.theory.specs.Position.{IsGeometry};
-ghost use Rattle.shared_log.specs.Books.{AreAll, Gathers, HasEntries, IsCommitted, IsIdle, ShowsBook};
+ghost use Rattle.log_rule.specs.Table.{all_known};
+ghost use Rattle.shared_log.specs.Books.{AreAll, Gathers, HasEntries, IsCommitted, IsCommittedBy, IsIdle, Remembers, ShowsBook};
+ghost use Rattle.shared_log.specs.Readers.{IsReaderOf, known_of};
 
 use crate::book::Book;
 use crate::keeper::Keeper;
 use crate::log::{Log, Publisher};
 use crate::reader::LogReader;
-use log_rule::{Carried, Gather, Weigh};
+use log_rule::{Carried, Gather, Knowledge, Return, Weigh};
 use std::marker::Brand;
 
 /// The keeper is told how much it has claimed.
@@ -48,15 +51,11 @@ fn gather_as<N: Carried>(log: &Log, keeper: &mut Keeper, publisher: Publisher) -
     (number as usize, share)
 }
 
-/// Ends a log. All its publishers have to be handed in, with nothing left open.
-pub fn close(
-    log: Log,
-    mut publishers: Vec<Publisher>,
-    _readers: Vec<LogReader>,
-    mut keeper: Keeper,
-) -> Book
+/// All publishers are gathered to the keeper, and their shares are counted.
+fn gathered(log: Log, mut publishers: Vec<Publisher>, mut keeper: Keeper) -> Book
     requires { AreAll log publishers.items keeper }
-    ensures { ShowsBook log publishers.items result }
+    ensures shows { ShowsBook log publishers.items result }
+    ensures known { AllByRecursion (IsCommittedBy publishers.items) (all_known keeper.held.pass.reading) }
 {
     weigh(&log, &mut keeper);
     let start = log.start();
@@ -72,4 +71,46 @@ pub fn close(
         tail,
         shares,
     }
+}
+
+/// Ends a log. All its publishers have to be handed in, with nothing left open.
+pub fn close(
+    log: Log,
+    publishers: Vec<Publisher>,
+    _readers: Vec<LogReader>,
+    keeper: Keeper,
+) -> Book
+    requires { AreAll log publishers.items keeper }
+    ensures { ShowsBook log publishers.items result }
+{
+    gathered(log, publishers, keeper)
+}
+
+/// The keeper is told each frame that a reader knows.
+fn remember_as<N: Carried>(log: &Log, keeper: &mut Keeper, reader: &mut LogReader)
+    requires keeper { IsIdle log.now keeper.old.held }
+    requires reader { IsReaderOf log.now reader.old }
+    requires carried { (N.identity ≡ log.now.identity) × (N.start ≡ log.now.start) }
+    ensures idle { IsIdle log.now keeper.new.held }
+    ensures remembers { Remembers keeper.old.held.pass reader.old.held.pass keeper.new.held.pass }
+{
+    let words = &log.table.shared;
+    let knowledge = words.split_seat::<Knowledge>(&mut reader.seat);
+    words.join_seat::<Return<N>>(&mut keeper.seat, knowledge);
+}
+
+/// Ends a log as `close` does, with one of its readers: the frames that this knows are such as the publishers committed.
+pub fn close_read(
+    log: Log,
+    publishers: Vec<Publisher>,
+    mut reader: LogReader,
+    mut keeper: Keeper,
+) -> Book
+    requires all { AreAll log publishers.items keeper }
+    requires reader { IsReaderOf log reader }
+    ensures shows { ShowsBook log publishers.items result }
+    ensures known { AllByRecursion (IsCommittedBy publishers.items) (known_of reader) }
+{
+    remember_as::<Brand>(&log, &mut keeper, &mut reader);
+    gathered(log, publishers, keeper)
 }

@@ -9,7 +9,8 @@
 //! that call, and none that a word had shown to either is above it (`meet`). One that retires leaves its numbers and all
 //! that it claimed to another, whose it is then (`retire`). Closed with all its passes, a log's `Book` has each
 //! publisher's share, which is that of the entries' owners, no number is one of two, and the entries of all tile the
-//! stream from the start to its tail (`close`).
+//! stream from the start to its tail (`close`), and what a reader that is handed in knows was committed by them
+//! (`close_read`).
 //!
 //! A reader: `next` gives the committed frame where it stands, and none only where the word there, loaded once in that
 //! call, was zero, and no frame begins that the reader knows; `advance` goes to its end; `reread` gives a frame again
@@ -47,7 +48,7 @@ mod reader;
 mod roles;
 
 pub use book::{Book, PUBLISHERS};
-pub use closing::close;
+pub use closing::{close, close_read};
 pub use fault::LogError;
 pub use keeper::joining::{begin_consumer, end_consumer};
 pub use keeper::{Keeper, clean_and_limit, set_closed, set_connected};
