@@ -39,6 +39,6 @@ pub use meeting::{Meet, Met, Part, Settle, Show};
 pub use opening::opening_words;
 pub use rule::{
     Add, Carried, Clean, Consume, DealKeeper, DealPublisher, DealReader, Gather, HandOver, Key,
-    Knowledge, LogRule, LookHere, News, Place, Raise, Reread, Return, Seated, Sweep, Tell, Vacate, Weigh,
-    Word,
+    Knowledge, LogRule, LookHere, News, Place, Raise, Reread, Return, Seated, Sweep, Tell, Vacate,
+    Weigh, Word,
 };

@@ -132,4 +132,3 @@ with_claim = record armed { right = record armed.right { claims = at 0 35 ∷ []
 
 never_below : (w : Pass) → Adds with_claim 3 0x0000000700000020 w → ⊥
 never_below w adds = let ends = (adds.behind (lit< tt)).0 in omega (arith, ends)
-

@@ -74,12 +74,7 @@ fn gathered(log: Log, mut publishers: Vec<Publisher>, mut keeper: Keeper) -> Boo
 }
 
 /// Ends a log. All its publishers have to be handed in, with nothing left open.
-pub fn close(
-    log: Log,
-    publishers: Vec<Publisher>,
-    _readers: Vec<LogReader>,
-    keeper: Keeper,
-) -> Book
+pub fn close(log: Log, publishers: Vec<Publisher>, _readers: Vec<LogReader>, keeper: Keeper) -> Book
     requires { AreAll log publishers.items keeper }
     ensures { ShowsBook log publishers.items result }
 {
