@@ -19,6 +19,8 @@ use Rattle.publication.specs.Steps.{Keeps, geometry_of, start_in, term_of}
 use Rattle.publication.specs.Claims.{Justified, Leaves, LeavesPadding}
 use Rattle.publication.specs.Frames.{message_frames}
 use Rattle.publication.specs.Offers.{Offered as OfferedIn}
+use Rattle.publication.specs.Orders.{AreInOrder}
+use Rattle.publication.proofs.Ordered as ordered
 use Rattle.messages.specs.declared.form.Form.{Form}
 use Rattle.messages.specs.declared.fault.InputFault.{InputFault}
 use Rattle.messages.specs.Inputs.{Explains, Gives}
@@ -42,6 +44,7 @@ nothing p q k tail = record {
   claims = ap (λ (v : Pass). v.right.claims) k ∙ sym (append-nil p.right.claims);
   frames = ap (λ (v : Pass). v.work.frames) k ∙ sym (append-nil p.work.frames);
   drafts = ap (λ (v : Pass). v.work.drafts) k;
+  ordered = subst AreInOrder (sym (ap (λ (v : Pass). v.right.claims) k));
   are = refl;
   ends = refl;
 }
@@ -74,6 +77,7 @@ together p v q tail middle to ms ns a b =
           ∙ append_assoc p.work.frames (flat_map frames a.taken) (flat_map frames b.taken)
           ∙ ap (λ (fs : List FrameWords). p.work.frames ++ fs) (sym (flat_map-append frames a.taken b.taken));
       drafts = b.drafts ∙ a.drafts;
+      ordered = λ order. b.ordered (a.ordered order);
       are = flat_map-append messages_in a.taken b.taken ∙ (λ j. a.are j ++ b.are j);
       ends = b.ends ∙ (λ j. end_behind (a.identity j).geometry (a.ends j) b.taken) ∙ sym (end_behind-append p.identity.geometry tail a.taken b.taken);
     }
@@ -99,6 +103,7 @@ accepted p q message end h tail = record {
       ∙ ap (λ (s : ℕ). p.right.claims ++ claim_of p.identity p.number (Message s message) ∷ []) (sym h.claimed.from);
   frames = ap (λ (v : Pass). v.work.frames) h.after ∙ ap (λ (fs : List FrameWords). p.work.frames ++ fs) (sym (append-nil (message_frames p.identity true h.start message)));
   drafts = ap (λ (v : Pass). v.work.drafts) h.after;
+  ordered = ordered.offered p q message end h;
   are = refl;
   ends = h.end_is;
 }
@@ -114,6 +119,7 @@ padded p word q h tail =
       claims = ap (λ (v : Pass). v.right.claims) e;
       frames = ap (λ (v : Pass). v.work.frames) e;
       drafts = ap (λ (v : Pass). v.work.drafts) e;
+      ordered = λ order. ordered.padded p q order word h;
       are = refl;
       ends = refl;
     })

@@ -9,6 +9,7 @@ use Rattle.publication.specs.declared.pass.ClaimRange.{ClaimRange}
 use Rattle.publication.specs.declared.pass.FrameWords.{FrameWords}
 use Rattle.publication.specs.declared.pass.Pass.{Pass}
 use Rattle.publication.specs.Frames.{frame_at, message_frames}
+use Rattle.publication.specs.Orders.{AreInOrder}
 use Rattle.messages.specs.Inputs.{Explains, Gives}
 use Rattle.messages.specs.declared.form.Form.{Form}
 use Rattle.offering.specs.declared.fault.ReadingFault.{ReadingFault}
@@ -54,6 +55,8 @@ pub record Publishes (p : Pass) (tail : ℕ) (messages : List (List ℕ)) (q : P
   pub claims : q.right.claims ≡ p.right.claims ++ map (claim_of p.identity p.number) taken
   pub frames : q.work.frames ≡ p.work.frames ++ flat_map (frames_in p.identity) taken
   pub drafts : q.work.drafts ≡ p.work.drafts
+  -- in the order of the stream, where what it had claimed before is
+  pub ordered : AreInOrder p.right.claims → AreInOrder q.right.claims
   pub are : flat_map messages_in taken ≡ messages
   pub ends : to ≡ end_behind p.identity.geometry tail taken
 

@@ -115,8 +115,9 @@ fn offer_all<R: Clock, I: BufRead>(
 /// Reads the input and publishes what it gives. The answer is how that ended.
 ///
 /// What the publisher has claimed and committed since is the messages that were read, in their order, each once and whole,
-/// and paddings. Behind them the input is at its end, or gives no message for the fault that is told; or one more was read,
-/// when all was to stop or the stream had no place for it.
+/// and paddings; where what it had claimed before is in the order of the stream, all of it is. Behind them the input is at its
+/// end, or gives no message for the fault that is told; or one more was read, when all was to stop or the stream had no place
+/// for it.
 pub fn read_input<R: Clock, I: BufRead>(
     context: &OfferingContext<'_, R>,
     input: &mut I,
