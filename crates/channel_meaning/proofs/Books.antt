@@ -1,22 +1,30 @@
--- Claims that weigh what a tiling weighs, and stand in order, are a tiling.
-use Rattle.std.proofs.Common.{◌≡◌, ◌∙◌, ℕ, ◌+◌, ◌-◌, ◌*◌, ◌/◌, ◌≤◌, List, [], ◌∷◌, ◌++◌, map, refl, sym, ap, subst, arith}
+-- Claims that weigh what a tiling weighs, and stand in order, are a tiling; so what a publisher has claimed is a stream.
+use Rattle.std.proofs.Common.{◌≡◌, ◌∙◌, ℕ, ◌+◌, ◌-◌, ◌*◌, ◌/◌, ◌≤◌, List, [], ◌∷◌, ◌++◌, map, Option, refl, sym, ap, subst, arith}
+use Rattle.std.specs.Prelude.{⊤}
 use Rattle.std.specs.List.{AllByRecursion}
 use Rattle.theory.specs.Bytes.{Identity}
-use Rattle.theory.specs.Entry.{Entry, entry_end}
-use Rattle.theory.specs.Position.{span}
+use Rattle.theory.specs.Entry.{Entry, IsEntry, entry_end}
+use Rattle.theory.specs.Position.{IsGeometry, span}
 use Rattle.theory.specs.Tiling.{InOneTerm, Tiles}
+use Rattle.theory.proofs.Lists.{all_behind}
+use Rattle.model.proofs.Commits.{pieces_are}
 use Rattle.publication.specs.declared.pass.ClaimRange.{ClaimRange}
+use Rattle.publication.specs.declared.pass.Pass.{Pass}
+use Rattle.publication.specs.Orders.{AreInOrder, claim_end}
 use Rattle.log_rule.specs.Claims.Handles.{PublisherValue}
-use Rattle.log_rule.specs.Claims.Rule.{weight}
+use Rattle.log_rule.specs.Claims.Rule.{IsClaimEntry, weight}
 use Rattle.log_rule.specs.Claims.Rule as rules
 use Rattle.log_rule.specs.Claims.Sums.{total}
-use Rattle.log_rule.proofs.Claimed.Totals.{extent_of, tiles_up}
-use Rattle.shared_log.specs.Books.{weight_in}
-use Rattle.offering.specs.Published.{Taken, claim_of}
+use Rattle.log_rule.proofs.Claimed.Totals.{extent_of, none_behind, tiles_up}
+use Rattle.shared_log.specs.Books.{HasEntries, weight_in}
+use Rattle.shared_log.specs.Handles.{LogValue}
+use Rattle.options.specs.declared.ends.plans.PublishPlan.{PublishPlan}
+use Rattle.offering.specs.Published.{Publishes, Taken, claim_of}
 use Rattle.offering.specs.Published.Taken.{Message, Padding}
+use Rattle.publisher.specs.Ended.{PublishesAll}
 use Rattle.publisher.specs.Openings.{HasNone}
-use Rattle.channel_meaning.specs.Books.{AreInOrder, PublishesAllOfIt, entries_in}
-use Rattle.channel_meaning.specs.Streams.{entry_of}
+use Rattle.channel_meaning.specs.Books.{IsAllOfIt, PublishesAllOfIt, WritesAllOfIt, entries_in, stream_in}
+use Rattle.channel_meaning.specs.Streams.{WritesWhatIsRead, entry_of}
 use Rattle.channel_meaning.proofs.Streams.{all_messages}
 
 -- ---- what is weighed: by where an entry begins and how it is cut
@@ -34,6 +42,10 @@ beyond term start cuts = start + span cuts - (start / term * term + term)
 abbrev bytes : ℕ → List ℕ → ℕ
 bytes start cuts = span cuts
 
+-- how far below a position it begins
+abbrev below : ℕ → ℕ → List ℕ → ℕ
+below r start cuts = r - start
+
 none_over : (a b : ℕ) → a ≤ b → a - b ≡ 0
 none_over a b le = omega arith
 
@@ -48,9 +60,10 @@ sum_none a b x y = omega arith
 
 -- ---- a tiling
 
-none_behind : (term p q : ℕ) (es : List Entry) → Tiles term p q es → total (by_shape (behind q)) es ≡ 0
-none_behind term p q [] t = refl
-none_behind term p q (e ∷ es) t = sum_none (entry_end e - q) (total (by_shape (behind q)) es) (none_over (entry_end e) q (tiles_up term (entry_end e) q es t.2)) (none_behind term (entry_end e) q es t.2)
+-- none begins below
+none_below : (term r p q : ℕ) (es : List Entry) → Tiles term p q es → r ≤ p → total (by_shape (below r)) es ≡ 0
+none_below term r p q [] t low = refl
+none_below term r p q (e ∷ es) t low = let here : e.start ≡ p = t.0 in sum_none (r - e.start) (total (by_shape (below r)) es) (omega (arith, here, low)) (none_below term r (entry_end e) q es t.2 (omega (arith, here, low)))
 
 none_beyond : (term p q : ℕ) (es : List Entry) → Tiles term p q es → total (by_shape (beyond term)) es ≡ 0
 none_beyond term p q [] t = refl
@@ -59,6 +72,21 @@ none_beyond term p q (e ∷ es) t =
     (none_over (entry_end e) (e.start / term * term + term) (subst (λ (n : ℕ). InOneTerm term n (entry_end e)) (sym t.0) t.1)) (none_beyond term (entry_end e) q es t.2)
 
 -- ---- entries in order
+
+-- each begins where the one before it ends, or behind that
+abbrev Follow : ℕ → List Entry → Type 0
+Follow p [] = ⊤
+Follow p (e ∷ es) = (p ≤ e.start) × Follow (entry_end e) es
+
+-- as claims in order do that begin at a position, or behind it
+follows : (i : Identity) (number p : ℕ) (ts : List Taken) → AreInOrder (map (claim_of i number) ts) → AllByRecursion (λ c. p ≤ c.start) (map (claim_of i number) ts) → Follow p (map (entry_of i number) ts)
+follows i number p [] order from = tt
+follows i number p (Message start message ∷ ts) order from = (from.0, follows i number (claim_end (claim_of i number (Message start message))) ts order.1 order.0)
+follows i number p (Padding start bytes ∷ ts) order from = (from.0, follows i number (claim_end (claim_of i number (Padding start bytes))) ts order.1 order.0)
+
+begin_from : (p : ℕ) (cs : List ClaimRange) → total (by_shape (below p)) (map rules.entry_of cs) ≡ 0 → AllByRecursion (λ c. p ≤ c.start) cs
+begin_from p [] none = tt
+begin_from p (c ∷ cs) none = let parts = no_parts (p - c.start) (total (by_shape (below p)) (map rules.entry_of cs)) none in (within p c.start parts.0, begin_from p cs parts.1)
 
 ends_at_most : (q : ℕ) (es : List Entry) → total (by_shape (behind q)) es ≡ 0 → AllByRecursion (λ e. entry_end e ≤ q) es
 ends_at_most q [] none = tt
@@ -69,12 +97,12 @@ in_terms term [] none = tt
 in_terms term (e ∷ es) none =
     let parts = no_parts (entry_end e - (e.start / term * term + term)) (total (by_shape (beyond term)) es) none in (within (entry_end e) (e.start / term * term + term) parts.0, in_terms term es parts.1)
 
-fits : (p q : ℕ) (es : List Entry) → AreInOrder p es → AllByRecursion (λ e. entry_end e ≤ q) es → p ≤ q → p + total (by_shape bytes) es ≤ q
+fits : (p q : ℕ) (es : List Entry) → Follow p es → AllByRecursion (λ e. entry_end e ≤ q) es → p ≤ q → p + total (by_shape bytes) es ≤ q
 fits p q [] order ends low = omega (arith, low)
 fits p q (e ∷ es) order ends low = let rest = fits (entry_end e) q es order.1 ends.1 ends.0 in let from = order.0 in omega (arith, rest, from)
 
 -- entries in order with no byte left over leave no gap
-no_gap : (term p q : ℕ) (es : List Entry) → AreInOrder p es → AllByRecursion (λ e. entry_end e ≤ q) es → AllByRecursion (λ e. InOneTerm term e.start (entry_end e)) es → p ≤ q → p + total (by_shape bytes) es ≡ q → Tiles term p q es
+no_gap : (term p q : ℕ) (es : List Entry) → Follow p es → AllByRecursion (λ e. entry_end e ≤ q) es → AllByRecursion (λ e. InOneTerm term e.start (entry_end e)) es → p ≤ q → p + total (by_shape bytes) es ≡ q → Tiles term p q es
 no_gap term p q [] order ends terms low all = omega (arith, all)
 no_gap term p q (e ∷ es) order ends terms low all =
     let rest = fits (entry_end e) q es order.1 ends.1 ends.0 in
@@ -82,7 +110,7 @@ no_gap term p q (e ∷ es) order ends terms low all =
     let here : e.start ≡ p = omega (arith, rest, from, all) in
     (here, subst (λ (n : ℕ). InOneTerm term n (entry_end e)) here terms.0, no_gap term (entry_end e) q es order.1 ends.1 terms.1 ends.0 (omega (arith, here, all)))
 
-tiles_so : (term p q : ℕ) (es xs : List Entry) → AreInOrder p es → Tiles term p q xs → ((f : ℕ → List ℕ → ℕ) → total (by_shape f) es ≡ total (by_shape f) xs) → Tiles term p q es
+tiles_so : (term p q : ℕ) (es xs : List Entry) → Follow p es → Tiles term p q xs → ((f : ℕ → List ℕ → ℕ) → total (by_shape f) es ≡ total (by_shape f) xs) → Tiles term p q es
 tiles_so term p q es xs order t same =
     no_gap term p q es order
     (ends_at_most q es (same (behind q) ∙ none_behind term p q xs t))
@@ -104,19 +132,70 @@ alone h (o ∷ os) p none =
     let rest = alone h os p none.1 in
     omega (arith, nothing, rest)
 
-pub publishes_all_of_it : PublishesAllOfIt
-publishes_all_of_it p given all legal order =
-    let l = all.log in
-    let published = all.ends.publishes.publishes in
-    let claims : all.last.pass.right.claims ≡ map (claim_of l.identity 0) published.taken =
-    published.claims ∙ (λ j. (all.opened.pass j).right.claims ++ map (claim_of (all.opened.of.identity j) ((all.opened.pass j).number)) published.taken) in
-    let same : (f : ℕ → List ℕ → ℕ) → total (by_shape f) (entries_in all) ≡ total (by_shape f) all.shows.tiled.log =
-    λ f. same_shape f l.identity 0 published.taken
-    ∙ sym (ap (λ (cs : List ClaimRange). total (by_shape f) (map rules.entry_of cs)) claims)
-    ∙ sym (alone (by_shape f) all.others all.last all.others_are.unclaimed)
-    ∙ all.shows.tiled.fair (by_shape f) in
-    let tiles = tiles_so l.identity.geometry.term_length l.start all.book.tail (entries_in all) all.shows.tiled.log order all.shows.tiled.tiles same in
-    record {
+-- claims that are entries are so with all their frames
+entries_are : (i : Identity) (number : ℕ) (ts : List Taken) → IsGeometry i.geometry → AllByRecursion IsClaimEntry (map rules.entry_of (map (claim_of i number) ts)) → AllByRecursion IsEntry (map (entry_of i number) ts)
+entries_are i number [] legal all = tt
+entries_are i number (Message start message ∷ ts) legal all =
+    (record { owner = all.0.entry.owner; cuts = all.0.entry.cuts; long = all.0.entry.long; frames = pieces_are i.geometry message legal }, entries_are i number ts legal all.1)
+entries_are i number (Padding start bytes ∷ ts) legal all = (record { owner = all.0.entry.owner; cuts = all.0.entry.cuts; long = all.0.entry.long; frames = refl }, entries_are i number ts legal all.1)
+
+module _ (p : PublishPlan) (given : Option (List ℕ)) (all : PublishesAll p given) where
+  abbrev l : LogValue
+  l = all.log
+
+  abbrev published : Publishes all.first.pass all.log.start all.ends.publishes.messages all.last.pass all.reading.offered.tail
+  published = all.ends.publishes.publishes
+
+  legal : IsGeometry l.identity.geometry
+  legal = all.shows.geometry
+
+  none_first : all.first.pass.right.claims ≡ []
+  none_first = ap (λ (v : Pass). v.right.claims) all.opened.pass
+
+  number_first : all.first.pass.number ≡ 0
+  number_first = ap (λ (v : Pass). v.number) all.opened.pass
+
+  claims : all.last.pass.right.claims ≡ map (claim_of l.identity 0) published.taken
+  claims = published.claims ∙ (λ j. none_first j ++ map (claim_of (all.opened.of.identity j) (number_first j)) published.taken)
+
+  -- by its shape, what was claimed weighs what the stream does
+  claimed : (f : ℕ → List ℕ → ℕ) → total (by_shape f) (map rules.entry_of (map (claim_of l.identity 0) published.taken)) ≡ total (by_shape f) all.shows.tiled.log
+  claimed f =
+      sym (ap (λ (cs : List ClaimRange). total (by_shape f) (map rules.entry_of cs)) claims)
+      ∙ sym (alone (by_shape f) all.others all.last all.others_are.unclaimed)
+      ∙ all.shows.tiled.fair (by_shape f)
+
+  in_order : AreInOrder (map (claim_of l.identity 0) published.taken)
+  in_order = subst AreInOrder claims (published.ordered (subst AreInOrder (sym none_first) tt))
+
+  tiles : Tiles l.identity.geometry.term_length l.start all.book.tail (entries_in all)
+  tiles =
+      let from = begin_from l.start (map (claim_of l.identity 0) published.taken) (claimed (below l.start) ∙ none_below l.identity.geometry.term_length l.start l.start all.book.tail all.shows.tiled.log all.shows.tiled.tiles (omega arith)) in
+      tiles_so l.identity.geometry.term_length l.start all.book.tail (entries_in all) all.shows.tiled.log (follows l.identity 0 l.start published.taken in_order from) all.shows.tiled.tiles
+      (λ f. same_shape f l.identity 0 published.taken ∙ claimed f)
+
+  entries : AllByRecursion IsClaimEntry (map rules.entry_of (map (claim_of l.identity 0) published.taken))
+  entries = subst (λ (cs : List ClaimRange). AllByRecursion IsClaimEntry (map rules.entry_of cs)) claims (all_behind HasEntries all.others (all.last ∷ []) all.shows.entries).0
+
+  is_all : IsAllOfIt p given all
+  is_all = record {
+    stream = record {
+      geometry = legal;
       tiles = tiles;
-      are = all_messages l.identity 0 l.start l.start all.book.tail published.taken legal tiles (omega arith) ∙ published.are;
-    }
+      entries = entries_are l.identity 0 published.taken legal entries;
+      tail_low = all.shows.low;
+    };
+    its = record {
+      identity = sym all.opened.of.identity;
+      entries = λ j. map (entry_of (sym all.opened.of.identity j) (sym number_first j)) published.taken;
+    };
+    are = all_messages l.identity 0 l.start l.start all.book.tail published.taken legal tiles (omega arith) ∙ published.are;
+  }
+
+pub publishes_all_of_it : PublishesAllOfIt
+publishes_all_of_it p given all = is_all p given all
+
+pub writes_all_of_it : PublishesAllOfIt → WritesWhatIsRead → WritesAllOfIt
+writes_all_of_it law writes p given all spelled s t sent sends lives known plan before after count w from =
+    let is = law p given all in
+    writes (stream_in all) is.stream spelled all.first.pass all.last.pass all.log.start all.reading.offered.tail all.ends.publishes.messages all.ends.publishes.publishes is.its s t sent sends lives known plan before after count w from

@@ -1,27 +1,39 @@
--- What a publisher's closed log says of the stream that it published.
-use Rattle.std.specs.Prelude.{◌≡◌, ◌≤◌, ⊤, ℕ, List, [], ◌∷◌, map, Option}
-use Rattle.theory.specs.Entry.{Entry, entry_end}
+-- What a publisher's closed log says of the stream that it published, and what comes of that stream.
+use Rattle.std.specs.Prelude.{◌≡◌, ℕ, List, map, Option}
+use Rattle.std.specs.List.{AllByRecursion}
+use Rattle.theory.specs.Entry.{Entry, committed}
 use Rattle.theory.specs.Messages.{messages}
-use Rattle.theory.specs.Position.{IsGeometry}
-use Rattle.theory.specs.Tiling.{Tiles}
+use Rattle.theory.specs.Placed.{AllAmong}
 use Rattle.options.specs.declared.ends.plans.PublishPlan.{PublishPlan}
+use Rattle.options.specs.declared.ends.plans.SubscribePlan.{SubscribePlan}
+use Rattle.receiver.specs.Lives.{IsStream, Stream}
+use Rattle.sender_meaning.specs.Lives.{Act, IsSpelled, Lives, LogCore, SendsStream, given_in, source_in}
 use Rattle.publisher.specs.Ended.{PublishesAll}
-use Rattle.channel_meaning.specs.Streams.{entry_of}
-
--- each begins where the one before it ends, or behind that
-abbrev pub AreInOrder : ℕ → List Entry → Type 0
-AreInOrder p [] = ⊤
-AreInOrder p (e ∷ es) = (p ≤ e.start) × AreInOrder (entry_end e) es
+use Rattle.subscriber.specs.Living.{WritesLives}
+use Rattle.channel_meaning.specs.Streams.{GoesThrough, IsFromIt, IsItsStream, entry_of}
 
 -- what a publisher that has ended whole has claimed, as it claimed it
 abbrev pub entries_in : {p : PublishPlan} {given : Option (List ℕ)} → PublishesAll p given → List Entry
 entries_in all = map (entry_of all.log.identity 0) all.ends.publishes.publishes.taken
 
--- that tiles the stream from its start to its tail, and the messages of the stream are those that were read
+-- that from its log's start to its tail
+abbrev pub stream_in : {p : PublishPlan} {given : Option (List ℕ)} → PublishesAll p given → Stream
+stream_in all = record { identity = all.log.identity; start = all.log.start; tail = all.book.tail; entries = entries_in all }
+
+-- it is a stream, what the publisher's pass has claimed and nothing else, and its messages are those that were read
 pub record IsAllOfIt (p : PublishPlan) (given : Option (List ℕ)) (all : PublishesAll p given) : Type 0 where
-  pub tiles : Tiles all.log.identity.geometry.term_length all.log.start all.book.tail (entries_in all)
+  pub stream : IsStream (stream_in all)
+  pub its : IsItsStream all.first.pass all.ends.publishes.publishes.taken (stream_in all)
   pub are : messages all.log.start all.book.tail (entries_in all) ≡ all.ends.publishes.messages
 
--- where it claimed in the order of the stream
 abbrev pub PublishesAllOfIt : Type 0
-PublishesAllOfIt = (p : PublishPlan) (given : Option (List ℕ)) (all : PublishesAll p given) → IsGeometry all.log.identity.geometry → AreInOrder all.log.start (entries_in all) → IsAllOfIt p given all
+PublishesAllOfIt = (p : PublishPlan) (given : Option (List ℕ)) (all : PublishesAll p given) → IsAllOfIt p given all
+
+-- where a publisher has ended whole, a sender of its stream lives, and each image of a subscriber was handed nothing but what that
+-- sender gave out, what is written is what these images gave, one after the other: runs of what the publisher read
+abbrev pub WritesAllOfIt : Type 0
+WritesAllOfIt =
+    (p : PublishPlan) (given : Option (List ℕ)) (all : PublishesAll p given) → IsSpelled (stream_in all)
+    → (s t : LogCore) (sent : List Act) → SendsStream (stream_in all) s → Lives s sent t → AllAmong (committed (entries_in all)) (source_in t.reads).frames
+    → (plan : SubscribePlan) (before after : Option (List ℕ)) (count : ℕ) (w : WritesLives plan before count after) → AllByRecursion (IsFromIt (stream_in all) (given_in sent)) w.images
+    → GoesThrough (stream_in all) all.ends.publishes.messages plan w.images

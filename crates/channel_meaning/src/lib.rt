@@ -9,14 +9,15 @@
 //! In a driver's run a subscriber whose receiver was handed datagrams alone that are honest for a stream, that refused no message,
 //! and has tallied as many as the stream has, has tallied all of its messages, in their order (`tallies_all`).
 //!
-//! The log of a publisher that has ended whole is closed: where its claims are in the order of the stream they tile that from the
-//! log's start to its tail, and the messages of that are those that were read (`publishes_all_of_it`).
+//! The log of a publisher that has ended whole is closed: what it has claimed is a stream, from the log's start to its tail, and
+//! the messages of that are those that were read (`publishes_all_of_it`). So what `subscribe` writes of it are runs of what the
+//! publisher read (`writes_all_of_it`).
 //!
-//! That a publisher claims in the order of the stream is a premise, and that the sender's reader knows no frames but its own: both
-//! are what the log's rule says, and no contract of a pass alone. That a device carries what it was given is another.
+//! That the sender's reader knows no frames but the publisher's own is a premise: it is what the log's rule says, and no contract
+//! of a pass alone. That a device carries what it was given is another.
 #![tactic(auto)]
 
-ghost use Rattle.channel_meaning.specs.Books.{PublishesAllOfIt};
+ghost use Rattle.channel_meaning.specs.Books.{PublishesAllOfIt, WritesAllOfIt};
 ghost use Rattle.channel_meaning.specs.Streams.{PublishesItsStream, WritesWhatIsRead};
 ghost use Rattle.channel_meaning.specs.Tallies.{TalliesAll};
 
@@ -28,8 +29,8 @@ pub fn publishes_its_stream()
     ensures { PublishesItsStream }
 {}
 
-/// A law: what a publisher that has ended whole has claimed, where that is in the order of the stream, is all of its log's
-/// stream, and the messages of that are those that were read.
+/// A law: what a publisher that has ended whole has claimed is all of its log's stream, and the messages of that are those that
+/// were read.
 pub fn publishes_all_of_it()
     ensures { PublishesAllOfIt }
 {}
@@ -41,6 +42,15 @@ pub fn writes_what_is_read()
     // Laws that the proof cites.
     publishes_its_stream();
     polls_what_is_sent();
+}
+
+/// A law: a subscriber of what the sender of a publisher that has ended whole gave out writes runs of what the publisher read.
+pub fn writes_all_of_it()
+    ensures { WritesAllOfIt }
+{
+    // Laws that the proof cites.
+    publishes_all_of_it();
+    writes_what_is_read();
 }
 
 /// A law: where a run's receiver was handed honest datagrams alone, its subscriber, if it has tallied as many messages as the stream
