@@ -42,13 +42,13 @@ joined s t u First Rest (inr a) (inl b) = inr (b ∙ a.0, inl a.1)
 joined s t u First Rest a (inr b) = inr (b.0, inr b.1)
 
 -- over datagrams one after the other
-by_all : {R F : Type 0} (source : R → Source) (after_status : F → ℤ → ℤ → ℤ → ℕ → F) (reached : F → ℕ) (has_heard : F → Bool) (now : ℕ) (s : Sending R F) (ds : List (List ℕ)) (t : Sending R F) (given : List (List ℕ)) → HearsAll (Hears source after_status reached has_heard) now s ds t given → Heard s t (HaveStatus s.identity ds)
-by_all source after_status reached has_heard now s [] t given h = inl (ap heard_of h.0)
-by_all source after_status reached has_heard now s (d ∷ ds) t given h =
-    let k = h.3.hears in
+by_all : {R F : Type 0} (source : R → Source) (leaves : R → R → Type 0) (after_status : F → ℤ → ℤ → ℤ → ℕ → F) (reached : F → ℕ) (has_heard : F → Bool) (now : ℕ) (s : Sending R F) (ds : List (List ℕ)) (t : Sending R F) (given : List (List ℕ)) → HearsAll (Hears source leaves after_status reached has_heard) now s ds t given → Heard s t (HaveStatus s.identity ds)
+by_all source leaves after_status reached has_heard now s [] t given h = inl (ap heard_of h.0)
+by_all source leaves after_status reached has_heard now s (d ∷ ds) t given h =
+    let k = h.3.hears.hears in
     joined s h.0 t _ _
-    (by_news after_status reached has_heard s.identity d (at_moment s now) k.news h.3.answer h.0 h.1 k.hears k.is)
-    (subst (λ i. Heard h.0 t (HaveStatus i ds)) (same_identity after_status reached has_heard (at_moment s now) k.news h.3.answer h.0 h.1 k.hears) (by_all source after_status reached has_heard now h.0 ds t h.2 h.4))
+    (by_news after_status reached has_heard s.identity d (at_moment s now) k.news h.3.hears.answer h.0 h.1 k.hears k.is)
+    (subst (λ i. Heard h.0 t (HaveStatus i ds)) (same_identity after_status reached has_heard (at_moment s now) k.news h.3.hears.answer h.0 h.1 k.hears) (by_all source leaves after_status reached has_heard now h.0 ds t h.2 h.4))
 
 -- and then a moment, which doesn't change it
 on_tick : {R F : Type 0} (s t u : Sending R F) (Came : Type 0) → Heard s t Came → u.heard ≡ t.heard → Heard s u Came
@@ -56,30 +56,30 @@ on_tick s t u Came (inl a) e = inl (e ∙ a)
 on_tick s t u Came (inr a) e = inr (e ∙ a.0, a.1)
 
 -- a sender that has heard after a cycle had heard before, or a status message came in it
-pub by_cycle : {R F : Type 0} (source : R → Source) (after_status : F → ℤ → ℤ → ℤ → ℕ → F) (reached : F → ℕ) (has_heard : F → Bool) (grown : List Placed → List Placed → Type 0) (after_tick : F → ℕ → F) (now : ℕ) (tells : Type 0) (s : Sending R F) (d : Device) (busy : Bool) (t : Sending R F) (e : Device) → (c : Cycle (Hears source after_status reached has_heard) (Ticks source grown after_tick reached) now tells s d busy t e) → Heard s t (HaveStatus s.identity c.heard)
-by_cycle source after_status reached has_heard grown after_tick now tells s d busy t e c = on_tick s c.middle t _ (by_all source after_status reached has_heard now s c.heard c.middle c.answers c.all_heard) (ap heard_of c.ticked.state)
+pub by_cycle : {R F : Type 0} (source : R → Source) (leaves : R → R → Type 0) (after_status : F → ℤ → ℤ → ℤ → ℕ → F) (reached : F → ℕ) (has_heard : F → Bool) (grown : List Placed → List Placed → Type 0) (after_tick : F → ℕ → F) (now : ℕ) (tells : Type 0) (s : Sending R F) (d : Device) (busy : Bool) (t : Sending R F) (e : Device) → (c : Cycle (Hears source leaves after_status reached has_heard) (Ticks source leaves grown after_tick reached) now tells s d busy t e) → Heard s t (HaveStatus s.identity c.heard)
+by_cycle source leaves after_status reached has_heard grown after_tick now tells s d busy t e c = on_tick s c.middle t _ (by_all source leaves after_status reached has_heard now s c.heard c.middle c.answers c.all_heard) (ap heard_of c.ticked.cycles.state)
 
 keeps : {R F : Type 0} (s t : Sending R F) (Came : Type 0) → Heard s t Came → s.heard ≡ true → t.heard ≡ true
 keeps s t Came (inl a) on = a ∙ on
 keeps s t Came (inr a) on = a.0
 
 -- what it has heard it has heard for good
-pub cycle_keeps : {R F : Type 0} (source : R → Source) (after_status : F → ℤ → ℤ → ℤ → ℕ → F) (reached : F → ℕ) (has_heard : F → Bool) (grown : List Placed → List Placed → Type 0) (after_tick : F → ℕ → F) (now : ℕ) (tells : Type 0) (s : Sending R F) (d : Device) (busy : Bool) (t : Sending R F) (e : Device) → Cycle (Hears source after_status reached has_heard) (Ticks source grown after_tick reached) now tells s d busy t e → s.heard ≡ true → t.heard ≡ true
-cycle_keeps source after_status reached has_heard grown after_tick now tells s d busy t e c on = keeps s t _ (by_cycle source after_status reached has_heard grown after_tick now tells s d busy t e c) on
+pub cycle_keeps : {R F : Type 0} (source : R → Source) (leaves : R → R → Type 0) (after_status : F → ℤ → ℤ → ℤ → ℕ → F) (reached : F → ℕ) (has_heard : F → Bool) (grown : List Placed → List Placed → Type 0) (after_tick : F → ℕ → F) (now : ℕ) (tells : Type 0) (s : Sending R F) (d : Device) (busy : Bool) (t : Sending R F) (e : Device) → Cycle (Hears source leaves after_status reached has_heard) (Ticks source leaves grown after_tick reached) now tells s d busy t e → s.heard ≡ true → t.heard ≡ true
+cycle_keeps source leaves after_status reached has_heard grown after_tick now tells s d busy t e c on = keeps s t _ (by_cycle source leaves after_status reached has_heard grown after_tick now tells s d busy t e c) on
 
-pub fault_keeps : {R F : Type 0} (source : R → Source) (after_status : F → ℤ → ℤ → ℤ → ℕ → F) (reached : F → ℕ) (has_heard : F → Bool) (grown : List Placed → List Placed → Type 0) (after_tick : F → ℕ → F) (now : ℕ) (tells : Type 0) (fault : DeviceError) (s : Sending R F) (d : Device) (t : Sending R F) (e : Device) → Fault (Hears source after_status reached has_heard) (Ticks source grown after_tick reached) now tells fault s d t e → s.heard ≡ true → t.heard ≡ true
-fault_keeps {R} {F} source after_status reached has_heard grown after_tick now tells fault s d t e c on = either c.ticked
+pub fault_keeps : {R F : Type 0} (source : R → Source) (leaves : R → R → Type 0) (after_status : F → ℤ → ℤ → ℤ → ℕ → F) (reached : F → ℕ) (has_heard : F → Bool) (grown : List Placed → List Placed → Type 0) (after_tick : F → ℕ → F) (now : ℕ) (tells : Type 0) (fault : DeviceError) (s : Sending R F) (d : Device) (t : Sending R F) (e : Device) → Fault (Hears source leaves after_status reached has_heard) (Ticks source leaves grown after_tick reached) now tells fault s d t e → s.heard ≡ true → t.heard ≡ true
+fault_keeps {R} {F} source leaves after_status reached has_heard grown after_tick now tells fault s d t e c on = either c.ticked
   where
     heard : c.middle.heard ≡ true
-    heard = keeps s c.middle _ (by_all source after_status reached has_heard now s c.heard c.middle c.answers c.all_heard) on
+    heard = keeps s c.middle _ (by_all source leaves after_status reached has_heard now s c.heard c.middle c.answers c.all_heard) on
 
-    either : ((t ≡ c.middle) × (c.given ≡ [])) ⊎ TicksBehind (Ticks source grown after_tick reached) now c.heard c.lost c.answers c.given c.sent c.middle d t e → t.heard ≡ true
+    either : ((t ≡ c.middle) × (c.given ≡ [])) ⊎ TicksBehind (Ticks source leaves grown after_tick reached) now c.heard c.lost c.answers c.given c.sent c.middle d t e → t.heard ≡ true
     either (inl same) = ap heard_of same.0 ∙ heard
-    either (inr k) = ap heard_of k.ticked.state ∙ heard
+    either (inr k) = ap heard_of k.ticked.cycles.state ∙ heard
 
 -- over datagrams one after the other, and over a moment
-pub all_keep : {R F : Type 0} (source : R → Source) (after_status : F → ℤ → ℤ → ℤ → ℕ → F) (reached : F → ℕ) (has_heard : F → Bool) (now : ℕ) (s : Sending R F) (ds : List (List ℕ)) (t : Sending R F) (given : List (List ℕ)) → HearsAll (Hears source after_status reached has_heard) now s ds t given → s.heard ≡ true → t.heard ≡ true
-all_keep source after_status reached has_heard now s ds t given h on = keeps s t _ (by_all source after_status reached has_heard now s ds t given h) on
+pub all_keep : {R F : Type 0} (source : R → Source) (leaves : R → R → Type 0) (after_status : F → ℤ → ℤ → ℤ → ℕ → F) (reached : F → ℕ) (has_heard : F → Bool) (now : ℕ) (s : Sending R F) (ds : List (List ℕ)) (t : Sending R F) (given : List (List ℕ)) → HearsAll (Hears source leaves after_status reached has_heard) now s ds t given → s.heard ≡ true → t.heard ≡ true
+all_keep source leaves after_status reached has_heard now s ds t given h on = keeps s t _ (by_all source leaves after_status reached has_heard now s ds t given h) on
 
-pub tick_keeps : {R F : Type 0} (source : R → Source) (grown : List Placed → List Placed → Type 0) (after_tick : F → ℕ → F) (reached : F → ℕ) (now : ℕ) (s t : Sending R F) (given : List (List ℕ)) → Ticks source grown after_tick reached s now t given → s.heard ≡ true → t.heard ≡ true
-tick_keeps source grown after_tick reached now s t given k on = ap heard_of k.state ∙ on
+pub tick_keeps : {R F : Type 0} (source : R → Source) (leaves : R → R → Type 0) (grown : List Placed → List Placed → Type 0) (after_tick : F → ℕ → F) (reached : F → ℕ) (now : ℕ) (s t : Sending R F) (given : List (List ℕ)) → Ticks source leaves grown after_tick reached s now t given → s.heard ≡ true → t.heard ≡ true
+tick_keeps source leaves grown after_tick reached now s t given k on = ap heard_of k.cycles.state ∙ on

@@ -19,13 +19,15 @@ pub record Agent (R F : Type 0) : Type 0 where
   pub core : Sending R F
   pub asked : Bool
 
--- a datagram, by what its reads are a source of
-abbrev pub Hears : {R F : Type 0} → (R → Source) → (F → ℤ → ℤ → ℤ → ℕ → F) → (F → ℕ) → (F → Bool) → Sending R F → ℕ → List ℕ → Sending R F → List (List ℕ) → Type 0
-Hears source after_status reached has_heard s now bytes t given = SenderHears after_status reached has_heard (at_moment s now) (source s.reads) bytes t (source t.reads) given
+-- a datagram, by what its reads are a source of, and what it leaves of them
+pub record Hears {R F : Type 0} (source : R → Source) (leaves : R → R → Type 0) (after_status : F → ℤ → ℤ → ℤ → ℕ → F) (reached : F → ℕ) (has_heard : F → Bool) (s : Sending R F) (now : ℕ) (bytes : List ℕ) (t : Sending R F) (given : List (List ℕ)) : Type 0 where
+  pub hears : SenderHears after_status reached has_heard (at_moment s now) (source s.reads) bytes t (source t.reads) given
+  pub left : leaves s.reads t.reads
 
 -- a moment
-abbrev pub Ticks : {R F : Type 0} → (R → Source) → (List Placed → List Placed → Type 0) → (F → ℕ → F) → (F → ℕ) → Sending R F → ℕ → Sending R F → List (List ℕ) → Type 0
-Ticks source grown after_tick reached s now t given = Cycles grown after_tick reached (at_moment s now) (source s.reads) (source t.reads) t given
+pub record Ticks {R F : Type 0} (source : R → Source) (leaves : R → R → Type 0) (grown : List Placed → List Placed → Type 0) (after_tick : F → ℕ → F) (reached : F → ℕ) (s : Sending R F) (now : ℕ) (t : Sending R F) (given : List (List ℕ)) : Type 0 where
+  pub cycles : Cycles grown after_tick reached (at_moment s now) (source s.reads) (source t.reads) t given
+  pub left : leaves s.reads t.reads
 
 -- one of these datagrams is a status message of the sender's stream that doesn't ask for a SETUP
 abbrev pub HaveStatus : Identity → List (List ℕ) → Type 0

@@ -10,16 +10,16 @@ use sender::{SenderCore, SenderEvent};
 use std::alloc::AllocError;
 
 impl<R: FrameSource<()>, F: FlowControl + Drop> Party for SenderCore<R, F> {
-    ghost use Rattle.sender.specs.Sending.{Cycles, SendsFrom, at_moment};
-    ghost use Rattle.agents.specs.Parties.{SenderHears};
+    ghost use Rattle.sender.specs.Sending.{SendsFrom};
+    ghost use Rattle.agents.specs.Duties.{Hears, Ticks};
 
     ghost stands = { λ s. R.stands s.reads tt × SendsFrom s (R.source s.reads tt) };
 
     ghost mtu = { λ s. s.identity.geometry.mtu };
 
-    ghost hears = { λ s now bytes t given. SenderHears F.after_status F.reached F.has_heard (at_moment s now) (R.source s.reads tt) bytes t (R.source t.reads tt) given };
+    ghost hears = { Hears (λ r. R.source r tt) (λ r q. R.leaves r tt q tt) F.after_status F.reached F.has_heard };
 
-    ghost ticks = { λ s now t given. Cycles R.grown F.after_tick F.reached (at_moment s now) (R.source s.reads tt) (R.source t.reads tt) t given };
+    ghost ticks = { Ticks (λ r. R.source r tt) (λ r q. R.leaves r tt q tt) R.grown F.after_tick F.reached };
 
     fn hear(&mut self, datagram: &[u8], now: u64, outbox: &mut Outbox) -> Result<(), AllocError> {
         self.step(&mut (), SenderEvent::Datagram(datagram), now, outbox);

@@ -7,12 +7,14 @@ use Rattle.log_rule.specs.Claims.Sums.{total}
 use Rattle.log_rule.proofs.Claimed.Totals.{total_append}
 use Rattle.shared_log.specs.Books.{AreAll, IsDone, ShowsBook}
 use Rattle.shared_log.specs.Handles.{IsNew, LogValue}
+use Rattle.shared_log.specs.Readers.{IsReaderOf}
 use Rattle.shared_log.specs.declared.book.Book.{Book}
 use Rattle.messages.specs.declared.form.Form.{Form}
 use Rattle.options.specs.declared.ends.plans.PublishPlan.{PublishPlan}
 use Rattle.peer.specs.declared.attendance.Attendance.{Attendance}
 use Rattle.offering.specs.Ended.{EndsInput}
 use Rattle.offering.specs.declared.reader.InputEnd.{InputEnd}
+use Rattle.publisher.proofs.Sent.{sends_committed}
 use Rattle.publisher.specs.Ended.{AllArrived, CanClose, IsClosed, LeavesLog, PublishesAll, ShowsAll, reading_left}
 use Rattle.publisher.specs.Openings.{IsPlanned}
 use Rattle.publisher.specs.declared.log_end.LogEnd.{LogEnd}
@@ -40,6 +42,7 @@ all_published {I} remaining p log first old given (Some left) a e planned new en
   others_are = leaves.others;
   book = closed.0;
   shows = shown e.log e.others.items left.publisher closed.0 log closed.1 leaves.log;
+  sends = sends_committed log e.reader (e.others.items ++ left.publisher ∷ []) leaves.sent closed.2;
 })
 
 -- its passes are all there
@@ -68,6 +71,10 @@ pub closes : (m l : LogValue) (e : LogEnd) (p : PublisherValue) (all : List Publ
 closes m l e p all is leaves done parts items =
     let same : m ≡ l = subst (λ (o : Option LogValue). IfSome o (λ x. x ≡ l)) is leaves.log in
     subst (λ (x : LogValue). AreAll x all e.keeper) (sym same) (subst (λ (xs : List PublisherValue). AreAll l xs e.keeper) (sym items) (all_there l e p leaves done parts))
+
+-- and its reader is one of it
+pub reads : (m l : LogValue) (e : LogEnd) → e.log ≡ Some m → LeavesLog l e → IsReaderOf m e.reader
+reads m l e is leaves = subst (λ (x : LogValue). IsReaderOf x e.reader) (sym (subst (λ (o : Option LogValue). IfSome o (λ x. x ≡ l)) is leaves.log)) leaves.reader
 
 -- what a thread has promised, by what it was given
 pub as_given : {I : Type 0} (remaining : I → Option (List ℕ)) (left : Option (InputEnd I)) (form as_form : Form) (log as_log : LogValue) (input as_input : I) (first as_first : PublisherValue)

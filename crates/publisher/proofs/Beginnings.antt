@@ -32,7 +32,7 @@ later_parts l n (p ∷ ps) new =
 
 unclaimed : (l : LogValue) (n : ℕ) (ps : List PublisherValue) → AreNew l n ps → AllByRecursion HasNone ps
 unclaimed l n [] new = tt
-unclaimed l n (p ∷ ps) new = ((λ i. (new.0.pass i).right.claims), unclaimed l (suc n) ps new.1)
+unclaimed l n (p ∷ ps) new = (((λ i. (new.0.pass i).right.claims), (λ i. (new.0.pass i).work.frames)), unclaimed l (suc n) ps new.1)
 
 pub others_new : (l : LogValue) (ps rest : List PublisherValue) → AreNew l 0 ps → rest ≡ remove ps 0 → AreOthers l rest
 others_new l [] rest new is = let e : 0 ≡ 8 = new in let none : ⊥ = omega (arith, e) in absurd none

@@ -2,5 +2,6 @@ pub mod Beginnings
 pub mod Ends
 pub mod Faults
 pub mod Lines
+pub mod Sent
 pub mod AllPublished
 pub mod Whole

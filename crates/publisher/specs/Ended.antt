@@ -1,7 +1,10 @@
 -- What a publisher that has ended whole has read and published, and what was heard of that.
 use Rattle.std.specs.Prelude.{◌≡◌, ℕ, true, List, [], ◌∷◌, ◌++◌, Option, None, Some, Ok, IfSome}
 use Rattle.log_rule.specs.Claims.Handles.{PublisherValue}
-use Rattle.shared_log.specs.Books.{IsDone, ShowsBook}
+use Rattle.std.specs.List.{AllByRecursion}
+use Rattle.shared_log.specs.Books.{IsCommittedBy, IsDone, ShowsBook}
+use Rattle.shared_log.specs.Readers.{IsReaderOf, ReaderValue, known_of}
+use Rattle.sender_meaning.specs.Lives.{IsNewCore, Lived, LogCore}
 use Rattle.shared_log.specs.Handles.{IsNew, LogValue}
 use Rattle.shared_log.specs.declared.book.Book.{Book}
 use Rattle.options.specs.declared.ends.plans.PublishPlan.{PublishPlan}
@@ -30,11 +33,29 @@ AllArrived (Some r) a = HasArrived r a
 
 -- ---- the end of the log
 
--- of this log the others and the keeper came back, and the log, unless a thread still has it
+-- a sender of this log's stream, to one receiver, has lived from the log's start on, and this was its reader
+pub record HasSent (l : LogValue) (r : ReaderValue) : Type 0 where
+  pub first : LogCore
+  pub last : LogCore
+  pub begun : IsNewCore l first
+  pub lived : Lived first last
+  pub reader : last.reads.reader ≡ r
+
+-- a sender of this log's stream has lived, and knew no frames but such as these publishers have committed
+pub record SendsCommitted (l : LogValue) (publishers : List PublisherValue) : Type 0 where
+  pub first : LogCore
+  pub last : LogCore
+  pub begun : IsNewCore l first
+  pub lived : Lived first last
+  pub known : AllByRecursion (IsCommittedBy publishers) (known_of last.reads.reader)
+
+-- of this log the others and the keeper came back, with the reader by which it was sent, and the log, unless a thread still has it
 pub record LeavesLog (l : LogValue) (e : LogEnd) : Type 0 where
   pub log : IfSome e.log (λ m. m ≡ l)
   pub others : AreOthers l e.others.items
   pub keeper : IsKept l e.keeper
+  pub reader : IsReaderOf l e.reader
+  pub sent : HasSent l e.reader
 
 -- the first publisher came back too, where the reading has ended
 pub record CanClose {I : Type 0} (left : Option (InputEnd I)) (e : LogEnd) : Type 0 where
@@ -49,12 +70,12 @@ ShowsAll (Some l) others p book = ShowsBook l (others ++ p ∷ []) book
 
 abbrev pub IsClosed : {I : Type 0} → Option (InputEnd I) → LogEnd → Type 0
 IsClosed None e = ⊥
-IsClosed (Some left) e = (book : Book) × ShowsAll e.log e.others.items left.publisher book
+IsClosed (Some left) e = (book : Book) × ShowsAll e.log e.others.items left.publisher book × AllByRecursion (IsCommittedBy (e.others.items ++ left.publisher ∷ [])) (known_of e.reader)
 
 -- for the plan all that the input had was read, and it was published, each message once and whole, in their order, by the first
 -- publisher of a log of the plan, which had just been opened; and that has arrived. The log was closed: the others have claimed
 -- nothing, so what the first has claimed, in the order of the stream, tiles it from its start to its tail, and each frame of that
--- is committed
+-- is committed; and the sender has sent nothing else
 pub record PublishesAll (p : PublishPlan) (old : Option (List ℕ)) : Type 0 where
   pub log : LogValue
   pub log_is : IsPlanned p log
@@ -70,3 +91,4 @@ pub record PublishesAll (p : PublishPlan) (old : Option (List ℕ)) : Type 0 whe
   pub others_are : AreOthers log others
   pub book : Book
   pub shows : ShowsBook log (others ++ last ∷ []) book
+  pub sends : SendsCommitted log (others ++ last ∷ [])

@@ -20,9 +20,9 @@ pub record IsPlanned (p : PublishPlan) (l : LogValue) : Type 0 where
   pub start : l.start ≡ p.start
   pub consumers : l.consumers ≡ 1
 
--- a publisher that has claimed nothing
+-- a publisher that has claimed and committed nothing
 abbrev pub HasNone : PublisherValue → Type 0
-HasNone p = p.pass.right.claims ≡ []
+HasNone p = (p.pass.right.claims ≡ []) × (p.pass.work.frames ≡ [])
 
 -- the publishers of this log beside the first, none of which publishes
 pub record AreOthers (l : LogValue) (others : List PublisherValue) : Type 0 where

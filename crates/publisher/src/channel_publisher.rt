@@ -6,11 +6,12 @@ ghost use Rattle.std.specs.Io.Buffered.{reader_remaining};
 ghost use Rattle.position.specs.Openings.{IsStart};
 ghost use Rattle.shared_log.specs.Books.{IsDone};
 ghost use Rattle.shared_log.specs.Parts.{IsNewReader};
-ghost use Rattle.agents.specs.LogSenders.{SendsLog};
+ghost use Rattle.shared_log.specs.Readers.{IsReaderOf};
+ghost use Rattle.agents.specs.LogSenders.{IsNewSender, SendsLog};
 ghost use Rattle.peer.specs.declared.ending.Ending.TheVariants.{Whole};
 ghost use Rattle.offering.specs.Ended.{EndsInput};
 ghost use Rattle.publisher.specs.Beginnings.{ArePublisherParts};
-ghost use Rattle.publisher.specs.Ended.{AllArrived, LeavesLog, PublishesAll, reading_left};
+ghost use Rattle.publisher.specs.Ended.{AllArrived, HasSent, LeavesLog, PublishesAll, reading_left};
 ghost use Rattle.publisher.specs.Openings.{ArePasses, IsKept};
 
 use crate::beginning::{PublisherParts, publisher_parts};
@@ -25,7 +26,8 @@ use endpoint::{Datagrams, DeviceError, Route, UdpDevice};
 use offering::{OfferingState, Reader, start_reader};
 use options::PublishPlan;
 use peer::Ending;
-use shared_log::{Keeper, LogReader, Publisher};
+use sender_meaning::keeps_its_reader;
+use shared_log::{Keeper, LogFrames, LogReader, Publisher};
 use std::alloc::Global;
 use std::io::{BufRead, BufReader, Read, Write};
 use std::net::Net;
@@ -57,7 +59,8 @@ fn opened<'a, D: Drop>(
     requires reader { IsNewReader state.now.log 0 reader }
     requires start { IsStart state.now.log.identity.geometry state.now.log.start }
     requires consumers { 0 < state.now.log.consumers }
-    ensures { IfOk result (λ s. SendsLog state.now.log s.agent × (s.passes ≡ passes)) }
+    ensures new { IfOk result (λ s. IsNewSender state.now.log reader s.agent) }
+    ensures sends { IfOk result (λ s. SendsLog state.now.log s.agent × (s.passes ≡ passes)) }
 {
     let agent = open_sender(alloc, &state.log, reader)?;
     Ok(ChannelSender { agent, passes })
@@ -105,7 +108,17 @@ pub fn started<R: Threads + Clock + Send + Copy + 'static, I: BufRead + Send + D
     }
 }
 
-/// Runs over what the threads share: the sender is opened before the other thread is started. The keeper comes back.
+/// The keeper that a sender has, and its reader.
+fn passes_of<D: Drop>(sender: ChannelSender<'_, D>) -> (Keeper, LogReader)
+    ensures { result ≡ (sender.passes.keeper, sender.agent.core.reads.reader) }
+{
+    let ChannelSender { agent, passes } = sender;
+    let LogFrames { log: _, reader } = agent.into_core().into_reads();
+    (passes.keeper, reader)
+}
+
+/// Runs over what the threads share: the sender is opened before the other thread is started. The keeper and the sender's reader
+/// come back.
 fn publish_shared<
     R: Threads + Wait + Clock + Send + Copy + 'static,
     I: BufRead + Send + Drop + 'static,
@@ -118,21 +131,24 @@ fn publish_shared<
     passes: SenderPasses<ChannelDevice<D>>,
     offering: Offering<I>,
     errors: &mut E,
-) -> Result<(Published<I>, Keeper), PublishFault>
+) -> Result<(Published<I>, (Keeper, LogReader)), PublishFault>
     requires reader { IsNewReader context.now.state.now.log 0 reader }
     requires start { IsStart context.now.state.now.log.identity.geometry context.now.state.now.log.start }
     requires consumers { 0 < context.now.state.now.log.consumers }
     requires passes { ArePasses context.now.state.now.log context.now.conductor.now passes }
     requires offering { ((arc_value offering.state).log ≡ context.now.state.now.log) × IsDone context.now.state.now.log offering.publisher }
-    ensures keeper { IfOk result (λ e. IsKept context.now.state.now.log e.1) }
+    ensures keeper { IfOk result (λ e. IsKept context.now.state.now.log e.1.0) }
+    ensures reader { IfOk result (λ e. IsReaderOf context.now.state.now.log e.1.1) }
+    ensures sent { IfOk result (λ e. HasSent context.now.state.now.log e.1.1) }
     ensures input { IfOk result (λ e. IfSome e.0.input (λ left. EndsInput context.now.plan.now.end.form context.now.state.now.log (I.remaining offering.input) (I.remaining left.input) offering.publisher.pass left.publisher left.reading)) }
     ensures whole { IfOk result (λ e. e.0.ending ≡ Ok Whole → AllArrived (reading_left e.0.input) e.0.attendance) }
 {
+    // A law that the proof cites.
+    keeps_its_reader();
     let mut sender = opened(alloc, context.state, reader, passes)?;
     let reading = started(context.rt, alloc, context.plan, offering)?;
     let published = run(context, &mut sender, reading, errors);
-    let ChannelSender { agent: _, passes } = sender;
-    Ok((published, passes.keeper))
+    Ok((published, passes_of(sender)))
 }
 
 /// Runs with all that a publisher begins with, over any device. What is left of its log comes back.
@@ -172,12 +188,14 @@ pub fn publish_over<
         began,
     };
     let offering = Offering::new(theirs, publisher, input);
-    let (published, keeper) = publish_shared(alloc, &context, reader, passes, offering, errors)?;
+    let (published, (keeper, reader)) =
+        publish_shared(alloc, &context, reader, passes, offering, errors)?;
     let log = log_of(ours);
     let end = LogEnd {
         log,
         others,
         keeper,
+        reader,
     };
     Ok((published, end))
 }
@@ -244,5 +262,5 @@ pub fn publish<
     let input = buffered(alloc, input)?;
     let parts = prepared(rt, alloc, plan, route)?;
     let (published, end) = publish_over(rt, alloc, plan, parts, input, errors)?;
-    ending_of(alloc, published, end)
+    ending_of(published, end)
 }

@@ -1,26 +1,29 @@
 //! The end of a publisher's log.
 
-ghost use Rattle.std.specs.Prelude.{◌≡◌, IfSome, Ok};
+ghost use Rattle.std.specs.Prelude.{◌≡◌, ◌∷◌, ◌++◌, [], IfSome, Ok};
 ghost use Rattle.std.specs.Arc.{arc_value};
+ghost use Rattle.std.specs.List.{AllByRecursion};
 ghost use Rattle.peer.specs.declared.ending.Ending.TheVariants.{Whole};
-ghost use Rattle.shared_log.specs.Books.{IsDone};
+ghost use Rattle.shared_log.specs.Books.{IsCommittedBy, IsDone};
 ghost use Rattle.shared_log.specs.Handles.{LogValue};
+ghost use Rattle.shared_log.specs.Readers.{known_of};
 ghost use Rattle.publisher.specs.Ended.{CanClose, IsClosed, LeavesLog, ShowsAll};
 
 use crate::fault::PublishFault;
 use crate::two_threads::Published;
 use offering::OfferingState;
 use peer::Ending;
-use shared_log::{Book, Keeper, Log, Publisher, close};
-use std::alloc::Global;
+use shared_log::{Book, Keeper, Log, LogReader, Publisher, close_read};
 use std::sync::Arc;
 
-/// What is left of a publisher's log: the log, where no thread has it any more, its other publishers and its keeper.
+/// What is left of a publisher's log: the log, where no thread has it any more, its other publishers, its keeper, and the reader
+/// by which it was sent.
 #[derive(Drop)]
 pub struct LogEnd {
     pub log: Option<Log>,
     pub others: Vec<Publisher>,
     pub keeper: Keeper,
+    pub reader: LogReader,
 }
 
 /// The log of what threads shared, where the others have let it go.
@@ -34,20 +37,22 @@ pub(crate) fn log_of(state: Arc<OfferingState>) -> Option<Log>
 }
 
 /// Closes a log, whose first publisher this is. There is no book where a thread still has the log, or memory is refused.
-fn closed(alloc: Global, end: LogEnd, publisher: Publisher) -> Option<Book>
+fn closed(end: LogEnd, publisher: Publisher) -> Option<Book>
     requires { (l : LogValue) × LeavesLog l end × IsDone l publisher × (publisher.pass.right.parts ≡ 176) }
-    ensures { IfSome result (ShowsAll end.log end.others.items publisher) }
+    ensures book { IfSome result (ShowsAll end.log end.others.items publisher) }
+    ensures known { IfSome result (λ _. AllByRecursion (IsCommittedBy (end.others.items ++ publisher ∷ [])) (known_of end.reader)) }
 {
     let LogEnd {
         log,
         mut others,
         keeper,
+        reader,
     } = end;
     let Some(log) = log else {
         return None;
     };
     match others.push(publisher) {
-        Ok(()) => Some(close(log, others, Vec::new(alloc), keeper)),
+        Ok(()) => Some(close_read(log, others, reader, keeper)),
         Err(_) => None,
     }
 }
@@ -64,7 +69,6 @@ fn unclosed(ending: Result<Ending, PublishFault>) -> Result<Ending, PublishFault
 
 /// How it ended: whole only where its log was closed. What else is left is let go.
 pub(crate) fn ending_of<I: Drop>(
-    alloc: Global,
     published: Published<I>,
     end: LogEnd,
 ) -> Result<Ending, PublishFault>
@@ -79,7 +83,7 @@ pub(crate) fn ending_of<I: Drop>(
     let Some(left) = input else {
         return unclosed(ending);
     };
-    match closed(alloc, end, left.publisher) {
+    match closed(end, left.publisher) {
         Some(_) => ending,
         None => unclosed(ending),
     }

@@ -133,6 +133,7 @@ pub fn send_all<R: Wait + Clock, D: Datagrams, E: Write>(
 ) -> Result<Judged, PublishFault>
     requires agent { SendsLog context.now.state.now.log sender.old.agent }
     requires passes { ArePasses context.now.state.now.log context.now.conductor.now sender.old.passes }
+    ensures agent { SendsLog context.now.state.now.log sender.new.agent }
     ensures lives { Lived sender.old.agent.core sender.new.agent.core }
     ensures keeper { IsKept context.now.state.now.log sender.new.passes.keeper }
     ensures ends { IfOk result (λ judged. Ends sender.new.passes.duty.device.watch.attendance context.now.plan.now.linger context.now.plan.now.wait judged) }

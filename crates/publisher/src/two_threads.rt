@@ -138,6 +138,7 @@ pub(crate) fn run<R: Threads + Wait + Clock, I: BufRead + Drop, D: Datagrams, E:
 ) -> Published<I>
     requires agent { SendsLog context.now.state.now.log sender.old.agent }
     requires passes { ArePasses context.now.state.now.log context.now.conductor.now sender.old.passes }
+    ensures agent { SendsLog context.now.state.now.log sender.new.agent }
     ensures lives { Lived sender.old.agent.core sender.new.agent.core }
     ensures keeper { IsKept context.now.state.now.log sender.new.passes.keeper }
     ensures input { IfSome result.input (λ e. EndsInput reader.handle.promise.form reader.handle.promise.log.value (I.remaining reader.handle.promise.input.value) (I.remaining e.input) reader.handle.promise.publisher.value.pass e.publisher e.reading) }

@@ -1,13 +1,14 @@
 -- A cycle of a sender's agent is a part of its core's life.
-use Rattle.std.proofs.Common.{◌≡◌, ◌⊎◌, ℕ, List, [], ◌∷◌, ◌++◌, Bool, Result, Ok, Err, inl, inr, refl, subst}
+use Rattle.std.proofs.Common.{◌≡◌, ◌⊎◌, ℕ, List, [], ◌∷◌, ◌++◌, Bool, Result, Ok, Err, inl, inr, refl, sym, subst}
 use Rattle.conductor.specs.Parties.{ClientSeen}
 use Rattle.endpoint.specs.Devices.{Device}
 use Rattle.endpoint.specs.declared.device_error.DeviceError.{DeviceError}
 use Rattle.flow_control.specs.Unicast.{Unicast}
+use Rattle.shared_log.specs.Sourced.{StaysOn, frames_stay, stays_on}
 use Rattle.shared_log.specs.declared.reader.source.LogFrames.{LogFrames}
 use Rattle.agents.specs.Cycles.{Cycle, Fault, HearsAll, TicksBehind}
 use Rattle.agents.specs.Duties.{Agent, AgentCycle}
-use Rattle.sender_meaning.specs.Lives.{Act, Hears, HearsSo, Lived, Lives, LogCore, Ticks, TicksSo}
+use Rattle.sender_meaning.specs.Lives.{Act, Hears, HearsSo, KeepsItsReader, Lived, Lives, LogCore, Ticks, TicksSo}
 
 lives_on : (s m t : LogCore) (xs ys : List Act) → Lives s xs m → Lives m ys t → Lives s (xs ++ ys) t
 lives_on s m t [] ys first then = subst (λ (z : LogCore). Lives z ys t) first then
@@ -39,3 +40,12 @@ fault_lived now tells why s t d e f = lived_on s f.middle t (all_heard now s f.m
 pub agent_lived : (now : ℕ) (tells : Type 0) (a b : Agent LogFrames Unicast) (c after : ClientSeen) (d e : Device) (result : Result Bool DeviceError) → AgentCycle HearsSo TicksSo now tells a c d result b after e → Lived a.core b.core
 agent_lived now tells a b c after d e (Ok busy) h = cycle_lived now tells a.core b.core d e busy h.cycle
 agent_lived now tells a b c after d e (Err why) h = fault_lived now tells why a.core b.core d e h.fault
+
+-- it reads the same log by the same reader
+pub lives_reading : (s t : LogCore) (acts : List Act) → Lives s acts t → StaysOn s.reads.log.now s.reads.reader t.reads.log.now t.reads.reader
+lives_reading s t [] e = subst (λ (z : LogCore). StaysOn s.reads.log.now s.reads.reader z.reads.log.now z.reads.reader) (sym e) (frames_stay s.reads.log.now s.reads.reader)
+lives_reading s t (Hears now bytes given ∷ acts) m = (stays_on s.reads.log.now s.reads.reader m.0.reads.log.now m.0.reads.reader t.reads.log.now t.reads.reader tt tt tt m.1.left (lives_reading m.0 t acts m.2, refl)).0
+lives_reading s t (Ticks now given ∷ acts) m = (stays_on s.reads.log.now s.reads.reader m.0.reads.log.now m.0.reads.reader t.reads.log.now t.reads.reader tt tt tt m.1.left (lives_reading m.0 t acts m.2, refl)).0
+
+pub keeps_its_reader : KeepsItsReader
+keeps_its_reader s t h = lives_reading s t h.acts h.lives

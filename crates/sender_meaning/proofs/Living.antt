@@ -30,7 +30,8 @@ moved x s t identity at h = record {
 -- ---- a moment
 
 ticks : HasOneReading → (x : Stream) → IsStream x → IsSpelled x → (s t : LogCore) (now : ℕ) (given : List (List ℕ)) → SendsStream x s → TicksSo s now t given → AllAmong (committed x.entries) (source_in t.reads).frames → AllByRecursion (IsHonest x) given × SendsStream x t
-ticks law x is spelled s t now given h c known =
+ticks law x is spelled s t now given h k known =
+    let c = k.cycles in
     let y = c.cycle in
     let i = x.identity in
     let p = s.handler.at in
@@ -78,14 +79,14 @@ by_news law after_status reached has_heard x is spelled s t (Unreadable fault) a
 
 hears : HasOneReading → (x : Stream) → IsStream x → IsSpelled x → (s t : LogCore) (now : ℕ) (bytes : List ℕ) (given : List (List ℕ)) → SendsStream x s → HearsSo s now bytes t given → AllByRecursion (IsHonest x) given × SendsStream x t
 hears law x is spelled s t now bytes given h m =
-    by_news law told_status limit_in was_heard x is spelled (at_moment s now) t m.hears.news m.answer given (record { identity = h.identity; unit = h.unit; low = h.low }) m.hears.hears
+    by_news law told_status limit_in was_heard x is spelled (at_moment s now) t m.hears.hears.news m.hears.answer given (record { identity = h.identity; unit = h.unit; low = h.low }) m.hears.hears.hears
 
 -- ---- a life
 
 known_on : (s t : LogCore) (acts : List Act) → Lives s acts t → Grows (source_in s.reads).frames (source_in t.reads).frames
 known_on s t [] e f a = subst (λ (z : LogCore). Among f (source_in z.reads).frames) (sym e) a
-known_on s t (Hears now bytes given ∷ acts) m f a = known_on m.0 t acts m.2 f (subst (λ (z : Source). Among f z.frames) (sym m.1.same) a)
-known_on s t (Ticks now given ∷ acts) m f a = known_on m.0 t acts m.2 f (m.1.reads.grows f a)
+known_on s t (Hears now bytes given ∷ acts) m f a = known_on m.0 t acts m.2 f (subst (λ (z : Source). Among f z.frames) (sym m.1.hears.same) a)
+known_on s t (Ticks now given ∷ acts) m f a = known_on m.0 t acts m.2 f (m.1.cycles.reads.grows f a)
 
 pub lives_honest : HasOneReading → (x : Stream) → IsStream x → IsSpelled x → (s t : LogCore) (acts : List Act) → SendsStream x s → Lives s acts t → AllAmong (committed x.entries) (source_in t.reads).frames → AllByRecursion (IsHonest x) (given_in acts) × SendsStream x t
 lives_honest law x is spelled s t [] h e known = (tt, subst (SendsStream x) (sym e) h)

@@ -1,5 +1,5 @@
 -- The life of a log's sender: what it meets, one thing after the other, and the datagrams that it gives out.
-use Rattle.std.specs.Prelude.{◌≡◌, ◌≤◌, ◌%◌, ◌+ℤ◌, max, true, ℕ, ℤ, Bool, List, [], ◌∷◌, ◌++◌}
+use Rattle.std.specs.Prelude.{◌≡◌, ◌≤◌, ◌%◌, ◌+ℤ◌, max, true, false, ℕ, ℤ, Bool, List, [], ◌∷◌, ◌++◌}
 use Rattle.std.specs.List.{AllByRecursion}
 use Rattle.theory.specs.Bytes.{IsIdentity, wire_at}
 use Rattle.theory.specs.Entry.{committed}
@@ -9,9 +9,10 @@ use Rattle.theory.specs.Position.{max_position}
 use Rattle.theory.specs.Wire.{IsFrame}
 use Rattle.flow_control.specs.Unicast.{Unicast}
 use Rattle.frame_source.specs.Sources.{Source}
-use Rattle.shared_log.specs.Sourced.{Grows, source_of}
+use Rattle.shared_log.specs.Handles.{LogValue}
+use Rattle.shared_log.specs.Sourced.{Grows, StaysOn, source_of}
 use Rattle.shared_log.specs.declared.reader.source.LogFrames.{LogFrames}
-use Rattle.sender.specs.Sending.{Sending}
+use Rattle.sender.specs.Sending.{Sending, begun}
 use Rattle.agents.specs.Duties as duties
 use Rattle.receiver.specs.Receiving.{Receiver, TakesDatagram, listening}
 use Rattle.receiver.specs.Subscribing.{RepresentsSubscriber, Subscribing}
@@ -25,8 +26,17 @@ use Rattle.receiver.specs.Lives.{IsHonest, IsStream, Stream}
 abbrev pub LogCore : Type 0
 LogCore = Sending LogFrames Unicast
 
+-- it has heard and sent nothing, and begins at the log's start
+pub record IsNewCore (l : LogValue) (s : LogCore) : Type 0 where
+  pub made : s ≡ begun l.identity l.start s.reads (record { limit = l.start; heard = false })
+  pub log_is : s.reads.log.now ≡ l
+
 abbrev pub source_in : LogFrames → Source
 source_in r = source_of r.log.now r.reader
+
+-- what a call leaves of its reads: the same log and reader
+abbrev pub stays_in : LogFrames → LogFrames → Type 0
+stays_in r q = StaysOn r.log.now r.reader q.log.now q.reader × (tt ≡ tt)
 
 -- its flow control after a status message, which a moment leaves as it is
 abbrev pub told_status : Unicast → ℤ → ℤ → ℤ → ℕ → Unicast
@@ -42,10 +52,10 @@ abbrev pub after_moment : Unicast → ℕ → Unicast
 after_moment f now = f
 
 abbrev pub HearsSo : LogCore → ℕ → List ℕ → LogCore → List (List ℕ) → Type 0
-HearsSo s now bytes t given = duties.Hears source_in told_status limit_in was_heard s now bytes t given
+HearsSo s now bytes t given = duties.Hears source_in stays_in told_status limit_in was_heard s now bytes t given
 
 abbrev pub TicksSo : LogCore → ℕ → LogCore → List (List ℕ) → Type 0
-TicksSo s now t given = duties.Ticks source_in Grows after_moment limit_in s now t given
+TicksSo s now t given = duties.Ticks source_in stays_in Grows after_moment limit_in s now t given
 
 -- it hears a datagram at a moment, or is told one, and gives these datagrams out
 pub data Act : Type 0 where
@@ -64,6 +74,10 @@ Lives s (act ∷ acts) t = (u : LogCore) × ActsSo s act u × Lives u acts t
 pub record Lived (s t : LogCore) : Type 0 where
   pub acts : List Act
   pub lives : Lives s acts t
+
+-- it reads the same log, by the same reader
+abbrev pub KeepsItsReader : Type 0
+KeepsItsReader = (s t : LogCore) → Lived s t → StaysOn s.reads.log.now s.reads.reader t.reads.log.now t.reads.reader
 
 -- all that it gave out, in order
 abbrev pub given_in : List Act → List (List ℕ)

@@ -8,7 +8,7 @@
 //! datagrams, in any order and each any number of times, polls a run of the stream (`polls_what_is_sent`).
 #![tactic(auto)]
 
-ghost use Rattle.sender_meaning.specs.Lives.{GivesHonest, PollsWhatIsSent};
+ghost use Rattle.sender_meaning.specs.Lives.{GivesHonest, KeepsItsReader, PollsWhatIsSent};
 
 use receiver::polls_a_run;
 use theory::one_spelling;
@@ -20,6 +20,11 @@ pub fn gives_honest()
     // A law that the proof cites.
     one_spelling();
 }
+
+/// A law: a sender reads the log that it began with, by the same reader.
+pub fn keeps_its_reader()
+    ensures { KeepsItsReader }
+{}
 
 /// A law: a subscriber that was handed nothing but datagrams that a stream's sender gave out, in any order and each any number of
 /// times, polls a run of that stream, from the join on.
