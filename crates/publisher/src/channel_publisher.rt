@@ -110,7 +110,7 @@ pub fn started<R: Threads + Clock + Send + Copy + 'static, I: BufRead + Send + D
 
 /// The keeper that a sender has, and its reader.
 fn passes_of<D: Drop>(sender: ChannelSender<'_, D>) -> (Keeper, LogReader)
-    ensures { result ≡ (sender.passes.keeper, sender.agent.core.reads.reader) }
+    ensures { result ≡ (sender.entry.passes.keeper, sender.entry.agent.core.reads.reader) }
 {
     let ChannelSender { agent, passes } = sender;
     let LogFrames { log: _, reader } = agent.into_core().into_reads();

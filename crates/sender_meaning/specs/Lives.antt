@@ -36,7 +36,7 @@ source_in r = source_of r.log.now r.reader
 
 -- what a call leaves of its reads: the same log and reader
 abbrev pub stays_in : LogFrames → LogFrames → Type 0
-stays_in r q = StaysOn r.log.now r.reader q.log.now q.reader × (tt ≡ tt)
+stays_in r q = StaysOn r.log.now r.reader q.log.now q.reader × (tt {0} ≡ tt {0})
 
 -- its flow control after a status message, which a moment leaves as it is
 abbrev pub told_status : Unicast → ℤ → ℤ → ℤ → ℕ → Unicast
