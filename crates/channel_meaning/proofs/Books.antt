@@ -128,7 +128,7 @@ same_shape f i number (Padding start bytes ∷ ts) = ap (λ (n : ℕ). by_shape 
 alone : (h : Entry → ℕ) (others : List PublisherValue) (p : PublisherValue) → AllByRecursion HasNone others → total (weight_in h) (others ++ p ∷ []) ≡ weight h p.pass
 alone h [] p none = omega arith
 alone h (o ∷ os) p none =
-    let nothing : weight h o.pass ≡ 0 = ap (λ (cs : List ClaimRange). total h (map rules.entry_of cs)) none.0 in
+    let nothing : weight h o.pass ≡ 0 = ap (λ (cs : List ClaimRange). total h (map rules.entry_of cs)) none.0.0 in
     let rest = alone h os p none.1 in
     omega (arith, nothing, rest)
 
@@ -195,7 +195,27 @@ module _ (p : PublishPlan) (given : Option (List ℕ)) (all : PublishesAll p giv
 pub publishes_all_of_it : PublishesAllOfIt
 publishes_all_of_it p given all = is_all p given all
 
+-- its sender sends that stream
+sends_it : (p : PublishPlan) (given : Option (List ℕ)) (all : PublishesAll p given) → SendsStream (stream_in all) all.sends.first
+sends_it p given all =
+    let made = all.sends.begun.made in
+    let at : all.sends.first.handler.at ≡ all.log.start = ap (λ (s : LogCore). s.handler.at) made in
+    let start = all.sends.start in record {
+      identity = ap (λ (s : LogCore). s.identity) made;
+      unit = subst (λ (n : ℕ). n % 32 ≡ 0) (sym at) start.0;
+      low = (let below = start.1 in omega (arith, at, below));
+    }
+
+-- and knew no other frames
+known_of_it : (p : PublishPlan) (given : Option (List ℕ)) (all : PublishesAll p given) → IsSpelled (stream_in all) → AllAmong (committed (entries_in all)) (source_in all.sends.last.reads).frames
+known_of_it p given all spelled =
+    let i = all.log.identity in
+    let published = all.ends.publishes.publishes in
+    let frames : all.last.pass.work.frames ≡ flat_map (frames_in i) published.taken = published.frames ∙ (λ j. (all.opened.pass j).work.frames ++ flat_map (frames_in (all.opened.of.identity j)) published.taken) in
+    all_known i 0 published.taken all.others all.last (known_of all.sends.last.reads.reader) spelled.frames all.others_are.unclaimed frames all.sends.known
+
 pub writes_all_of_it : PublishesAllOfIt → WritesWhatIsRead → WritesAllOfIt
-writes_all_of_it law writes p given all spelled s t sent sends lives known plan before after count w from =
+writes_all_of_it law writes p given all spelled plan before after count w from =
     let is = law p given all in
-    writes (stream_in all) is.stream spelled all.first.pass all.last.pass all.log.start all.reading.offered.tail all.ends.publishes.messages all.ends.publishes.publishes is.its s t sent sends lives known plan before after count w from
+    writes (stream_in all) is.stream spelled all.first.pass all.last.pass all.log.start all.reading.offered.tail all.ends.publishes.messages all.ends.publishes.publishes is.its
+    all.sends.first all.sends.last all.sends.lived.acts (sends_it p given all) all.sends.lived.lives (known_of_it p given all spelled) plan before after count w from

@@ -1,18 +1,24 @@
 -- What a subscriber writes of what a publisher read.
-use Rattle.std.proofs.Common.{◌≡◌, ◌∙◌, ℕ, ℤ, ◌≤◌, List, [], ◌∷◌, ◌++◌, Option, None, Some, sym, ap, subst, arith}
+use Rattle.std.proofs.Common.{◌≡◌, ◌∙◌, ℕ, ℤ, ◌≤◌, List, [], ◌∷◌, ◌++◌, Option, None, Some, refl, sym, ap, subst, append-nil, arith}
+use Rattle.std.specs.Prelude.{negsuc}
 use Rattle.std.specs.List.{AllByRecursion}
-use Rattle.theory.specs.Entry.{committed}
+use Rattle.theory.specs.Control.{setup_fields}
+use Rattle.theory.specs.Laws.{HasOneReading}
 use Rattle.theory.specs.Messages.{messages}
-use Rattle.theory.specs.Placed.{AllAmong}
-use Rattle.theory.specs.Wire.{SETUP, spelling}
+use Rattle.theory.specs.Placed.{Among}
+use Rattle.theory.specs.Wire.{IsFrame, SETUP, Wire, spelling}
+use Rattle.theory.proofs.Lists.{all_at, all_from}
+use Rattle.theory.proofs.Readings.{stands_alone}
 use Rattle.options.specs.declared.ends.plans.SubscribePlan.{SubscribePlan}
 use Rattle.receiver.specs.Receiving.{Opened, TakesDatagram, listening}
 use Rattle.receiver.specs.Lives as meant
-use Rattle.receiver.specs.Lives.{IsStream, Stream}
-use Rattle.sender_meaning.specs.Lives.{Act, IsSpelled, Lives, LogCore, PollsWhatIsSent, SendsStream, given_in, source_in}
+use Rattle.receiver.specs.Lives.{IsHonest, IsStream, PollsARun, Stream}
+use Rattle.sender_meaning.specs.Lives.{GivesHonest, IsSpelled, given_in}
+use Rattle.sender_meaning.proofs.Honest.{IsGiven, honest_given}
+use Rattle.sender_meaning.proofs.Spelled.{setup_framed}
 use Rattle.subscription.specs.Meetings.{id_of, window_in}
 use Rattle.subscriber.specs.Living.{AreLives, Life}
-use Rattle.channel_meaning.specs.Streams.{GivesRun, IsFromIt, PublishesItsStream, StandsFrom, WritesWhatIsRead}
+use Rattle.channel_meaning.specs.Streams.{GivesRun, IsFromIt, PublishesItsStream, StandsFrom, WritesWhatIsRead, farewell}
 use Rattle.channel_meaning.proofs.Runs.{run_in}
 
 stands : (x : Stream) → IsStream x → (read : List (List ℕ)) → messages x.start x.tail x.entries ≡ read → (image : Option Opened) (given : List (List ℕ)) → meant.IsRunOf x image given → StandsFrom x read image given
@@ -26,17 +32,31 @@ stands x is read same (Some o) given h =
       first = λ start. run.first (subst (λ (p : ℕ). p ≤ x.start) (sym h.2) start);
     }
 
-each_runs : PollsWhatIsSent → (x : Stream) → IsStream x → IsSpelled x → (read : List (List ℕ)) → messages x.start x.tail x.entries ≡ read → (s t : LogCore) (sent : List Act) → SendsStream x s → Lives s sent t → AllAmong (committed x.entries) (source_in t.reads).frames
-    → (plan : SubscribePlan) (images : List Life) → AreLives plan images → AllByRecursion (IsFromIt x (given_in sent)) images → AllByRecursion (GivesRun x read plan) images
-each_runs law x is spelled read same s t sent sends lives known plan [] all from = tt
-each_runs law x is spelled read same s t sent sends lives known plan (l ∷ older) all from =
+-- ---- what was handed over is honest
+
+farewell_framed : (x : Stream) → IsStream x → IsSpelled x → IsFrame (SETUP (record (setup_fields x.identity x.tail) { ttl = negsuc 0 }))
+farewell_framed x is spelled = let s = setup_framed x.identity x.tail is.geometry spelled.ids in (s.0, s.1, s.2, s.3, s.4, s.5, s.6, record { sfits = omega arith })
+
+farewell_given : (x : Stream) → IsStream x → IsSpelled x → IsGiven x (SETUP (record (setup_fields x.identity x.tail) { ttl = negsuc 0 }) ∷ [])
+farewell_given x is spelled = record { stands = stands_alone (SETUP (record (setup_fields x.identity x.tail) { ttl = negsuc 0 })); frames = (farewell_framed x is spelled, tt); honest = ((λ its. (x.tail, is.tail_low, refl)), tt) }
+
+farewell_honest : HasOneReading → (x : Stream) → IsStream x → IsSpelled x → IsHonest x (farewell x)
+farewell_honest law x is spelled =
+    let f : Wire = SETUP (record (setup_fields x.identity x.tail) { ttl = negsuc 0 }) in
+    subst (IsHonest x) (append-nil (spelling f)) (honest_given law x ((f ∷ []) ∷ []) (farewell_given x is spelled, tt)).0
+
+each_runs : PollsARun → (x : Stream) → IsStream x → (read : List (List ℕ)) → messages x.start x.tail x.entries ≡ read → (sent : List (List ℕ)) → IsHonest x (farewell x) → AllByRecursion (IsHonest x) sent
+    → (plan : SubscribePlan) (images : List Life) → AreLives plan images → AllByRecursion (IsFromIt x sent) images → AllByRecursion (GivesRun x read plan) images
+each_runs law x is read same sent last honest plan [] all from = tt
+each_runs law x is read same sent last honest plan (l ∷ older) all from =
     let f = l.setup in
     let life = all.1 in
     let met = life.met in
     let takes : TakesDatagram (listening x.identity.session x.identity.stream (window_in f) (id_of plan l.number) 1 2097152) l.moment (spelling (SETUP f)) met.outcomes met.receiver =
     subst (λ (stream : ℤ). TakesDatagram (listening x.identity.session stream (window_in f) (id_of plan l.number) 1 2097152) l.moment (spelling (SETUP f)) met.outcomes met.receiver) from.0.stream
     (subst (λ (session : ℤ). TakesDatagram (listening session f.stream (window_in f) (id_of plan l.number) 1 2097152) l.moment (spelling (SETUP f)) met.outcomes met.receiver) from.0.session met.takes) in
-    let polls = law x is spelled s t sent sends lives known (window_in f) 2097152 l.moment (id_of plan l.number) (spelling (SETUP f)) met.outcomes met.receiver takes from.0.setup life.first all.0 l.acts met.shown life.lived from.0.heard in (
+    let heard : AllByRecursion (IsHonest x) (meant.heard_in l.acts) = all_from (IsHonest x) (meant.heard_in l.acts) (λ bytes a. all_at (IsHonest x) bytes (farewell x ∷ sent) (last, honest) (all_at (λ b. Among b (farewell x ∷ sent)) bytes (meant.heard_in l.acts) from.0.heard a)) in
+    let polls = law x is (window_in f) 2097152 l.moment (id_of plan l.number) (spelling (SETUP f)) met.outcomes met.receiver takes (all_at (IsHonest x) (spelling (SETUP f)) sent honest from.0.setup) life.first all.0 l.acts met.shown life.lived heard in (
       record {
         end = all.0;
         life = life;
@@ -45,12 +65,12 @@ each_runs law x is spelled read same s t sent sends lives known plan (l ∷ olde
         run = polls.2;
         stands = stands x is read same polls.0.image (meant.given_in l.acts) polls.2;
       },
-      each_runs law x is spelled read same s t sent sends lives known plan older all.3 from.1,
+      each_runs law x is read same sent last honest plan older all.3 from.1,
     )
 
-pub writes_what_is_read : PublishesItsStream → PollsWhatIsSent → WritesWhatIsRead
-writes_what_is_read published law x is spelled p q tail to read h its s t sent sends lives known plan before after count w from =
+pub writes_what_is_read : HasOneReading → PublishesItsStream → GivesHonest → PollsARun → WritesWhatIsRead
+writes_what_is_read one published gives law x is spelled p q tail to read h its s t sent sends lives known plan before after count w from =
     let same = published p q tail to read h x is its in record {
       published = same;
-      runs = each_runs law x is spelled read same s t sent sends lives known plan w.images w.lives from;
+      runs = each_runs law x is read same (given_in sent) (farewell_honest one x is spelled) (gives x is spelled s t sent sends lives known).0 plan w.images w.lives from;
     }

@@ -1,13 +1,12 @@
 -- What a publisher's closed log says of the stream that it published, and what comes of that stream.
 use Rattle.std.specs.Prelude.{◌≡◌, ℕ, List, map, Option}
 use Rattle.std.specs.List.{AllByRecursion}
-use Rattle.theory.specs.Entry.{Entry, committed}
+use Rattle.theory.specs.Entry.{Entry}
 use Rattle.theory.specs.Messages.{messages}
-use Rattle.theory.specs.Placed.{AllAmong}
 use Rattle.options.specs.declared.ends.plans.PublishPlan.{PublishPlan}
 use Rattle.options.specs.declared.ends.plans.SubscribePlan.{SubscribePlan}
 use Rattle.receiver.specs.Lives.{IsStream, Stream}
-use Rattle.sender_meaning.specs.Lives.{Act, IsSpelled, Lives, LogCore, SendsStream, given_in, source_in}
+use Rattle.sender_meaning.specs.Lives.{IsSpelled, given_in}
 use Rattle.publisher.specs.Ended.{PublishesAll}
 use Rattle.subscriber.specs.Living.{WritesLives}
 use Rattle.channel_meaning.specs.Streams.{GoesThrough, IsFromIt, IsItsStream, entry_of}
@@ -29,11 +28,10 @@ pub record IsAllOfIt (p : PublishPlan) (given : Option (List ℕ)) (all : Publis
 abbrev pub PublishesAllOfIt : Type 0
 PublishesAllOfIt = (p : PublishPlan) (given : Option (List ℕ)) (all : PublishesAll p given) → IsAllOfIt p given all
 
--- where a publisher has ended whole, a sender of its stream lives, and each image of a subscriber was handed nothing but what that
--- sender gave out, what is written is what these images gave, one after the other: runs of what the publisher read
+-- where a publisher has ended whole, and each image of a subscriber was handed nothing but what its sender gave out and its farewell,
+-- what is written is what these images gave, one after the other: runs of what the publisher read
 abbrev pub WritesAllOfIt : Type 0
 WritesAllOfIt =
     (p : PublishPlan) (given : Option (List ℕ)) (all : PublishesAll p given) → IsSpelled (stream_in all)
-    → (s t : LogCore) (sent : List Act) → SendsStream (stream_in all) s → Lives s sent t → AllAmong (committed (entries_in all)) (source_in t.reads).frames
-    → (plan : SubscribePlan) (before after : Option (List ℕ)) (count : ℕ) (w : WritesLives plan before count after) → AllByRecursion (IsFromIt (stream_in all) (given_in sent)) w.images
+    → (plan : SubscribePlan) (before after : Option (List ℕ)) (count : ℕ) (w : WritesLives plan before count after) → AllByRecursion (IsFromIt (stream_in all) (given_in all.sends.lived.acts)) w.images
     → GoesThrough (stream_in all) all.ends.publishes.messages plan w.images

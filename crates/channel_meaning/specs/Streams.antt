@@ -11,6 +11,7 @@ use Rattle.publication.specs.declared.pass.Pass.{Pass}
 use Rattle.offering.specs.Published.{Publishes, Taken}
 use Rattle.offering.specs.Published.Taken.{Message, Padding}
 use Rattle.options.specs.declared.ends.plans.SubscribePlan.{SubscribePlan}
+use Rattle.peer.specs.Farewells.{farewell_fields}
 use Rattle.receiver.specs.Receiving.{Opened, Receiver}
 use Rattle.receiver.specs.Subscribing.{RepresentsSubscriber, Subscribing}
 use Rattle.receiver.specs.Lives as meant
@@ -37,12 +38,17 @@ PublishesItsStream =
 
 -- ---- both ends
 
--- this image's SETUP and all that its subscriber was handed are among these datagrams, in any order, and each any number of times
+-- the stream's farewell, which tells where it ends
+abbrev pub farewell : Stream → List ℕ
+farewell x = spelling (SETUP (farewell_fields (record { geometry = x.identity.geometry; session = x.identity.session; stream = x.identity.stream }) x.tail))
+
+-- this image's SETUP is among these datagrams, and so is all that its subscriber was handed, but for the farewell, in any order, and
+-- each any number of times
 pub record IsFromIt (x : Stream) (sent : List (List ℕ)) (l : Life) : Type 0 where
   pub session : l.setup.session ≡ x.identity.session
   pub stream : l.setup.stream ≡ x.identity.stream
   pub setup : Among (spelling (SETUP l.setup)) sent
-  pub heard : AllByRecursion (λ bytes. Among bytes sent) (meant.heard_in l.acts)
+  pub heard : AllByRecursion (λ bytes. Among bytes (farewell x ∷ sent)) (meant.heard_in l.acts)
 
 -- these stand among all of them in one piece, with others before and behind; at the start nothing stands before them
 pub record StandsIn (all given : List (List ℕ)) (AtStart : Type 0) : Type 0 where

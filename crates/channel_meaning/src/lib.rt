@@ -2,27 +2,28 @@
 //!
 //! Where the claims of a publisher's pass, each committed whole, are the entries of a stream, in their order, the messages of
 //! that stream are those that were read from its input, in their order (`publishes_its_stream`). Where besides a sender of
-//! that stream lives, and each image of a subscriber was handed nothing but datagrams that this sender gave out, in any order
-//! and each any number of times, what `subscribe` writes is what these images gave, each a run of what was read, and its
-//! beginning where the image joined at the start (`writes_what_is_read`).
+//! that stream lives, and each image of a subscriber was handed nothing but datagrams that this sender gave out and the stream's
+//! farewell, in any order and each any number of times, what `subscribe` writes is what these images gave, each a run of what was
+//! read, and its beginning where the image joined at the start (`writes_what_is_read`).
 //!
 //! In a driver's run a subscriber whose receiver was handed datagrams alone that are honest for a stream, that refused no message,
 //! and has tallied as many as the stream has, has tallied all of its messages, in their order (`tallies_all`).
 //!
 //! The log of a publisher that has ended whole is closed: what it has claimed is a stream, from the log's start to its tail, and
-//! the messages of that are those that were read (`publishes_all_of_it`). So what `subscribe` writes of it are runs of what the
-//! publisher read (`writes_all_of_it`).
-//!
-//! That the sender's reader knows no frames but the publisher's own is a premise: it is what the log's rule says, and no contract
-//! of a pass alone. That a device carries what it was given is another.
+//! the messages of that are those that were read (`publishes_all_of_it`); its sender has lived, and knew no frames but those. So
+//! what `subscribe` writes of what that sender gave out are runs of what the publisher read (`writes_all_of_it`). Premises are that
+//! the stream's ids and bytes can be spelled, and that datagrams are such as were given out: that a device carries what it was
+//! given no law says.
 #![tactic(auto)]
 
 ghost use Rattle.channel_meaning.specs.Books.{PublishesAllOfIt, WritesAllOfIt};
 ghost use Rattle.channel_meaning.specs.Streams.{PublishesItsStream, WritesWhatIsRead};
 ghost use Rattle.channel_meaning.specs.Tallies.{TalliesAll};
 
+use receiver::polls_a_run;
 use run_parties::gives_a_run;
-use sender_meaning::polls_what_is_sent;
+use sender_meaning::gives_honest;
+use theory::one_spelling;
 
 /// A law: the messages of the stream that a pass published are those that were read.
 pub fn publishes_its_stream()
@@ -35,13 +36,15 @@ pub fn publishes_all_of_it()
     ensures { PublishesAllOfIt }
 {}
 
-/// A law: a subscriber of what a publisher's sender gave out writes runs of what the publisher read.
+/// A law: a subscriber of what a sender of the stream gave out writes runs of what the publisher read.
 pub fn writes_what_is_read()
     ensures { WritesWhatIsRead }
 {
     // Laws that the proof cites.
+    one_spelling();
     publishes_its_stream();
-    polls_what_is_sent();
+    gives_honest();
+    polls_a_run();
 }
 
 /// A law: a subscriber of what the sender of a publisher that has ended whole gave out writes runs of what the publisher read.

@@ -2,6 +2,7 @@
 use Rattle.std.proofs.Common.{◌≡◌, ◌∙◌, List, ap, subst, refl, sym}
 use Rattle.std.specs.List.{AllByRecursion}
 use Rattle.flow_control.specs.Unicast.{Unicast}
+use Rattle.position.specs.Openings.{IsStart}
 use Rattle.log_rule.specs.Claims.Handles.{PublisherValue}
 use Rattle.shared_log.specs.Books.{IsCommittedBy}
 use Rattle.shared_log.specs.Handles.{LogValue}
@@ -17,11 +18,12 @@ pub still_reads : KeepsItsReader → (l : LogValue) (r : ReaderValue) (a b : Age
 still_reads law l r a b sender lived sends =
     subst (λ (x : LogValue). IsReaderOf x b.core.reads.reader) ((law a.core b.core lived).log ∙ sender.log_is) sends.stands
 
-pub has_sent : (l : LogValue) (r : ReaderValue) (a b : Agent LogFrames Unicast) → IsNewSender l r a → Lived a.core b.core → HasSent l b.core.reads.reader
-has_sent l r a b sender lived = record {
+pub has_sent : (l : LogValue) (r : ReaderValue) (a b : Agent LogFrames Unicast) → IsStart l.identity.geometry l.start → IsNewSender l r a → Lived a.core b.core → HasSent l b.core.reads.reader
+has_sent l r a b start sender lived = record {
   first = a.core;
   last = b.core;
   begun = record { made = ap (λ (x : Agent LogFrames Unicast). x.core) sender.made; log_is = sender.log_is };
+  start = start;
   lived = lived;
   reader = refl;
 }
@@ -31,6 +33,7 @@ sends_committed l r publishers sent known = record {
   first = sent.first;
   last = sent.last;
   begun = sent.begun;
+  start = sent.start;
   lived = sent.lived;
   known = subst (λ (x : ReaderValue). AllByRecursion (IsCommittedBy publishers) (known_of x)) (sym sent.reader) known;
 }

@@ -1,5 +1,6 @@
 -- What a publisher that has ended whole has read and published, and what was heard of that.
 use Rattle.std.specs.Prelude.{◌≡◌, ℕ, true, List, [], ◌∷◌, ◌++◌, Option, None, Some, Ok, IfSome}
+use Rattle.position.specs.Openings.{IsStart}
 use Rattle.log_rule.specs.Claims.Handles.{PublisherValue}
 use Rattle.std.specs.List.{AllByRecursion}
 use Rattle.shared_log.specs.Books.{IsCommittedBy, IsDone, ShowsBook}
@@ -38,6 +39,7 @@ pub record HasSent (l : LogValue) (r : ReaderValue) : Type 0 where
   pub first : LogCore
   pub last : LogCore
   pub begun : IsNewCore l first
+  pub start : IsStart l.identity.geometry l.start
   pub lived : Lived first last
   pub reader : last.reads.reader ≡ r
 
@@ -46,6 +48,7 @@ pub record SendsCommitted (l : LogValue) (publishers : List PublisherValue) : Ty
   pub first : LogCore
   pub last : LogCore
   pub begun : IsNewCore l first
+  pub start : IsStart l.identity.geometry l.start
   pub lived : Lived first last
   pub known : AllByRecursion (IsCommittedBy publishers) (known_of last.reads.reader)
 

@@ -8,7 +8,7 @@
 //! messages end is what the end was judged by: nothing was to be delivered, or one receiver was heard from the start to there,
 //! and no other (`publish_over`, by `AllArrived`; `publish`, by `PublishesAll`). Its log is closed then, with all its passes: what
 //! its one publisher has claimed, in the order of the stream, tiles that from the log's start to its tail, and nobody else has
-//! claimed anything.
+//! claimed anything. The reader of its sender comes back, too: what that knew of the log are frames that were committed to it.
 //!
 //! Its sender stands where the plan starts and sends from there, its core lives by datagrams and moments as a sender does
 //! (`send_all`, by `Lived`; what that gives out is honest for the stream: `sender_meaning`), cycles and offers keep what their

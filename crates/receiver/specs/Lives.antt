@@ -39,9 +39,9 @@ IsIts x session stream = (session ≡ x.identity.session) × (stream ≡ x.ident
 abbrev pub WasCommitted : Stream → Wire → Type 0
 WasCommitted x w = (s : Placed) × Among s (committed x.entries) × (w ≡ wire_at x.identity s.at s.frame)
 
--- it names the stream's shape and a position of it
+-- it names the stream's shape and a position of it, with whatever time to live: a farewell's is -1
 abbrev pub NamesIt : Stream → Setup → Type 0
-NamesIt x f = (p : ℕ) × (p ≤ max_position x.identity.geometry) × (f ≡ setup_fields x.identity p)
+NamesIt x f = (p : ℕ) × (p ≤ max_position x.identity.geometry) × (f ≡ record (setup_fields x.identity p) { ttl = f.ttl })
 
 -- what a frame must be, if it has the stream's ids
 abbrev pub IsHonestFrame : Stream → Wire → Type 0

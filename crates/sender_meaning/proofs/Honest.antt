@@ -35,7 +35,7 @@ honest_given law x (ws ∷ wss) h = (
 -- ---- a SETUP, and a heartbeat
 
 pub setup_given : (x : Stream) → IsStream x → IsSpelled x → (p : ℕ) (due : Bool) → p % 32 ≡ 0 → p ≤ max_position x.identity.geometry → AllByRecursion (IsGiven x) (alone (setups x.identity p due))
-setup_given x is spelled p true unit low = (record { stands = stands_alone (setup_at x.identity p); frames = (setup_framed x.identity p is.geometry spelled.ids unit, tt); honest = ((λ its. (p, low, refl)), tt) }, tt)
+setup_given x is spelled p true unit low = (record { stands = stands_alone (setup_at x.identity p); frames = (setup_framed x.identity p is.geometry spelled.ids, tt); honest = ((λ its. (p, low, refl)), tt) }, tt)
 setup_given x is spelled p false unit low = tt
 
 pub beat_given : (x : Stream) → IsStream x → IsSpelled x → (p : ℕ) (beat : Bool) → p % 32 ≡ 0 → AllByRecursion (IsGiven x) (alone (heartbeats x.identity p beat))

@@ -11,6 +11,16 @@ use Rattle.theory.specs.Control.{setup_at}
 use Rattle.theory.specs.Wire.{IsFrame, IsHeader}
 use Rattle.theory.proofs.Places.{mod_unit, power_unit}
 
+place_below : (g : Geometry) (p : ℕ) → IsGeometry g → (place_of g p).offset ≤ g.term_length
+place_below g p legal =
+    let some : 0 < g.term_length = omega (arith, legal.term.least) in
+    let last : Place = record { count = 2147483647; offset = g.term_length } in
+    let here : Place = record { count = p / g.term_length; offset = p % g.term_length } in
+    ⊎_elim
+    (λ (t : nat_le (max_position g) p ≡ true). let same : (place_of g p).offset ≡ g.term_length = ap (λ (x : Place). x.offset) (cond-true (nat_le (max_position g) p) last here t) in omega (arith, same))
+    (λ (f : nat_le (max_position g) p ≡ false). let same : (place_of g p).offset ≡ p % g.term_length = ap (λ (x : Place). x.offset) (cond-false (nat_le (max_position g) p) last here f) in omega (arith, same, mod-lt p some))
+    (cases_Bool (nat_le (max_position g) p))
+
 place_low : (g : Geometry) (p : ℕ) → IsGeometry g → p % 32 ≡ 0 → ((place_of g p).offset ≤ g.term_length) × ((place_of g p).offset % 32 ≡ 0)
 place_low g p legal unit =
     let some : 0 < g.term_length = omega (arith, legal.term.least) in
@@ -25,10 +35,10 @@ place_low g p legal unit =
 small : (n : ℕ) → n < 2147483648 → FitsSigned w32 (pos n)
 small n h = record { sfits = omega (arith, h) }
 
-pub setup_framed : (i : Identity) (p : ℕ) → IsGeometry i.geometry → IsIdentity i → p % 32 ≡ 0 → IsFrame (setup_at i p)
-setup_framed i p legal is unit =
+pub setup_framed : (i : Identity) (p : ℕ) → IsGeometry i.geometry → IsIdentity i → IsFrame (setup_at i p)
+setup_framed i p legal is =
     let g = i.geometry in
-    let offset = (place_low g p legal unit).0 in (
+    let offset = place_below g p legal in (
       small (place_of g p).offset (omega (arith, offset, legal.term.greatest)),
       is.session,
       is.stream,
