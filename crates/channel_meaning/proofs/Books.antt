@@ -1,9 +1,10 @@
 -- Claims that weigh what a tiling weighs, and stand in order, are a tiling; so what a publisher has claimed is a stream.
-use Rattle.std.proofs.Common.{◌≡◌, ◌∙◌, ℕ, ◌+◌, ◌-◌, ◌*◌, ◌/◌, ◌≤◌, List, [], ◌∷◌, ◌++◌, map, Option, refl, sym, ap, subst, arith}
+use Rattle.std.proofs.Common.{◌≡◌, ◌∙◌, ℕ, ◌+◌, ◌-◌, ◌*◌, ◌/◌, ◌%◌, ◌≤◌, List, [], ◌∷◌, ◌++◌, map, Option, refl, sym, ap, subst, arith}
 use Rattle.std.specs.Prelude.{⊤}
-use Rattle.std.specs.List.{AllByRecursion}
+use Rattle.std.specs.List.{AllByRecursion, flat_map}
 use Rattle.theory.specs.Bytes.{Identity}
-use Rattle.theory.specs.Entry.{Entry, IsEntry, entry_end}
+use Rattle.theory.specs.Entry.{Entry, IsEntry, committed, entry_end}
+use Rattle.theory.specs.Placed.{AllAmong}
 use Rattle.theory.specs.Position.{IsGeometry, span}
 use Rattle.theory.specs.Tiling.{InOneTerm, Tiles}
 use Rattle.theory.proofs.Lists.{all_behind}
@@ -18,13 +19,16 @@ use Rattle.log_rule.specs.Claims.Sums.{total}
 use Rattle.log_rule.proofs.Claimed.Totals.{extent_of, none_behind, tiles_up}
 use Rattle.shared_log.specs.Books.{HasEntries, weight_in}
 use Rattle.shared_log.specs.Handles.{LogValue}
+use Rattle.shared_log.specs.Readers.{known_of}
+use Rattle.sender_meaning.specs.Lives.{IsSpelled, LogCore, SendsStream, source_in}
 use Rattle.options.specs.declared.ends.plans.PublishPlan.{PublishPlan}
-use Rattle.offering.specs.Published.{Publishes, Taken, claim_of}
+use Rattle.offering.specs.Published.{Publishes, Taken, claim_of, frames_in}
 use Rattle.offering.specs.Published.Taken.{Message, Padding}
 use Rattle.publisher.specs.Ended.{PublishesAll}
 use Rattle.publisher.specs.Openings.{HasNone}
 use Rattle.channel_meaning.specs.Books.{IsAllOfIt, PublishesAllOfIt, WritesAllOfIt, entries_in, stream_in}
 use Rattle.channel_meaning.specs.Streams.{WritesWhatIsRead, entry_of}
+use Rattle.channel_meaning.proofs.Committed.{all_known}
 use Rattle.channel_meaning.proofs.Streams.{all_messages}
 
 -- ---- what is weighed: by where an entry begins and how it is cut

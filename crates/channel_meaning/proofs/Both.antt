@@ -1,21 +1,16 @@
 -- What a subscriber writes of what a publisher read.
-use Rattle.std.proofs.Common.{◌≡◌, ◌∙◌, ℕ, ℤ, ◌≤◌, List, [], ◌∷◌, ◌++◌, Option, None, Some, refl, sym, ap, subst, append-nil, arith}
+use Rattle.std.proofs.Common.{◌≡◌, ◌∙◌, ℕ, ℤ, ◌≤◌, List, [], ◌∷◌, ◌++◌, Option, None, Some, sym, ap, subst, arith}
 use Rattle.std.specs.Prelude.{negsuc}
 use Rattle.std.specs.List.{AllByRecursion}
-use Rattle.theory.specs.Control.{setup_fields}
-use Rattle.theory.specs.Laws.{HasOneReading}
 use Rattle.theory.specs.Messages.{messages}
 use Rattle.theory.specs.Placed.{Among}
-use Rattle.theory.specs.Wire.{IsFrame, SETUP, Wire, spelling}
+use Rattle.theory.specs.Wire.{SETUP, spelling}
 use Rattle.theory.proofs.Lists.{all_at, all_from}
-use Rattle.theory.proofs.Readings.{stands_alone}
 use Rattle.options.specs.declared.ends.plans.SubscribePlan.{SubscribePlan}
 use Rattle.receiver.specs.Receiving.{Opened, TakesDatagram, listening}
 use Rattle.receiver.specs.Lives as meant
 use Rattle.receiver.specs.Lives.{IsHonest, IsStream, PollsARun, Stream}
-use Rattle.sender_meaning.specs.Lives.{GivesHonest, IsSpelled, given_in}
-use Rattle.sender_meaning.proofs.Honest.{IsGiven, honest_given}
-use Rattle.sender_meaning.proofs.Spelled.{setup_framed}
+use Rattle.sender_meaning.specs.Lives.{GivesHonest, IsSpelled, SetupsAreHonest, given_in}
 use Rattle.subscription.specs.Meetings.{id_of, window_in}
 use Rattle.subscriber.specs.Living.{AreLives, Life}
 use Rattle.channel_meaning.specs.Streams.{GivesRun, IsFromIt, PublishesItsStream, StandsFrom, WritesWhatIsRead, farewell}
@@ -34,16 +29,8 @@ stands x is read same (Some o) given h =
 
 -- ---- what was handed over is honest
 
-farewell_framed : (x : Stream) → IsStream x → IsSpelled x → IsFrame (SETUP (record (setup_fields x.identity x.tail) { ttl = negsuc 0 }))
-farewell_framed x is spelled = let s = setup_framed x.identity x.tail is.geometry spelled.ids in (s.0, s.1, s.2, s.3, s.4, s.5, s.6, record { sfits = omega arith })
-
-farewell_given : (x : Stream) → IsStream x → IsSpelled x → IsGiven x (SETUP (record (setup_fields x.identity x.tail) { ttl = negsuc 0 }) ∷ [])
-farewell_given x is spelled = record { stands = stands_alone (SETUP (record (setup_fields x.identity x.tail) { ttl = negsuc 0 })); frames = (farewell_framed x is spelled, tt); honest = ((λ its. (x.tail, is.tail_low, refl)), tt) }
-
-farewell_honest : HasOneReading → (x : Stream) → IsStream x → IsSpelled x → IsHonest x (farewell x)
-farewell_honest law x is spelled =
-    let f : Wire = SETUP (record (setup_fields x.identity x.tail) { ttl = negsuc 0 }) in
-    subst (IsHonest x) (append-nil (spelling f)) (honest_given law x ((f ∷ []) ∷ []) (farewell_given x is spelled, tt)).0
+farewell_honest : SetupsAreHonest → (x : Stream) → IsStream x → IsSpelled x → IsHonest x (farewell x)
+farewell_honest law x is spelled = law x is spelled x.tail is.tail_low (negsuc 0) (record { sfits = omega arith })
 
 each_runs : PollsARun → (x : Stream) → IsStream x → (read : List (List ℕ)) → messages x.start x.tail x.entries ≡ read → (sent : List (List ℕ)) → IsHonest x (farewell x) → AllByRecursion (IsHonest x) sent
     → (plan : SubscribePlan) (images : List Life) → AreLives plan images → AllByRecursion (IsFromIt x sent) images → AllByRecursion (GivesRun x read plan) images
@@ -68,7 +55,7 @@ each_runs law x is read same sent last honest plan (l ∷ older) all from =
       each_runs law x is read same sent last honest plan older all.3 from.1,
     )
 
-pub writes_what_is_read : HasOneReading → PublishesItsStream → GivesHonest → PollsARun → WritesWhatIsRead
+pub writes_what_is_read : SetupsAreHonest → PublishesItsStream → GivesHonest → PollsARun → WritesWhatIsRead
 writes_what_is_read one published gives law x is spelled p q tail to read h its s t sent sends lives known plan before after count w from =
     let same = published p q tail to read h x is its in record {
       published = same;

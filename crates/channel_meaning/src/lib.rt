@@ -22,8 +22,7 @@ ghost use Rattle.channel_meaning.specs.Tallies.{TalliesAll};
 
 use receiver::polls_a_run;
 use run_parties::gives_a_run;
-use sender_meaning::gives_honest;
-use theory::one_spelling;
+use sender_meaning::{gives_honest, setups_are_honest};
 
 /// A law: the messages of the stream that a pass published are those that were read.
 pub fn publishes_its_stream()
@@ -41,7 +40,7 @@ pub fn writes_what_is_read()
     ensures { WritesWhatIsRead }
 {
     // Laws that the proof cites.
-    one_spelling();
+    setups_are_honest();
     publishes_its_stream();
     gives_honest();
     polls_a_run();

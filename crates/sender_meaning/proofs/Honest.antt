@@ -1,22 +1,22 @@
 -- Datagrams of a stream's committed frames, its SETUPs and its heartbeats are honest for it.
-use Rattle.std.proofs.Common.{◌≡◌, ℕ, ◌%◌, ◌≤◌, List, [], ◌∷◌, ◌++◌, map, Bool, true, false, Option, None, Some, ⊎_elim, refl, sym, subst}
+use Rattle.std.proofs.Common.{◌≡◌, ℕ, ◌%◌, ◌≤◌, List, [], ◌∷◌, ◌++◌, map, Bool, true, false, Option, None, Some, ⊎_elim, refl, sym, subst, append-nil}
 use Rattle.std.specs.List.{AllByRecursion, flat_map}
 use Rattle.theory.specs.Bytes.{wire_at}
-use Rattle.theory.specs.Control.{heartbeat_at, setup_at}
+use Rattle.theory.specs.Control.{heartbeat_at, setup_at, setup_fields}
 use Rattle.theory.specs.Datagrams.{frames_of, grouped, sendable, wires}
 use Rattle.theory.specs.Entry.{committed}
 use Rattle.theory.specs.Gap.{Gap}
 use Rattle.theory.specs.Laws.{HasOneReading}
 use Rattle.theory.specs.Placed.{AllAmong, Among, Data, Frame, Pad, Placed}
 use Rattle.theory.specs.Position.{max_position}
-use Rattle.theory.specs.Wire.{IsFrame, StandTogether, SpellsDatagram, Wire, spelling}
+use Rattle.theory.specs.Wire.{IsFrame, SETUP, StandTogether, SpellsDatagram, Wire, spelling}
 use Rattle.theory.proofs.Lists.{all_at, all_behind, all_from, all_front}
 use Rattle.theory.proofs.Readings.{stands_alone}
 use Rattle.model.proofs.Datagrams.{grouped_stand}
 use Rattle.model.proofs.Sizes.{all_take}
 use Rattle.sender.specs.Cycling.{AreRead, GivesAgain, GivesNew, TakesAll, alone, datagrams, heartbeats, setups}
 use Rattle.receiver.specs.Lives.{IsHonest, IsHonestFrame, IsStream, Stream}
-use Rattle.sender_meaning.specs.Lives.{IsSpelled}
+use Rattle.sender_meaning.specs.Lives.{IsSpelled, SetupsAreHonest}
 use Rattle.sender_meaning.proofs.Spelled.{header_framed, setup_framed}
 
 -- frames that stand together, of which each is honest
@@ -41,6 +41,13 @@ setup_given x is spelled p false unit low = tt
 pub beat_given : (x : Stream) → IsStream x → IsSpelled x → (p : ℕ) (beat : Bool) → p % 32 ≡ 0 → AllByRecursion (IsGiven x) (alone (heartbeats x.identity p beat))
 beat_given x is spelled p true unit = (record { stands = stands_alone (heartbeat_at x.identity p); frames = (header_framed x.identity p is.geometry spelled.ids unit, tt); honest = (tt, tt) }, tt)
 beat_given x is spelled p false unit = tt
+
+pub setups_are_honest : HasOneReading → SetupsAreHonest
+setups_are_honest law x is spelled p low ttl fits =
+    let s = setup_framed x.identity p is.geometry spelled.ids in
+    let w : Wire = SETUP (record (setup_fields x.identity p) { ttl = ttl }) in
+    let given : IsGiven x (w ∷ []) = record { stands = stands_alone w; frames = ((s.0, s.1, s.2, s.3, s.4, s.5, s.6, fits), tt); honest = ((λ its. (p, low, refl)), tt) } in
+    subst (IsHonest x) (append-nil (spelling w)) (honest_given law x ((w ∷ []) ∷ []) (given, tt)).0
 
 -- ---- committed frames
 

@@ -1,12 +1,14 @@
 -- The life of a log's sender: what it meets, one thing after the other, and the datagrams that it gives out.
-use Rattle.std.specs.Prelude.{◌≡◌, ◌≤◌, ◌%◌, ◌+ℤ◌, max, true, false, ℕ, ℤ, Bool, List, [], ◌∷◌, ◌++◌}
+use Rattle.std.specs.Prelude.{◌≡◌, ◌≤◌, ◌%◌, ◌+ℤ◌, max, true, false, ℕ, ℤ, Bool, List, [], ◌∷◌, ◌++◌, FitsSigned}
+use Rattle.std.specs.Int.{w32}
 use Rattle.std.specs.List.{AllByRecursion}
 use Rattle.theory.specs.Bytes.{IsIdentity, wire_at}
 use Rattle.theory.specs.Entry.{committed}
 use Rattle.theory.specs.FlowLimit.{clipped}
 use Rattle.theory.specs.Placed.{AllAmong, Among}
 use Rattle.theory.specs.Position.{max_position}
-use Rattle.theory.specs.Wire.{IsFrame}
+use Rattle.theory.specs.Control.{setup_fields}
+use Rattle.theory.specs.Wire.{IsFrame, SETUP, spelling}
 use Rattle.flow_control.specs.Unicast.{Unicast}
 use Rattle.frame_source.specs.Sources.{Source}
 use Rattle.shared_log.specs.Handles.{LogValue}
@@ -104,6 +106,10 @@ GivesHonest =
     (x : Stream) → IsStream x → IsSpelled x
     → (s t : LogCore) (acts : List Act) → SendsStream x s → Lives s acts t → AllAmong (committed x.entries) (source_in t.reads).frames
     → AllByRecursion (IsHonest x) (given_in acts) × SendsStream x t
+
+-- a SETUP that names a position of the stream is so, whatever time to live it tells
+abbrev pub SetupsAreHonest : Type 0
+SetupsAreHonest = (x : Stream) → IsStream x → IsSpelled x → (p : ℕ) → p ≤ max_position x.identity.geometry → (ttl : ℤ) → FitsSigned w32 ttl → IsHonest x (spelling (SETUP (record (setup_fields x.identity p) { ttl = ttl })))
 
 -- ---- both ends
 

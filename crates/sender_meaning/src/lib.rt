@@ -3,12 +3,13 @@
 //!
 //! A sender lives by what it meets: datagrams and moments that it is handed, at each of which it gives datagrams out
 //! (`Lives`). Where all frames that it knows of its log are committed frames of a stream, whatever it heard, each datagram
-//! that it gave out is honest for that stream, as `receiver` has it (`gives_honest`): each DATA frame and padding is
+//! that it gave out is honest for that stream, as `receiver` has it (`gives_honest`), and so is a farewell
+//! (`setups_are_honest`): each DATA frame and padding is
 //! a committed frame of it, in its place, and each SETUP names its shape. So a subscriber that was handed nothing but such
 //! datagrams, in any order and each any number of times, polls a run of the stream (`polls_what_is_sent`).
 #![tactic(auto)]
 
-ghost use Rattle.sender_meaning.specs.Lives.{GivesHonest, KeepsItsReader, PollsWhatIsSent};
+ghost use Rattle.sender_meaning.specs.Lives.{GivesHonest, KeepsItsReader, PollsWhatIsSent, SetupsAreHonest};
 
 use receiver::polls_a_run;
 use theory::one_spelling;
@@ -16,6 +17,14 @@ use theory::one_spelling;
 /// A law: what a sender gives out is honest for its stream.
 pub fn gives_honest()
     ensures { GivesHonest }
+{
+    // A law that the proof cites.
+    one_spelling();
+}
+
+/// A law: a SETUP of the stream's shape and of a position of it is honest for it, whatever its time to live, as a farewell is.
+pub fn setups_are_honest()
+    ensures { SetupsAreHonest }
 {
     // A law that the proof cites.
     one_spelling();
