@@ -82,6 +82,13 @@ room_after v w p k count xs room puts fit =
       room = omega (arith, patch_length room.words k xs, room.room);
     }
 
+-- each of the words has its place there, and the room stays where one of them is stored
+pub word_in_room : (v : Pass) (p q i count : ℕ) → HasRoom v p count → 1 ≤ i → i < count → q ≡ p + 8 * i → HasWord v 1 q
+word_in_room v p q i count room one low at = has_word v v p i q count [] one room (puts_none v p i) (omega (arith, low)) (omega (arith, at))
+
+pub room_stored : (v w : Pass) (p q i x count : ℕ) → HasRoom v p count → 1 ≤ i → i < count → q ≡ p + 8 * i → Stores v q x w → HasRoom w p count
+room_stored v w p q i x count room one low at told = room_after v w p i count (x ∷ []) room (puts_more v v w p i q x [] one (puts_none v p i) (omega (arith, at)) told) (omega (arith, low))
+
 pub begins_after : (v : Pass) (p count : ℕ) → 0 < count → HasRoom v p count → BeginsFrame v p
 begins_after v p count some room = record { front = room.front; draft = frame p room.cut room.words; behind = room.behind; parts = room.parts; inside = omega (arith, room.room); position = refl }
 
@@ -92,35 +99,38 @@ blank_room v p cut count fit b = record { front = b.front; cut = cut; words = re
 pub puts_call : (v w : Pass) (p k count : ℕ) (xs : List ℕ) → HasRoom v p count → k + length xs ≤ count → Puts v p k xs w → w.call ≡ v.call
 puts_call v w p k count xs room fit puts = ap (λ (u : Pass). u.call) (puts room.front room.cut room.words room.behind room.parts (omega (arith, room.room)))
 
+-- a header's words, and those behind them
+pub puts_both : (v w x : Pass) (p b c d : ℕ) (ps : List ℕ) → Puts v p 1 (b ∷ c ∷ d ∷ []) w → Puts w p 4 ps x → Puts v p 1 (b ∷ c ∷ d ∷ ps) x
+puts_both v w x p b c d ps one two front cut words behind parts room =
+    let e : w ≡ with_work v.work.frames (front ++ frame p cut (patch words 1 (b ∷ c ∷ d ∷ [])) ∷ behind) v = one front cut words behind parts (omega (arith, room)) in
+    let f : x ≡ with_work w.work.frames (front ++ frame p cut (patch (patch words 1 (b ∷ c ∷ d ∷ [])) 4 ps) ∷ behind) w =
+    two front cut (patch words 1 (b ∷ c ∷ d ∷ [])) behind (ap (λ (u : Pass). u.work.drafts) e) (omega (arith, room, patch_length words 1 (b ∷ c ∷ d ∷ []))) in
+    f ∙ ap (λ (u : Pass). with_work u.work.frames (front ++ frame p cut (patch (patch words 1 (b ∷ c ∷ d ∷ [])) 4 ps) ∷ behind) u) e
+
 -- a header, a payload and the first word make a frame
-pub filled : (v w x y : Pass) (p first m : ℕ) (f : Frame) (b c d : ℕ) (ps : List ℕ) → aligned (frame_length f) / 8 ≡ suc (suc (suc (suc m))) → length ps ≤ m → frame_words v.identity p f ≡ first ∷ b ∷ c ∷ d ∷ (ps ++ replicate (m - length ps) 0)
-    → Puts v p 1 (b ∷ c ∷ d ∷ []) w → Puts w p 4 ps x → Commits x p first y → Fills v p f y
-filled v w x y p first m f b c d ps long short words one two told front behind parts =
+pub filled : (v x y : Pass) (p first m : ℕ) (f : Frame) (b c d : ℕ) (ps : List ℕ) → aligned (frame_length f) / 8 ≡ suc (suc (suc (suc m))) → length ps ≤ m → frame_words v.identity p f ≡ first ∷ b ∷ c ∷ d ∷ (ps ++ replicate (m - length ps) 0)
+    → Puts v p 1 (b ∷ c ∷ d ∷ ps) x → Commits x p first y → Fills v p f y
+filled v x y p first m f b c d ps long short words one told front behind parts =
     let zs : List ℕ = 0 ∷ 0 ∷ 0 ∷ 0 ∷ replicate m 0 in
     let size : length zs ≡ suc (suc (suc (suc m))) = ap (λ (n : ℕ). suc (suc (suc (suc n)))) (length-replicate m 0) in
     let e0 : v.work.drafts ≡ front ++ frame p (frame_length f) (0 ∷ 0 ∷ 0 ∷ 0 ∷ replicate m 0) ∷ behind = parts ∙ ap (λ (n : ℕ). front ++ frame p (frame_length f) (replicate n 0) ∷ behind) long in
-    let e1 : w ≡ with_work v.work.frames (front ++ frame p (frame_length f) (patch zs 1 (b ∷ c ∷ d ∷ [])) ∷ behind) v = one front (frame_length f) zs behind e0 (omega (arith, size)) in
-    let e2 : x ≡ with_work w.work.frames (front ++ frame p (frame_length f) (patch (patch zs 1 (b ∷ c ∷ d ∷ [])) 4 ps) ∷ behind) w =
-    two front (frame_length f) (patch zs 1 (b ∷ c ∷ d ∷ [])) behind (ap (λ (u : Pass). u.work.drafts) e1) (omega (arith, size, patch_length zs 1 (b ∷ c ∷ d ∷ []))) in
+    let e2 : x ≡ with_work v.work.frames (front ++ frame p (frame_length f) (patch (patch zs 1 (b ∷ c ∷ d ∷ [])) 4 ps) ∷ behind) v = one front (frame_length f) zs behind e0 (omega (arith, size, short)) in
     let e3 : y ≡ with_work (x.work.frames ++ written (frame p (frame_length f) (patch (patch zs 1 (b ∷ c ∷ d ∷ [])) 4 ps)) 0 first ∷ []) (front ++ behind) x =
     told front (frame p (frame_length f) (patch (patch zs 1 (b ∷ c ∷ d ∷ [])) 4 ps)) behind (ap (λ (u : Pass). u.work.drafts) e2) (omega (arith, size, patch_length zs 1 (b ∷ c ∷ d ∷ []), patch_length (patch zs 1 (b ∷ c ∷ d ∷ [])) 4 ps)) refl in
     let all : set (patch (patch zs 1 (b ∷ c ∷ d ∷ [])) 4 ps) 0 first ≡ frame_words v.identity p f = patch_all first b c d m ps short ∙ sym words in
     e3
     ∙ ap (λ (u : Pass). with_work (u.work.frames ++ frame p (frame_length f) (set (patch (patch zs 1 (b ∷ c ∷ d ∷ [])) 4 ps) 0 first) ∷ []) (front ++ behind) u) e2
-    ∙ ap (λ (u : Pass). with_work (u.work.frames ++ frame p (frame_length f) (set (patch (patch zs 1 (b ∷ c ∷ d ∷ [])) 4 ps) 0 first) ∷ []) (front ++ behind) u) e1
     ∙ ap (λ (l : List ℕ). with_work (v.work.frames ++ frame p (frame_length f) l ∷ []) (front ++ behind) v) all
 
 -- and before the first word is stored they lack nothing but it
-pub completed : (v w x : Pass) (p first m : ℕ) (f : Frame) (b c d : ℕ) (ps : List ℕ) → aligned (frame_length f) / 8 ≡ suc (suc (suc (suc m))) → length ps ≤ m → frame_words v.identity p f ≡ first ∷ b ∷ c ∷ d ∷ (ps ++ replicate (m - length ps) 0)
-    → HasBlank v p (frame_length f) → IsLegal (geometry_of v) f → Puts v p 1 (b ∷ c ∷ d ∷ []) w → Puts w p 4 ps x → CompletesFrame x p first
-completed v w x p first m f b c d ps long short words blank legal one two =
+pub completed : (v x : Pass) (p first m : ℕ) (f : Frame) (b c d : ℕ) (ps : List ℕ) → aligned (frame_length f) / 8 ≡ suc (suc (suc (suc m))) → length ps ≤ m → frame_words v.identity p f ≡ first ∷ b ∷ c ∷ d ∷ (ps ++ replicate (m - length ps) 0)
+    → HasBlank v p (frame_length f) → IsLegal (geometry_of v) f → Puts v p 1 (b ∷ c ∷ d ∷ ps) x → CompletesFrame x p first
+completed v x p first m f b c d ps long short words blank legal one =
     let zs : List ℕ = 0 ∷ 0 ∷ 0 ∷ 0 ∷ replicate m 0 in
     let size : length zs ≡ suc (suc (suc (suc m))) = ap (λ (n : ℕ). suc (suc (suc (suc n)))) (length-replicate m 0) in
     let e0 : v.work.drafts ≡ blank.front ++ frame p (frame_length f) (0 ∷ 0 ∷ 0 ∷ 0 ∷ replicate m 0) ∷ blank.behind = blank.parts ∙ ap (λ (n : ℕ). blank.front ++ frame p (frame_length f) (replicate n 0) ∷ blank.behind) long in
-    let e1 : w ≡ with_work v.work.frames (blank.front ++ frame p (frame_length f) (patch zs 1 (b ∷ c ∷ d ∷ [])) ∷ blank.behind) v = one blank.front (frame_length f) zs blank.behind e0 (omega (arith, size)) in
-    let e2 : x ≡ with_work w.work.frames (blank.front ++ frame p (frame_length f) (patch (patch zs 1 (b ∷ c ∷ d ∷ [])) 4 ps) ∷ blank.behind) w =
-    two blank.front (frame_length f) (patch zs 1 (b ∷ c ∷ d ∷ [])) blank.behind (ap (λ (u : Pass). u.work.drafts) e1) (omega (arith, size, patch_length zs 1 (b ∷ c ∷ d ∷ []))) in
-    let same : x.identity ≡ v.identity = ap (λ (u : Pass). u.identity) e2 ∙ ap (λ (u : Pass). u.identity) e1 in
+    let e2 : x ≡ with_work v.work.frames (blank.front ++ frame p (frame_length f) (patch (patch zs 1 (b ∷ c ∷ d ∷ [])) 4 ps) ∷ blank.behind) v = one blank.front (frame_length f) zs blank.behind e0 (omega (arith, size, short)) in
+    let same : x.identity ≡ v.identity = ap (λ (u : Pass). u.identity) e2 in
     record {
       front = blank.front;
       draft = frame p (frame_length f) (patch (patch zs 1 (b ∷ c ∷ d ∷ [])) 4 ps);

@@ -28,9 +28,9 @@ module _ {L P : Type 0} (took : L → P → L → P → List WordStep → ℕ �
   pub took_first : (l : L) (p : P) (m : L) (q : P) (x : WordStep) → took l p m q (x ∷ []) 0 → (pass_of m q).call ≡ x ∷ [] → TookCall took pass_of l p m q 0
   took_first l p m q x t e = subst (λ (xs : List WordStep). took l p m q xs 0) (sym e) t
 
-  -- a store
-  pub took_store : (l : L) (p : P) (m : L) (q : P) → took l p m q [] 1 → (pass_of m q).call ≡ (pass_of l p).call → TookMore took pass_of l p m q 1
-  took_store l p m q t e = record { noted = []; steps = t; call = e ∙ sym (append-nil (pass_of l p).call) }
+  -- so many stores
+  pub took_stores : (l : L) (p : P) (m : L) (q : P) (n : ℕ) → took l p m q [] n → (pass_of m q).call ≡ (pass_of l p).call → TookMore took pass_of l p m q n
+  took_stores l p m q n t e = record { noted = []; steps = t; call = e ∙ sym (append-nil (pass_of l p).call) }
 
   module _ (more : (l : L) (p : P) (m : L) (q : P) (n : L) (r : P) (xs ys : List WordStep) (a b : ℕ) → took l p m q xs a → took m q n r ys b → took l p n r (xs ++ ys) (a + b)) where
     pub took_more : (l : L) (p : P) (m : L) (q : P) (n : L) (r : P) (a b c : ℕ) → TookMore took pass_of l p m q a → TookMore took pass_of m q n r b → a + b ≡ c → TookMore took pass_of l p n r c
@@ -55,9 +55,9 @@ module _ {L P I : Type 0} (fits : L → P → Type 0) (pass_of : L → P → Pas
   pub goes_by : (l : L) (p : P) (m : L) (q : P) (x : WordStep) → Moved fits pass_of name id l p m q → took l p m q (x ∷ []) 0 → (pass_of m q).call ≡ (pass_of l p).call ++ x ∷ [] → PartOfCall fits pass_of name id took l p m q (exactly 0)
   goes_by l p m q x a t e = record { moved = a; took = took_call took pass_of l p m q x t e }
 
-  -- a store
-  pub goes_storing : (l : L) (p : P) (m : L) (q : P) → Moved fits pass_of name id l p m q → took l p m q [] 1 → (pass_of m q).call ≡ (pass_of l p).call → PartOfCall fits pass_of name id took l p m q (exactly 1)
-  goes_storing l p m q a t e = record { moved = a; took = took_store took pass_of l p m q t e }
+  -- so many stores
+  pub goes_storing : (l : L) (p : P) (m : L) (q : P) (n : ℕ) → Moved fits pass_of name id l p m q → took l p m q [] n → (pass_of m q).call ≡ (pass_of l p).call → PartOfCall fits pass_of name id took l p m q (exactly n)
+  goes_storing l p m q n a t e = record { moved = a; took = took_stores took pass_of l p m q n t e }
 
   module _ (more : (l : L) (p : P) (m : L) (q : P) (n : L) (r : P) (xs ys : List WordStep) (a b : ℕ) → took l p m q xs a → took m q n r ys b → took l p n r (xs ++ ys) (a + b)) where
     pub goes_further : (l : L) (p : P) (m : L) (q : P) (n : L) (r : P) (a b c : Pass → Pass → ℕ) → PartOfCall fits pass_of name id took l p m q a → PartOfCall fits pass_of name id took m q n r b → a (pass_of l p) (pass_of m q) + b (pass_of m q) (pass_of n r) ≡ c (pass_of l p) (pass_of n r) → PartOfCall fits pass_of name id took l p n r c

@@ -1,61 +1,32 @@
 //! Frames, stored into open claims.
 
-ghost use Rattle.std.specs.Prelude.{◌≡◌, ◌+◌, ◌-◌, ◌*◌, ◌/◌, ◌^◌, ◌<◌, ◌≤◌, ◌∷◌, [], length, true};
+ghost use Rattle.std.specs.Prelude.{◌≡◌, ◌+◌, ◌-◌, ◌^◌, ◌<◌, ◌≤◌, ◌∷◌, [], length, true};
 ghost use Rattle.theory.specs.Position.{aligned, cuts_of, framed_length, max_message, max_position};
 ghost use Rattle.theory.specs.Placed.{Data, Pad};
 ghost use Rattle.theory.specs.Wire.{IsDataFlags};
-ghost use Rattle.frame_words.specs.Words.{header_words, payload_words};
+ghost use Rattle.frame_words.specs.Words as said;
 ghost use Rattle.publication.specs.Frames.{frame_flags, stored_words};
 ghost use Rattle.publication.specs.Claims.{Fills, HasBlank, PartOfCall, exactly, message_words};
-ghost use Rattle.publication.specs.Offers.{FillsAll, HasBlanks, HasRoom, Puts};
+ghost use Rattle.publication.specs.Offers.{FillsAll, HasBlanks};
 
 use crate::order::InOrder;
 use crate::words::WordCalls;
-use frame_words::{first_word, last_word, pair_word, whole_word};
+use frame_words::{first_word, pair_word};
 use position::{BEGIN, END, Identity, UNFRAGMENTED};
 
-/// Stores the words of a frame's header behind the first one.
+/// The second and the third word of a header at a position; the fourth one is zero.
 #[inline(always)]
-fn put_header<W: WordCalls>(words: &mut W, pass: &mut W::Pass, identity: &Identity, start: u64)
-    requires fits { W.fits words.old pass.old }
-    requires in_stream { start ≤ max_position identity.now.geometry }
-    requires room { HasRoom (W.pass_of words.old pass.old) start 4 }
-    ensures part { PartOfCall W.fits W.pass_of W.name W.id W.took words.old pass.old words.new pass.new (exactly 3) }
-    ensures puts { Puts (W.pass_of words.old pass.old) start 1 (header_words identity.now start) (W.pass_of words.new pass.new) }
+fn header_words(identity: &Identity, start: u64) -> (u64, u64)
+    requires { start ≤ max_position identity.now.geometry }
+    ensures words { said.header_words identity.now start ≡ result.0 ∷ result.1 ∷ 0 ∷ [] }
     ensures below { start < 2 ^ 56 }
 {
     let place = identity.geometry().term_of(start);
     let session = identity.session().cast_unsigned();
     let stream = identity.stream().cast_unsigned();
-    let first = pair_word(place.offset, session);
-    let second = pair_word(stream, place.term_id.cast_unsigned());
-    words.store_word(pass, start + 8, first);
-    words.store_word(pass, start + 16, second);
-    words.store_word(pass, start + 24, 0);
-}
-
-/// Stores a payload's words behind a header, the last of them with zeros up to its end.
-#[inline(always)]
-fn put_payload<W: WordCalls>(words: &mut W, pass: &mut W::Pass, start: u64, payload: &[u8])
-    requires fits { W.fits words.old pass.old }
-    requires below { start < 2 ^ 56 }
-    requires short { length payload.now < 2 ^ 32 }
-    requires room { HasRoom (W.pass_of words.old pass.old) start (4 + (length payload.now + 7) / 8) }
-    ensures part { PartOfCall W.fits W.pass_of W.name W.id W.took words.old pass.old words.new pass.new (exactly ((length payload.now + 7) / 8)) }
-    ensures puts { Puts (W.pass_of words.old pass.old) start 4 (payload_words payload.now) (W.pass_of words.new pass.new) }
-{
-    let whole = payload.len() / 8;
-    for index in 0..whole {
-        let at = 8 * index;
-        let word = whole_word(payload, at);
-        words.store_word(pass, start + 32 + at as u64, word);
-    }
-    let at = 8 * whole;
-    if at == payload.len() {
-        return;
-    }
-    let word = last_word(payload, at);
-    words.store_word(pass, start + 32 + at as u64, word);
+    let second = pair_word(place.offset, session);
+    let third = pair_word(stream, place.term_id.cast_unsigned());
+    (second, third)
 }
 
 /// Writes and commits a data frame into an open frame of its length, of which nothing is stored.
@@ -77,8 +48,8 @@ pub(crate) fn write_data<W: WordCalls>(
 {
     let identity = words.identity(pass);
     let _ = identity.geometry();
-    put_header(words, pass, &identity, start);
-    put_payload(words, pass, start, payload);
+    let (second, third) = header_words(&identity, start);
+    words.store_body(pass, start, second, third, payload);
     let word = first_word(false, flags, payload.len() as u32 + 32);
     words.commit(&InOrder::new(), pass, start, word);
 }
@@ -100,7 +71,8 @@ pub(crate) fn write_padding<W: WordCalls>(
     ensures fills { Fills (W.pass_of words.old pass.old) start (Pad frame_length) (W.pass_of words.new pass.new) }
 {
     let identity = words.identity(pass);
-    put_header(words, pass, &identity, start);
+    let (second, third) = header_words(&identity, start);
+    words.store_body(pass, start, second, third, &[]);
     let word = first_word(true, UNFRAGMENTED, frame_length);
     words.commit(&InOrder::new(), pass, start, word);
 }

@@ -13,3 +13,4 @@ mod Shares
 mod Owned
 mod Gathered
 mod Together
+mod Storing

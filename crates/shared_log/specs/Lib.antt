@@ -8,3 +8,4 @@ pub mod Books
 pub mod Meets
 pub mod Faults
 pub mod Whole
+pub mod Rows

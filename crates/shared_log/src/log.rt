@@ -250,24 +250,22 @@ impl Log {
         words.compare_exchange::<ExchangeCount>(&mut publisher.seat, COUNT, from, from + 1) as u32
     }
 
-    /// Stores a word of an open frame that isn't its first.
+    /// Stores a word of an open frame that isn't its first, at its place.
     #[inline(always)]
     pub(crate) fn store_as<N: Chosen>(
         &self,
-        ring: &mut Ring,
         publisher: &mut Publisher,
+        place: usize,
         position: u64,
         word: u64,
     )
         requires fits { IsOf self.now publisher.old }
-        requires ring { ring.old ≡ ring_of self.now.identity.geometry }
+        requires there { place ≡ slot self.now.identity.geometry position }
         requires inside { HasWord publisher.old.pass 1 position }
         requires chosen { N.number ≡ position }
         ensures stepped { Stepped [] publisher.old publisher.new }
         ensures told { Stores publisher.old.pass position word publisher.new.pass }
-        ensures same { ring.new ≡ ring.old }
     {
-        let place = self.slot_of(ring, position);
         let words = &self.table.shared;
         words.store::<Store<N>>(&mut publisher.seat, place, word);
     }

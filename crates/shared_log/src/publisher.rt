@@ -4,3 +4,4 @@ pub(crate) mod calls;
 pub(crate) mod meeting;
 pub(crate) mod numbering;
 pub(crate) mod retiring;
+pub(crate) mod storing;

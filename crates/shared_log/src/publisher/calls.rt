@@ -6,6 +6,7 @@ ghost use Rattle.shared_log.specs.Handles.{IsOf, LogValue};
 ghost use Rattle.log_rule.specs.Claims.Leading.{took_more, took_none};
 
 use crate::log::{Log, Publisher};
+use crate::publisher::storing::store_behind;
 use log_rule::Ring;
 use position::Identity;
 use publication::{InOrder, WordCalls};
@@ -105,9 +106,16 @@ impl<'a> WordCalls for OnLog<'a> {
     }
 
     #[inline(always)]
-    fn store_word(&mut self, pass: &mut Publisher, position: u64, word: u64) {
+    fn store_body(
+        &mut self,
+        pass: &mut Publisher,
+        start: u64,
+        second: u64,
+        third: u64,
+        payload: &[u8],
+    ) {
         let log = self.log;
-        log.store_as::<Brand>(&mut self.ring, pass, position, word);
+        store_behind(log, &mut self.ring, pass, start, second, third, payload);
     }
 
     #[inline(always)]

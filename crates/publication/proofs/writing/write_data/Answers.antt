@@ -1,39 +1,51 @@
-use Rattle.std.proofs.Common.{◌≡◌, ◌+◌, ◌/◌, ◌≤◌, [], ◌∷◌, arith, refl, sym, subst, length}
+use Rattle.std.proofs.Common.{◌≡◌, ℕ, ◌+◌, ◌/◌, ◌≤◌, List, [], ◌∷◌, ◌++◌, arith, sym, subst, length}
 use Rattle.theory.specs.Bytes.{Identity}
 use Rattle.theory.specs.Position.{max_position}
 use Rattle.frame_words.specs.Words.{header_words, payload_words}
+use Rattle.publication.specs.declared.pass.Pass.{Pass}
 use Rattle.publication.specs.Frames.{stored_words}
-use Rattle.publication.specs.Claims.{exactly}
-use Rattle.publication.specs.Offers.{Puts}
+use Rattle.publication.specs.Claims.{HasBlank, exactly}
+use Rattle.publication.specs.Offers.{HasRoom, Puts}
 use Rattle.publication.proofs.Steppings.{goes_further, goes_storing}
-use Rattle.publication.proofs.Patches.{begins_after, blank_room, room_after}
+use Rattle.publication.proofs.Patches.{begins_after, blank_room, puts_call, room_after}
 use Rattle.frame_words.proofs.Wordings.{words_length}
 use Rattle.frame_words.proofs.Fields.{all_bytes}
-use Rattle.publication.proofs.Filling.{commits_call, data_completed, data_filled, data_first}
+use Rattle.publication.proofs.Filling.{commits_call, data_completed, data_filled, data_first, header_put}
 use Rattle.publication.proofs.writing.write_data.Goals as goal
 
-pub put_header-requires-clause-in_stream : goal.put_header-requires-clause-in_stream
-put_header-requires-clause-in_stream g c = subst (λ (i : Identity). c.args.start ≤ max_position i.geometry) (sym c.identity-identity.ensures) c.requires.in_stream
+room_of : (v : Pass) (start : ℕ) (payload : List ℕ) → HasBlank v start (32 + length payload) → HasRoom v start (4 + (length payload + 7) / 8)
+room_of v start payload blank = blank_room v start (32 + length payload) (4 + (length payload + 7) / 8) (omega arith) blank
 
-pub put_header-requires-clause-room : goal.put_header-requires-clause-room
-put_header-requires-clause-room g c = blank_room (g.W.WordCalls.pass_of c.args.words.now c.args.pass.now) c.args.start (32 + length c.args.payload.now) 4 (omega arith) c.requires.blank
+fit : (a b : ℕ) (payload : List ℕ) → 1 + length (a ∷ b ∷ 0 ∷ payload_words payload) ≤ 4 + (length payload + 7) / 8
+fit a b payload = let size = words_length ((length payload + 7) / 8) payload in omega (arith, size)
 
-pub put_payload-requires-clause-room : goal.put_payload-requires-clause-room
-put_payload-requires-clause-room g c = (room_after (g.W.WordCalls.pass_of c.args.words.now c.args.pass.now) (g.W.WordCalls.pass_of c.put_header.new.words c.put_header.new.pass) c.args.start 1 (4 + (length c.args.payload.now + 7) / 8) (header_words (g.W.WordCalls.pass_of c.args.words.now c.args.pass.now).identity c.args.start) (blank_room (g.W.WordCalls.pass_of c.args.words.now c.args.pass.now) c.args.start (32 + length c.args.payload.now) (4 + (length c.args.payload.now + 7) / 8) (omega arith) c.requires.blank) (subst (λ (i : Identity). Puts (g.W.WordCalls.pass_of c.args.words.now c.args.pass.now) c.args.start 1 (header_words i c.args.start) (g.W.WordCalls.pass_of c.put_header.new.words c.put_header.new.pass)) c.identity-identity.ensures c.put_header.ensures.puts) (omega arith))
+pub header_words-second-requires : goal.header_words-second-requires
+header_words-second-requires g c = subst (λ (i : Identity). c.args.start ≤ max_position i.geometry) (sym c.identity-identity.ensures) c.requires.in_stream
+
+pub store_body-requires-clause-room : goal.store_body-requires-clause-room
+store_body-requires-clause-room g c = room_of (g.W.WordCalls.pass_of c.args.words.now c.args.pass.now) c.args.start c.args.payload.now c.requires.blank
 
 pub commit-requires-clause-completes : goal.commit-requires-clause-completes
 commit-requires-clause-completes g c =
-    data_completed (g.W.WordCalls.pass_of c.args.words.now c.args.pass.now) (g.W.WordCalls.pass_of c.put_header.new.words c.put_header.new.pass) (g.W.WordCalls.pass_of c.put_payload.new.words c.put_payload.new.pass) c.args.start c.args.flags c.first_word-word.result c.args.payload.now
-    (data_first c.args.payload.now c.args.flags c.first_word-word.result c.first_word-word.ensures.value) c.requires.blank (c.requires.flags, c.requires.short, all_bytes c.args.payload.now (λ i. omega (arith, c.type_inv.payload i))) (subst (λ (i : Identity). Puts (g.W.WordCalls.pass_of c.args.words.now c.args.pass.now) c.args.start 1 (header_words i c.args.start) (g.W.WordCalls.pass_of c.put_header.new.words c.put_header.new.pass)) c.identity-identity.ensures c.put_header.ensures.puts) c.put_payload.ensures.puts
+    let v : Pass = g.W.WordCalls.pass_of c.args.words.now c.args.pass.now in let x : Pass = g.W.WordCalls.pass_of c.store_body.new.self c.store_body.new.pass in
+    let put : Puts v c.args.start 1 (header_words v.identity c.args.start ++ payload_words c.args.payload.now) x = header_put v x c.identity-identity.result c.args.start c.header_words-second.result.0 c.header_words-second.result.1 (payload_words c.args.payload.now) c.identity-identity.ensures c.header_words-second.ensures.words c.store_body.ensures.told in
+    data_completed v x c.args.start c.args.flags c.first_word-word.result c.args.payload.now (data_first c.args.payload.now c.args.flags c.first_word-word.result c.first_word-word.ensures.value) c.requires.blank (c.requires.flags, c.requires.short, all_bytes c.args.payload.now (λ i. omega (arith, c.type_inv.payload i))) put
 
 pub returns-clause-part : goal.returns-clause-part
 returns-clause-part g c =
-    let size : length (payload_words c.args.payload.now) ≡ (length c.args.payload.now + 7) / 8 = words_length ((length c.args.payload.now + 7) / 8) c.args.payload.now in
-    goes_further g.W.WordCalls.fits g.W.WordCalls.pass_of g.W.WordCalls.name g.W.WordCalls.id g.W.WordCalls.took g.met.W.WordCalls.more _ _ _ _ _ _ (exactly (3 + (length c.args.payload.now + 7) / 8)) (exactly 1) (exactly (stored_words ((32 + length c.args.payload.now) ∷ [])))
-    (goes_further g.W.WordCalls.fits g.W.WordCalls.pass_of g.W.WordCalls.name g.W.WordCalls.id g.W.WordCalls.took g.met.W.WordCalls.more _ _ _ _ _ _ (exactly 3) (exactly ((length c.args.payload.now + 7) / 8)) (exactly (3 + (length c.args.payload.now + 7) / 8)) c.put_header.ensures.part c.put_payload.ensures.part refl)
-    (goes_storing g.W.WordCalls.fits g.W.WordCalls.pass_of g.W.WordCalls.name g.W.WordCalls.id g.W.WordCalls.took _ _ _ _ c.commit.ensures.moved c.commit.ensures.took (commits_call (g.W.WordCalls.pass_of c.put_payload.new.words c.put_payload.new.pass) (g.W.WordCalls.pass_of c.commit.new.self c.commit.new.pass) c.args.start c.first_word-word.result (begins_after (g.W.WordCalls.pass_of c.put_payload.new.words c.put_payload.new.pass) c.args.start (4 + (length c.args.payload.now + 7) / 8) (omega arith) (room_after (g.W.WordCalls.pass_of c.put_header.new.words c.put_header.new.pass) (g.W.WordCalls.pass_of c.put_payload.new.words c.put_payload.new.pass) c.args.start 4 (4 + (length c.args.payload.now + 7) / 8) (payload_words c.args.payload.now) (room_after (g.W.WordCalls.pass_of c.args.words.now c.args.pass.now) (g.W.WordCalls.pass_of c.put_header.new.words c.put_header.new.pass) c.args.start 1 (4 + (length c.args.payload.now + 7) / 8) (header_words (g.W.WordCalls.pass_of c.args.words.now c.args.pass.now).identity c.args.start) (blank_room (g.W.WordCalls.pass_of c.args.words.now c.args.pass.now) c.args.start (32 + length c.args.payload.now) (4 + (length c.args.payload.now + 7) / 8) (omega arith) c.requires.blank) (subst (λ (i : Identity). Puts (g.W.WordCalls.pass_of c.args.words.now c.args.pass.now) c.args.start 1 (header_words i c.args.start) (g.W.WordCalls.pass_of c.put_header.new.words c.put_header.new.pass)) c.identity-identity.ensures c.put_header.ensures.puts) (omega arith)) c.put_payload.ensures.puts (omega (arith, size)))) c.commit.ensures.told))
+    let v : Pass = g.W.WordCalls.pass_of c.args.words.now c.args.pass.now in let x : Pass = g.W.WordCalls.pass_of c.store_body.new.self c.store_body.new.pass in
+    let n : ℕ = (length c.args.payload.now + 7) / 8 in let a : ℕ = c.header_words-second.result.0 in let b : ℕ = c.header_words-second.result.1 in
+    let room : HasRoom v c.args.start (4 + n) = room_of v c.args.start c.args.payload.now c.requires.blank in
+    goes_further g.W.WordCalls.fits g.W.WordCalls.pass_of g.W.WordCalls.name g.W.WordCalls.id g.W.WordCalls.took g.met.W.WordCalls.more _ _ _ _ _ _ (exactly (3 + n)) (exactly 1) (exactly (stored_words ((32 + length c.args.payload.now) ∷ [])))
+    (goes_storing g.W.WordCalls.fits g.W.WordCalls.pass_of g.W.WordCalls.name g.W.WordCalls.id g.W.WordCalls.took _ _ _ _ (3 + n) c.store_body.ensures.moved c.store_body.ensures.took
+    (puts_call v x c.args.start 1 (4 + n) (a ∷ b ∷ 0 ∷ payload_words c.args.payload.now) room (fit a b c.args.payload.now) c.store_body.ensures.told))
+    (goes_storing g.W.WordCalls.fits g.W.WordCalls.pass_of g.W.WordCalls.name g.W.WordCalls.id g.W.WordCalls.took _ _ _ _ 1 c.commit.ensures.moved c.commit.ensures.took
+    (commits_call x (g.W.WordCalls.pass_of c.commit.new.self c.commit.new.pass) c.args.start c.first_word-word.result
+    (begins_after x c.args.start (4 + n) (omega arith) (room_after v x c.args.start 1 (4 + n) (a ∷ b ∷ 0 ∷ payload_words c.args.payload.now) room c.store_body.ensures.told (fit a b c.args.payload.now))) c.commit.ensures.told))
     (omega arith)
 
 pub returns-clause-fills : goal.returns-clause-fills
 returns-clause-fills g c =
-    data_filled (g.W.WordCalls.pass_of c.args.words.now c.args.pass.now) (g.W.WordCalls.pass_of c.put_header.new.words c.put_header.new.pass) (g.W.WordCalls.pass_of c.put_payload.new.words c.put_payload.new.pass) (g.W.WordCalls.pass_of c.commit.new.self c.commit.new.pass) c.args.start c.args.flags c.first_word-word.result c.args.payload.now (data_first c.args.payload.now c.args.flags c.first_word-word.result c.first_word-word.ensures.value) (subst (λ (i : Identity). Puts (g.W.WordCalls.pass_of c.args.words.now c.args.pass.now) c.args.start 1 (header_words i c.args.start) (g.W.WordCalls.pass_of c.put_header.new.words c.put_header.new.pass)) c.identity-identity.ensures c.put_header.ensures.puts) c.put_payload.ensures.puts c.commit.ensures.told
+    let v : Pass = g.W.WordCalls.pass_of c.args.words.now c.args.pass.now in let x : Pass = g.W.WordCalls.pass_of c.store_body.new.self c.store_body.new.pass in
+    let put : Puts v c.args.start 1 (header_words v.identity c.args.start ++ payload_words c.args.payload.now) x = header_put v x c.identity-identity.result c.args.start c.header_words-second.result.0 c.header_words-second.result.1 (payload_words c.args.payload.now) c.identity-identity.ensures c.header_words-second.ensures.words c.store_body.ensures.told in
+    data_filled v x (g.W.WordCalls.pass_of c.commit.new.self c.commit.new.pass) c.args.start c.args.flags c.first_word-word.result c.args.payload.now (data_first c.args.payload.now c.args.flags c.first_word-word.result c.first_word-word.ensures.value) put c.commit.ensures.told

@@ -17,7 +17,7 @@ store-requires g c = let me : Mine = c.publisher.inside.seat.me in let v : Pass 
     let shape : v.identity.geometry ≡ c.args.self.now.identity.geometry = ap (λ (i : Identity). i.geometry) (ap (λ (p : Pass). p.identity) vi ∙ c.requires.fits.identity) in (
       search rules,
       search rules,
-      lifted_at _ _ _ (slot v.identity.geometry p) me (λ _. c.args.word) (λ _ w. Stores v p c.args.word w) (λ _. []) c.slot_of-place.result (c.slot_of-place.ensures.is ∙ (λ j. slot (sym shape j) (sym is j))) (data_turns (slot v.identity.geometry p) c.args.word (omega arith)) (inr (data_leaves (slot v.identity.geometry p) c.args.word (omega arith)))
+      lifted_at _ _ _ (slot v.identity.geometry p) me (λ _. c.args.word) (λ _ w. Stores v p c.args.word w) (λ _. []) c.args.place (c.requires.there ∙ (λ j. slot (sym shape j) (sym is j))) (data_turns (slot v.identity.geometry p) c.args.word (omega arith)) (inr (data_leaves (slot v.identity.geometry p) c.args.word (omega arith)))
           (other_spares (slot v.identity.geometry p) (λ _. c.args.word) (λ e. omega arith) (λ j lt e. omega arith)) (λ _ w. stores_goes v p c.args.word w (subst (λ (z : Pass × ℕ). HasWord z.0 1 z.1) (λ j. (sym vi j, sym is j)) c.requires.inside)) (λ b. steps_are_events.store b _ v p c.args.word (subst (λ (z : Pass × ℕ). HasWord z.0 1 z.1) (λ j. (sym vi j, sym is j)) c.requires.inside)),
     )
 

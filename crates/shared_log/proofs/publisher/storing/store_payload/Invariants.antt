@@ -1,0 +1,10 @@
+use Rattle.std.proofs.Common.{◌≡◌}
+use Rattle.frame_words.specs.Words.{words_in}
+use Rattle.publication.specs.Offers.{Puts}
+use Rattle.log_rule.specs.Claims.Packs.{ring_of}
+use Rattle.shared_log.specs.Rows.{StoredWords}
+use Rattle.shared_log.proofs.publisher.storing.store_payload.Given as goal
+
+-- the words so far are stored
+abbrev pub invariant-loop-index : goal.invariant-loop-index
+invariant-loop-index l = (l.ring ≡ ring_of l.log.identity.geometry) × StoredWords l.index l.fn.publisher l.publisher × Puts l.fn.publisher.pass l.row.start 4 (words_in l.index l.payload) l.publisher.pass
