@@ -1,7 +1,8 @@
 //! The words of an open frame are stored behind its first.
 
 ghost use Rattle.std.specs.Prelude.{◌≡◌, ◌+◌, ◌*◌, ◌/◌, ◌^◌, ◌<◌, ◌≤◌, ◌∷◌, [], length};
-ghost use Rattle.frame_words.specs.Words.{payload_words};
+ghost use Rattle.frame_words.specs.Words.{payload_words, words_in};
+ghost use Rattle.publication.specs.declared.pass.Pass.{Pass};
 ghost use Rattle.publication.specs.Steps.{HasWord, Stores};
 ghost use Rattle.publication.specs.Offers.{HasRoom, Puts};
 ghost use Rattle.log_rule.specs.Claims.Handles.{Stepped};
@@ -84,6 +85,93 @@ fn store_header(
     store_word(log, ring, publisher, row, 3, 0);
 }
 
+/// Stores a whole word of a payload behind an open frame's header.
+#[inline(always)]
+fn store_one(
+    log: &Log,
+    ring: &mut Ring,
+    publisher: &mut Publisher,
+    row: Row,
+    payload: &[u8],
+    index: usize,
+)
+    requires fits { IsOf log.now publisher.old }
+    requires ring { ring.old ≡ ring_of log.now.identity.geometry }
+    requires row { IsRow log.now.identity.geometry row (4 + (length payload.now + 7) / 8) }
+    requires inside { 8 * index + 8 ≤ length payload.now }
+    requires room { HasRoom publisher.old.pass row.start (4 + (length payload.now + 7) / 8) }
+    ensures stored { StoredWords 1 publisher.old publisher.new }
+    ensures puts { (before : Pass) → Puts before row.start 4 (words_in index payload.now) publisher.old.pass → Puts before row.start 4 (words_in (index + 1) payload.now) publisher.new.pass }
+    ensures room { HasRoom publisher.new.pass row.start (4 + (length payload.now + 7) / 8) }
+    ensures same { ring.new ≡ ring.old }
+{
+    let word = whole_word(payload, 8 * index);
+    store_word(log, ring, publisher, row, 4 + index as u64, word);
+}
+
+/// Stores four whole words of a payload behind an open frame's header, from one on.
+#[inline(always)]
+fn store_four(
+    log: &Log,
+    ring: &mut Ring,
+    publisher: &mut Publisher,
+    row: Row,
+    payload: &[u8],
+    index: usize,
+)
+    requires fits { IsOf log.now publisher.old }
+    requires ring { ring.old ≡ ring_of log.now.identity.geometry }
+    requires row { IsRow log.now.identity.geometry row (4 + (length payload.now + 7) / 8) }
+    requires inside { 8 * index + 32 ≤ length payload.now }
+    requires room { HasRoom publisher.old.pass row.start (4 + (length payload.now + 7) / 8) }
+    ensures stored { StoredWords 4 publisher.old publisher.new }
+    ensures puts { (before : Pass) → Puts before row.start 4 (words_in index payload.now) publisher.old.pass → Puts before row.start 4 (words_in (index + 4) payload.now) publisher.new.pass }
+    ensures room { HasRoom publisher.new.pass row.start (4 + (length payload.now + 7) / 8) }
+    ensures same { ring.new ≡ ring.old }
+{
+    store_one(log, ring, publisher, row, payload, index);
+    store_one(log, ring, publisher, row, payload, index + 1);
+    store_one(log, ring, publisher, row, payload, index + 2);
+    store_one(log, ring, publisher, row, payload, index + 3);
+}
+
+/// Stores a payload's words behind an open frame's header, as far as they are whole and there are four of them.
+#[inline(always)]
+fn store_fours(log: &Log, ring: &mut Ring, publisher: &mut Publisher, row: Row, payload: &[u8])
+    requires fits { IsOf log.now publisher.old }
+    requires ring { ring.old ≡ ring_of log.now.identity.geometry }
+    requires row { IsRow log.now.identity.geometry row (4 + (length payload.now + 7) / 8) }
+    requires short { length payload.now < 2 ^ 32 }
+    requires room { HasRoom publisher.old.pass row.start (4 + (length payload.now + 7) / 8) }
+    ensures stored { StoredWords (4 * (length payload.now / 32)) publisher.old publisher.new }
+    ensures puts { Puts publisher.old.pass row.start 4 (words_in (4 * (length payload.now / 32)) payload.now) publisher.new.pass }
+    ensures room { HasRoom publisher.new.pass row.start (4 + (length payload.now + 7) / 8) }
+    ensures same { ring.new ≡ ring.old }
+{
+    for unit in 0..payload.len() / 32 {
+        store_four(log, ring, publisher, row, payload, 4 * unit);
+    }
+}
+
+/// Stores the whole words of a payload behind an open frame's header.
+#[inline(always)]
+fn store_whole(log: &Log, ring: &mut Ring, publisher: &mut Publisher, row: Row, payload: &[u8])
+    requires fits { IsOf log.now publisher.old }
+    requires ring { ring.old ≡ ring_of log.now.identity.geometry }
+    requires row { IsRow log.now.identity.geometry row (4 + (length payload.now + 7) / 8) }
+    requires short { length payload.now < 2 ^ 32 }
+    requires room { HasRoom publisher.old.pass row.start (4 + (length payload.now + 7) / 8) }
+    ensures stored { StoredWords (length payload.now / 8) publisher.old publisher.new }
+    ensures puts { Puts publisher.old.pass row.start 4 (words_in (length payload.now / 8) payload.now) publisher.new.pass }
+    ensures room { HasRoom publisher.new.pass row.start (4 + (length payload.now + 7) / 8) }
+    ensures same { ring.new ≡ ring.old }
+{
+    store_fours(log, ring, publisher, row, payload);
+    for index in 4 * (payload.len() / 32)..payload.len() / 8 {
+        store_one(log, ring, publisher, row, payload, index);
+    }
+}
+
 /// Stores the words of a payload behind an open frame's header, the last of them with zeros up to its end.
 #[inline(always)]
 fn store_payload(log: &Log, ring: &mut Ring, publisher: &mut Publisher, row: Row, payload: &[u8])
@@ -96,14 +184,11 @@ fn store_payload(log: &Log, ring: &mut Ring, publisher: &mut Publisher, row: Row
     ensures puts { Puts publisher.old.pass row.start 4 (payload_words payload.now) publisher.new.pass }
     ensures same { ring.new ≡ ring.old }
 {
-    let whole = payload.len() / 8;
-    for index in 0..whole {
-        let word = whole_word(payload, 8 * index);
-        store_word(log, ring, publisher, row, 4 + index as u64, word);
-    }
+    store_whole(log, ring, publisher, row, payload);
     if payload.len() % 8 == 0 {
         return;
     }
+    let whole = payload.len() / 8;
     let word = last_word(payload, 8 * whole);
     store_word(log, ring, publisher, row, 4 + whole as u64, word);
 }

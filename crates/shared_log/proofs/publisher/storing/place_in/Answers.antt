@@ -1,4 +1,4 @@
-use Rattle.std.proofs.Common.{◌≡◌, ◌+◌, ◌*◌, ◌<◌, arith}
+use Rattle.std.proofs.Common.{arith}
 use Rattle.shared_log.proofs.Behind.{slots_behind}
 use Rattle.shared_log.proofs.publisher.storing.place_in.Goals as goal
 

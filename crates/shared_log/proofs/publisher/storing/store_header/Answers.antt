@@ -1,4 +1,3 @@
-use Rattle.std.proofs.Common.{ℕ}
 use Rattle.publication.specs.declared.pass.Pass.{Pass}
 use Rattle.shared_log.proofs.Storing.{header_put, header_second, header_third}
 use Rattle.shared_log.proofs.publisher.storing.store_header.Goals as goal

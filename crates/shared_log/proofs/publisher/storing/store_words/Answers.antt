@@ -1,4 +1,4 @@
-use Rattle.std.proofs.Common.{ℕ, ◌+◌, ◌/◌, ◌≤◌, ◌∷◌, [], length, lit≤, arith}
+use Rattle.std.proofs.Common.{ℕ, ◌+◌, ◌/◌, ◌≤◌, ◌∷◌, [], length, arith}
 use Rattle.frame_words.specs.Words.{payload_words}
 use Rattle.publication.specs.declared.pass.Pass.{Pass}
 use Rattle.publication.specs.Offers.{HasRoom}
