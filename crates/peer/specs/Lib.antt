@@ -8,3 +8,4 @@ pub mod Farewells
 pub mod Screening
 pub mod Silences
 pub mod Numbering
+pub mod StatusSockets

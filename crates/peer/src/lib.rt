@@ -20,6 +20,9 @@
 //! (`one_from_the_start`). That anybody is heard isn't said.
 //!
 //! Where receivers are known by numbers, a status message gets its receiver's for the id (`number_status`).
+//!
+//! A subscriber's socket has a second handle for another thread, which sends status messages from the same port and hears
+//! nothing; it keeps exactly the last that it was given (`Listener::status_socket`, `StatusSocket`).
 #![tactic(auto)]
 
 mod attendance;
@@ -32,6 +35,7 @@ mod numbering;
 mod patient;
 mod screen;
 mod silence;
+mod status_socket;
 mod tied;
 mod watch;
 
@@ -45,5 +49,6 @@ pub use numbering::number_status;
 pub use patient::PatientDevice;
 pub use screen::{Bounds, Verdict, judge};
 pub use silence::Silence;
+pub use status_socket::{STATUS_BYTES, StatusSocket};
 pub use tied::TiedDevice;
 pub use watch::Tally;

@@ -4,9 +4,11 @@ ghost use Rattle.std.specs.Prelude.{◌≡◌, ◌≢◌, None, IfOk, OnErr, opt
 ghost use Rattle.std.specs.IoError.{error_kind};
 ghost use Rattle.theory.specs.Wire.{SM, spelling};
 ghost use Rattle.frames.specs.Frames.{status_of};
+ghost use Rattle.peer.specs.StatusSockets.{unused};
 ghost use Rattle.peer.specs.Ties.{asking, hearing_anybody, with_came};
 
 use crate::fault::{BindError, is_loss};
+use crate::status_socket::{STATUS_BYTES, StatusSocket};
 use endpoint::{Binding, DeviceError, DeviceFailed, GREATEST_DATAGRAM};
 use frames::{Frame, Status, write_frame};
 use std::alloc::Global;
@@ -28,9 +30,6 @@ struct Asked {
     to: SocketAddr,
     status: Status,
 }
-
-/// The bytes of a status message.
-const STATUS_BYTES: usize = 36;
 
 /// A socket that hears anybody, and asks for SETUPs. It is bound once and never connected, so that the port is this process's
 /// until it ends. No call waits. It keeps the datagram that came last, and the last message that it was given to ask with.
@@ -95,6 +94,16 @@ impl Listener {
             asks: 0,
             asked: None,
         })
+    }
+
+    /// A second handle of the socket, to which no status message was given yet. The error comes where the system refuses it.
+    pub fn status_socket(&self) -> Result<StatusSocket, DeviceFailed>
+        ensures { IfOk result (λ s. s ≡ unused) }
+    {
+        match self.socket.try_clone() {
+            Ok(socket) => Ok(StatusSocket::new(socket)),
+            Err(_) => Err(DeviceFailed),
+        }
     }
 
     /// Takes a datagram, if one has come. The error comes where the system refuses the call; then none has.
