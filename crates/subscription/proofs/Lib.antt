@@ -1,3 +1,5 @@
 pub mod Openings
 pub mod Windows
 pub mod Calling
+pub mod Repeaters
+mod Repeated

@@ -6,6 +6,8 @@ use Rattle.frames.specs.Frames.{setup_of}
 use Rattle.peer.specs.Farewells.{EndsAt}
 use Rattle.endpoint.specs.Devices.{counted}
 use Rattle.subscription.specs.Meetings.{TellsHeader, TellsSetup}
+use Rattle.subscription.specs.declared.followed.Noted.{Noted}
+use Rattle.subscription.specs.declared.followed.Noted.TheVariants.{Nothing, Given, Cleared}
 use Rattle.subscription.specs.declared.followed.Notes.{Notes}
 
 pub record Following (D : Type 0) : Type 0 where
@@ -16,6 +18,8 @@ pub record Following (D : Type 0) : Type 0 where
   pub notes : Notes
   -- how many negative acknowledgements it was given to send
   pub naks : ℕ
+  -- what it noted of the status messages that it was given to send
+  pub noted : Noted
 
 -- nothing was heard yet
 abbrev pub unheard : Notes
@@ -23,11 +27,15 @@ unheard = record { frames = 0; end = None; setup = None }
 
 -- nothing was heard of this session yet, nor sent
 abbrev pub following : {D : Type 0} → D → ℤ → ℤ → Following D
-following inner session stream = record { inner = inner; session = session; stream = stream; notes = unheard; naks = 0 }
+following inner session stream = record { inner = inner; session = session; stream = stream; notes = unheard; naks = 0; noted = Nothing }
 
--- it turns to another session, of which it has heard nothing
+-- what it was given before is of no use any more
+abbrev pub clearing : {D : Type 0} → Following D → Following D
+clearing f = record f { noted = Cleared }
+
+-- it turns to another session, of which it has heard nothing, and for which it was given nothing
 abbrev pub turned_to : {D : Type 0} → Following D → ℤ → Following D
-turned_to f session = record f { session = session; notes = record (f.notes) { end = None; setup = None } }
+turned_to f session = record f { session = session; notes = record (f.notes) { end = None; setup = None }; noted = Cleared }
 
 -- a header of the session's stream
 abbrev pub is_own : ℤ → ℤ → Option Header → Bool
@@ -73,6 +81,10 @@ abbrev pub HearsFound : {D : Type 0} → Following D → Option ℕ → List ℕ
 HearsFound f None buffer new = new ≡ f.notes
 HearsFound f (Some n) buffer new = NotesDatagram f.session f.stream (take n buffer) f.notes new
 
+-- of what a receiver sends only a status message has 36 bytes; the last one is noted
+abbrev pub noted_after : Noted → List ℕ → Noted
+noted_after before bytes = if nat_eq (length bytes) 36 then Given bytes else before
+
 -- of what a receiver sends only a negative acknowledgement has 28 bytes
 abbrev pub after_sending : {D : Type 0} → Following D → List ℕ → D → Following D
-after_sending f bytes inner = record f { inner = inner; naks = if nat_eq (length bytes) 28 then counted f.naks else f.naks }
+after_sending f bytes inner = record f { inner = inner; naks = if nat_eq (length bytes) 28 then counted f.naks else f.naks; noted = noted_after f.noted bytes }

@@ -5,3 +5,6 @@ pub mod Watches
 pub mod Places
 pub mod Offers
 pub mod Calls
+pub mod Statuses
+pub mod Sendings
+pub mod Repeats

@@ -8,6 +8,7 @@ use Rattle.peer.specs.Patience.{Patient}
 use Rattle.peer.specs.Ties.{Came, Tied}
 use Rattle.subscription.specs.Hearings.{Following}
 use Rattle.subscription.specs.Meetings.{TellsSetup}
+use Rattle.subscription.specs.declared.followed.Noted.TheVariants.{Cleared}
 
 -- a subscriber's device
 abbrev pub SubscriberDevice : Type 0
@@ -39,5 +40,6 @@ setup_taken d = record d { notes = record (d.notes) { setup = None } }
 abbrev pub with_peer : Tied → SocketAddr → Tied
 with_peer t peer = record t { peer = peer }
 
+-- what was sent to the one before is of no use any more
 abbrev pub tied_anew : SubscriberDevice → SocketAddr → SubscriberDevice
-tied_anew d peer = record d { inner = record (d.inner) { inner = record (d.inner.inner) { inner = with_peer d.inner.inner.inner peer } } }
+tied_anew d peer = record d { inner = record (d.inner) { inner = record (d.inner.inner) { inner = with_peer d.inner.inner.inner peer } }; noted = Cleared }

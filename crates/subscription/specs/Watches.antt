@@ -27,13 +27,14 @@ pub record Seen : Type 0 where
 abbrev pub begun : Seen
 begun = record { moment = 0; heard = 0; worked = 0; told = 0; written = 0; strangers = 0; calls = 0; lost = 0 }
 
--- a second or more in which it didn't look at the clock is no silence of others: it heard nobody then, and couldn't have
-abbrev pub heard_at : Seen → ℕ → ℕ
-heard_at s now = if nat_lt (now - s.moment) 1000000000 then s.heard else min now (s.heard + (now - s.moment))
+-- a second or more in which it didn't look at the clock is no silence of others, and no failing of its socket: it heard nobody
+-- then and called nothing, and couldn't have. So what was earlier counts as later by that time
+abbrev pub later_by : Seen → ℕ → ℕ → ℕ
+later_by s now earlier = if nat_lt (now - s.moment) 1000000000 then earlier else min now (earlier + (now - s.moment))
 
 -- it looks at the clock
 abbrev pub looking : Seen → ℕ → Seen
-looking s now = record s { moment = now; heard = heard_at s now }
+looking s now = record s { moment = now; heard = later_by s now s.heard; worked = later_by s now s.worked }
 
 -- what it waits for came at the moment
 abbrev pub hearing : Seen → Seen

@@ -5,14 +5,17 @@ ghost use Rattle.endpoint.specs.Calls.{Receives, Sends};
 ghost use Rattle.endpoint.specs.Devices.{NeverFall};
 ghost use Rattle.frames.specs.Frames.{header_of, setup_of};
 ghost use Rattle.std.specs.Borrow.{Lends, sem};
-ghost use Rattle.subscription.specs.Hearings.{HearsFound, NotesDatagram, NotesEnd, after_sending, following, frames_after, is_own, turned_to, with_end};
+ghost use Rattle.subscription.specs.Hearings.{HearsFound, NotesDatagram, NotesEnd, after_sending, clearing, following, frames_after, is_own, noted_after, turned_to, with_end};
+ghost use Rattle.subscription.specs.Sendings.{news_of, news_taken};
 ghost use Rattle.subscription.specs.contracts.followed.Followed.{the_row};
 
 use crate::invitation::{header_in, setup_in};
 use endpoint::{Datagrams, DeviceFailed};
 use frames::{Frame, Header, Setup};
-use peer::end_told;
+use loss_injector::Lossy;
+use peer::{PatientDevice, STATUS_BYTES, TiedDevice, end_told};
 use std::marker::Model;
+use std::net::SocketAddr;
 
 /// The bytes of a negative acknowledgement: no other frame that a receiver sends has so many.
 const NAK_BYTES: usize = 28;
@@ -28,7 +31,65 @@ pub struct Notes {
     pub setup: Option<Setup>,
 }
 
-/// A device that notes what it hears of a session, and counts the negative acknowledgements that it is given to send.
+/// A status message that a subscriber's device was given to send, and the peer that it was for. Nothing else makes one
+/// (`Followed::take_news`): it tells of nothing but what is written and flushed.
+#[derive(Clone, Copy)]
+pub struct SentStatus {
+    to: SocketAddr,
+    bytes: [u8; STATUS_BYTES],
+}
+
+impl Model for SentStatus {
+    ghost use Rattle.std.specs.Prelude.{◌≡◌, length};
+    ghost use Rattle.subscription.specs.Statuses.{Sent};
+
+    ghost Value = { Sent };
+
+    ghost view = { λ s. record { to = s.to; bytes = s.bytes } };
+
+    ghost invariant = { λ s. length s.bytes ≡ 36 };
+
+    ghost inverse = { λ s. record { to = s.to; bytes = s.bytes } };
+}
+
+impl SentStatus {
+    /// The peer that it was for.
+    pub fn to(&self) -> SocketAddr
+        ensures { result ≡ self.now.to }
+    {
+        self.to
+    }
+
+    /// What was sent.
+    pub fn bytes(&self) -> &[u8; STATUS_BYTES]
+        ensures { result.now ≡ self.now.bytes }
+    {
+        &self.bytes
+    }
+}
+
+/// What is new of a subscriber's status messages.
+#[derive(Clone, Copy)]
+pub enum News {
+    /// This one was sent, and is the last.
+    Sent(SentStatus),
+    /// The session or the peer is another, and none was sent since: those before are of no use any more.
+    Cleared,
+}
+
+/// What a device has noted of the status messages that it was given to send, since that was taken.
+#[derive(Clone, Copy)]
+pub enum Noted {
+    /// It was given none.
+    Nothing,
+    /// The bytes of the last one.
+    Given([u8; STATUS_BYTES]),
+    /// The session or the peer is another, and it was given none since.
+    Cleared,
+}
+
+/// A device that notes what it hears of a session, counts the negative acknowledgements that it is given to send, and notes
+/// the last status message that it is given, whether the device behind it takes that or not.
 #[derive(Drop)]
 pub struct Followed<D> {
     inner: D,
@@ -36,6 +97,7 @@ pub struct Followed<D> {
     stream: i32,
     notes: Notes,
     naks: u64,
+    noted: Noted,
 }
 
 impl<D> Model for Followed<D> {
@@ -43,7 +105,7 @@ impl<D> Model for Followed<D> {
 
     ghost Value = { Following D };
 
-    ghost view = { λ f. record { inner = f.inner; session = f.session; stream = f.stream; notes = f.notes; naks = f.naks } };
+    ghost view = { λ f. record { inner = f.inner; session = f.session; stream = f.stream; notes = f.notes; naks = f.naks; noted = f.noted } };
 }
 
 /// Whether a header is of the session's stream.
@@ -74,6 +136,18 @@ fn after_setup(session: i32, stream: i32, setup: &Setup, before: Option<u64>) ->
         None => before,
         Some(end) => with_end(before, end),
     }
+}
+
+/// What is noted once a datagram was given.
+fn noted_after(before: Noted, datagram: &[u8]) -> Noted
+    ensures { result ≡ noted_after before datagram.now }
+{
+    if datagram.len() != STATUS_BYTES {
+        return before;
+    }
+    let mut bytes = [0; STATUS_BYTES];
+    bytes.copy_from_slice(datagram);
+    Noted::Given(bytes)
 }
 
 impl Notes {
@@ -121,6 +195,7 @@ impl<D> Followed<D> {
                 setup: None,
             },
             naks: 0,
+            noted: Noted::Nothing,
         }
     }
 
@@ -131,8 +206,8 @@ impl<D> Followed<D> {
         &self.inner
     }
 
-    /// The device behind it, to be changed.
-    pub fn inner_mut(&mut self) -> &mut D
+    /// The device behind it, to be changed. Whoever gives it another peer clears what was noted.
+    pub(crate) fn inner_mut(&mut self) -> &mut D
         ensures value { result.now ≡ self.old.inner }
         ensures* writes_back { sem 𝓛 (Lends (the_row D.row) D.row self.entry result (λ w. record self.old { inner = w })) }
     {
@@ -161,6 +236,13 @@ impl<D> Followed<D> {
         self.notes.setup.take()
     }
 
+    /// What was sent before is of no use any more.
+    pub(crate) fn clear(&mut self)
+        ensures { self.new ≡ clearing self.old }
+    {
+        self.noted = Noted::Cleared;
+    }
+
     /// Turns to another session.
     pub fn turn_to(&mut self, session: i32)
         ensures { self.new ≡ turned_to self.old session }
@@ -168,6 +250,27 @@ impl<D> Followed<D> {
         self.session = session;
         self.notes.end = None;
         self.notes.setup = None;
+        self.clear();
+    }
+}
+
+impl Followed<Lossy<PatientDevice<TiedDevice>>> {
+    /// Takes what is new of its status messages since this was called last: the last one that it was given, with its peer,
+    /// or that those before are of no use any more.
+    pub fn take_news(&mut self) -> Option<News>
+        ensures taken { result ≡ news_of self.old.inner.inner.inner.peer self.old.noted }
+        ensures left { self.new ≡ news_taken self.old }
+    {
+        let news = match self.noted {
+            Noted::Nothing => return None,
+            Noted::Given(bytes) => News::Sent(SentStatus {
+                to: self.inner.inner().inner().peer(),
+                bytes,
+            }),
+            Noted::Cleared => News::Cleared,
+        };
+        self.noted = Noted::Nothing;
+        Some(news)
     }
 }
 
@@ -186,6 +289,7 @@ impl<D: Datagrams> Datagrams for Followed<D> {
         if datagram.len() == NAK_BYTES {
             self.naks = self.naks.saturating_add(1);
         }
+        self.noted = noted_after(self.noted, datagram);
         self.inner.send(datagram)
     }
 

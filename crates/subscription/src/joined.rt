@@ -64,10 +64,11 @@ pub fn tied_of(device: &SubscriberDevice) -> &TiedDevice
     device.inner().inner().inner()
 }
 
-/// Makes this the peer.
+/// Makes this the peer. What was sent to the one before is of no use any more.
 pub fn tie(device: &mut SubscriberDevice, peer: SocketAddr)
     ensures { device.new ≡ tied_anew device.old peer }
 {
+    device.clear();
     let lossy = device.inner_mut();
     let patient = lossy.inner_mut();
     let tied = patient.inner_mut();

@@ -8,7 +8,11 @@
 //! and that the socket's buffer is sure to hold (`window_of`).
 //!
 //! A device that follows a session counts the datagrams that begin with a frame of it, and keeps the last SETUP and the
-//! greatest end that was told, exactly (`Followed`).
+//! greatest end that was told, exactly; it notes the last status message that it is given to send, whether that is taken or
+//! not, and what it was given for another session or another peer it forgets (`Followed`). Only such a device makes a
+//! `SentStatus`, so whoever has one knows that the device was given it. The last one is sent again where 300 ms have gone by
+//! without a newer one, byte for byte and to the same peer, and nothing else ever is (`Repeater`, `repeats_the_last`): while the
+//! output blocks, the publisher goes on hearing its subscriber.
 //!
 //! Without an image a datagram is a SETUP that opens one, a frame whose sender is asked for a SETUP, or a stranger's, exactly;
 //! for each such frame its sender is asked once, with the frame's place, and nobody else is. Until a SETUP opens the first image
@@ -22,11 +26,12 @@ mod joined;
 mod listening;
 mod meeting;
 mod opening;
+mod repeater;
 mod telling;
 mod watch;
 mod window;
 
-pub use followed::{Followed, Notes};
+pub use followed::{Followed, News, Noted, Notes, SentStatus};
 pub use invitation::{
     GREATEST_MESSAGE, header_in, id_of, opened, opening_of, setup_in, takes_session,
 };
@@ -34,6 +39,7 @@ pub use joined::{Joined, SubscriberDevice, offered, tie, tied_of};
 pub use listening::listen;
 pub use meeting::{Meeting, meeting_of};
 pub use opening::Opening;
+pub use repeater::{Repeater, repeats_the_last};
 pub use telling::{
     Counts, tell_again, tell_another, tell_closed, tell_counters, tell_joined, tell_refused,
     tell_silent,

@@ -2,14 +2,15 @@
 
 ghost use Rattle.std.specs.Prelude.{◌≡◌, ◌-◌, ◌↔◌, is_some, IfErr, IfSome, IsSome, IsTrue, OnOk};
 ghost use Rattle.endpoint.specs.declared.device_error.DeviceError.TheVariants.{Device};
-ghost use Rattle.subscription.specs.Watches.{IsBroken, IsDue, IsQuiet, IsSilent, begun, called, heard_at, hearing, looking, losing, told_if, with_stranger, working};
+ghost use Rattle.subscription.specs.Watches.{IsBroken, IsDue, IsQuiet, IsSilent, begun, called, hearing, later_by, looking, losing, told_if, with_stranger, working};
 
 use endpoint::DeviceError;
 use options::SubscribePlan;
 use std::marker::Model;
 use std::time::{Clock, Instant};
 
-/// Nanoseconds from one line of counters to the next. A longer time in which the clock wasn't looked at is no silence.
+/// Nanoseconds from one line of counters to the next. A longer time in which the clock wasn't looked at is no silence, and
+/// none in which the socket's calls failed.
 const SECOND: u64 = 1_000_000_000;
 
 /// Nanoseconds after which a session is silent.
@@ -69,20 +70,21 @@ impl Watch {
             return Err(DeviceError::Device);
         };
         let now = u64::try_from(time.as_nanos()).unwrap_or(u64::MAX);
-        self.heard = self.heard_at(now);
+        self.heard = self.later_by(now, self.heard);
+        self.worked = self.later_by(now, self.worked);
         self.moment = now;
         Ok(())
     }
 
-    /// When what it waits for counts as come, where it looks at the clock now.
-    fn heard_at(&self, now: u64) -> u64
-        ensures { result ≡ heard_at self.now now }
+    /// What an earlier moment counts as, where it looks at the clock now.
+    fn later_by(&self, now: u64, earlier: u64) -> u64
+        ensures { result ≡ later_by self.now now earlier }
     {
         let unseen = now.saturating_sub(self.moment);
         if unseen < SECOND {
-            return self.heard;
+            return earlier;
         }
-        now.min(self.heard.saturating_add(unseen))
+        now.min(earlier.saturating_add(unseen))
     }
 
     /// The moment that it noted last.
