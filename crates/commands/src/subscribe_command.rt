@@ -16,12 +16,13 @@ use std::io::Write;
 use std::net::Net;
 use std::random::RandomSource;
 use std::sync::Wait;
+use std::thread::Threads;
 use std::time::Clock;
 use subscriber::{Ending, SubscribeFault, Subscribed, subscribe};
 
 /// Subscribes as planned, and gives the status; an address that isn't found is told. Only one that was to end with the stream
 /// ends with 3.
-fn subscribe_planned<C: Wait + Clock + Net, W: Write, E: Write>(
+fn subscribe_planned<C: Threads + Wait + Clock + Net + Copy + Send + 'static, W: Write, E: Write>(
     rt: &C,
     alloc: Global,
     plan: &SubscribePlan,
@@ -44,13 +45,11 @@ fn subscribe_planned<C: Wait + Clock + Net, W: Write, E: Write>(
 }
 
 /// Subscribes as it is told, and gives the status: 2 where the channel or the rates make no plan.
-fn subscribe_told<C: Wait + Clock + Net + RandomSource, W: Write, E: Write>(
-    rt: &C,
-    alloc: Global,
-    options: &SubscribeOptions<'_>,
-    output: &mut W,
-    errors: &mut E,
-) -> u8
+fn subscribe_told<
+    C: Threads + Wait + Clock + Net + RandomSource + Copy + Send + 'static,
+    W: Write,
+    E: Write,
+>(rt: &C, alloc: Global, options: &SubscribeOptions<'_>, output: &mut W, errors: &mut E) -> u8
     requires { options.now.end.stream < 2 ^ 31 }
     ensures most { result ≤ 3 }
     ensures refused { result ≡ 2 → NoSubscribePlan options.now }
@@ -81,13 +80,12 @@ fn subscribed<E: Write>(ended: &Result<Subscribed, SubscribeFault>, errors: &mut
 }
 
 /// Carries out a line whose first word is `subscribe`, and gives the status.
-pub(crate) fn subscribe_command<'a, C: Wait + Clock + Net + RandomSource, W: Write, E: Write>(
-    rt: &C,
-    alloc: Global,
-    words: &'a [&'a str],
-    output: &mut W,
-    errors: &mut E,
-) -> u8
+pub(crate) fn subscribe_command<
+    'a,
+    C: Threads + Wait + Clock + Net + RandomSource + Copy + Send + 'static,
+    W: Write,
+    E: Write,
+>(rt: &C, alloc: Global, words: &'a [&'a str], output: &mut W, errors: &mut E) -> u8
     ensures status { IsStatusOf (fault_of subscribe_app (map (λ s. s.now) words.entry.now)) result }
     ensures refused { result ≡ 2 → RefusesSubscribe (map (λ s. s.now) words.entry.now) }
 {

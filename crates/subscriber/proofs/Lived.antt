@@ -18,7 +18,7 @@ use Rattle.subscription.specs.Calls.{IsJoined, IsMeeting}
 use Rattle.subscriber.specs.Deliveries.{Delivers, PollsAll, PollsNone, WritesFirst}
 use Rattle.subscriber.specs.Living.{IsNumbered, Life, WritesActs, WritesLife, WritesLives, given_through}
 use Rattle.subscriber.specs.Turning.{Attends, Considers, ConsidersOffer, IsRenewed, KeepsImage, Passes, Renews, Resumes, next, with_device}
-use Rattle.subscription.specs.Offers.{Offer, setup_taken}
+use Rattle.subscription.specs.Offers.{Offer, SubscriberDevice, setup_taken}
 use Rattle.subscription.specs.Watches.{Seen}
 use Rattle.subscriber.specs.declared.delivery.Delivered.{Delivered}
 use Rattle.subscription.specs.declared.joined.Joined.{Joined}
@@ -166,6 +166,10 @@ pub silent_life : (plan : SubscribePlan) (a b c : Option (List ℕ)) (count more
 silent_life plan a b c count more j k l number told h w =
     same_life plan a c more k l (ap (λ x. x.number) told) (ap (λ x. x.subscriber) told)
     (subst (λ n. WritesLife plan a more n k.subscriber c) (sym number) (life_on plan a b c count more j.number j.subscriber k.subscriber h w))
+
+-- what was new of its status messages was told
+pub told_life : (plan : SubscribePlan) (a b : Option (List ℕ)) (count : ℕ) (j k : Joined) (d : SubscriberDevice) → k ≡ with_device j d → WritesLife plan a count j.number j.subscriber b → WritesLife plan a count k.number k.subscriber b
+told_life plan a b count j k d told h = same_life plan a b count j k (ap (λ x. x.number) told) (ap (λ x. x.subscriber) told) h
 
 -- ---- to the end
 

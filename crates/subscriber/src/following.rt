@@ -6,12 +6,15 @@ ghost use Rattle.subscriber.specs.Leavings.{HasAll, HasEnough, IsEnding, IsQuiet
 ghost use Rattle.subscription.specs.Watches.{IsBroken, IsSilent};
 ghost use Rattle.subscriber.specs.declared.fault.SubscribeFault.TheVariants.{Failed};
 ghost use Rattle.subscriber.specs.Living.{WritesActs, WritesLife};
+ghost use Rattle.subscriber.specs.Turning.{with_device};
 ghost use Rattle.subscriber.specs.Writings.{Writes};
+ghost use Rattle.subscription.specs.Sendings.{news_taken};
 
 use crate::delivery::cycle;
 use crate::delivery::polling::CYCLE_MESSAGES;
 use crate::ended::Ending;
 use crate::fault::SubscribeFault;
+use crate::repeating::Slot;
 use crate::turning::attend;
 use agents::{IdleStrategy, REPLY};
 use endpoint::DeviceError;
@@ -185,6 +188,16 @@ fn tell<E: Write>(
     }
 }
 
+/// Tells the thread that repeats what is new of the status messages that the device was given.
+fn tell_news<R: Wait>(rt: &R, joined: &mut Joined, slot: &Slot)
+    ensures { joined.new ≡ with_device joined.old (news_taken joined.old.duty.device) }
+{
+    let device = joined.duty.device_mut();
+    if let Some(news) = device.take_news() {
+        slot.tell(rt, news);
+    }
+}
+
 /// Writes messages until the subscriber ends, and makes of SETUPs what is to be made of them. The answer is how many were
 /// written, and how it ends.
 pub(crate) fn follow<R: Wait + Clock, W: Write, E: Write>(
@@ -195,6 +208,7 @@ pub(crate) fn follow<R: Wait + Clock, W: Write, E: Write>(
     output: &mut W,
     errors: &mut E,
     watch: &mut Watch,
+    slot: &Slot,
 ) -> Result<(u64, Ending), SubscribeFault>
     requires size { joined.old.duty.mtu ≡ REPLY }
     requires begun { WritesLife plan.now (W.contents output.old) 0 joined.old.number joined.old.subscriber (W.contents output.old) }
@@ -220,6 +234,7 @@ pub(crate) fn follow<R: Wait + Clock, W: Write, E: Write>(
             return Ok((written, ending));
         }
         attend(alloc, plan, joined, errors, watch)?;
+        tell_news(rt, joined, slot);
         idle.after(rt, busy);
     }
     unreachable!()

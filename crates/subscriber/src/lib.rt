@@ -1,6 +1,7 @@
-//! A subscriber's end of a channel, in one thread: it listens until a SETUP opens an image, writes each message as
+//! A subscriber's end of a channel: one thread listens until a SETUP opens an image, writes each message as
 //! soon as it is polled, and only then hears and answers, so that a status message never tells of a message that
-//! isn't written. What opens an image, what is heard, and the time that passes are `subscription`'s.
+//! isn't written. While the output blocks a second thread sends the last status message again, which tells nothing new; the
+//! first one hands it what was sent by a slot that keeps the newest (`Repeater` of `subscription`). What opens an image, what is heard, and the time that passes are `subscription`'s.
 //!
 //! While the session isn't silent no SETUP changes anything; of a silent one a SETUP of its own ties the device to
 //! who sent it and changes nothing else, and another one that would open an image opens it, with the next number, in
@@ -18,13 +19,14 @@
 //! the other, at most as many as were wanted, and it has counted them (`Writes`): those that the polls of its images
 //! gave, image by image, each of which a SETUP opened and which lived through datagrams, moments and polls since
 //! (`WritesLives`); of honest datagrams that is a run of the stream (`receiver`). Which datagrams came isn't
-//! said, since its device tells nothing; nor that anything comes: `tools/channels` shows it.
+//! said, since its device tells nothing; nor that anything comes, or is repeated in time: `tools/channels` shows it.
 #![tactic(auto)]
 
 mod delivery;
 mod ended;
 mod fault;
 mod following;
+mod repeating;
 mod subscribing;
 mod turning;
 

@@ -10,6 +10,7 @@ ghost use Rattle.subscriber.specs.declared.ended.Ending.TheVariants.{Short};
 use crate::ended::Subscribed;
 use crate::fault::SubscribeFault;
 use crate::following::{follow, leave, quiet_ending, strangers};
+use crate::repeating::{Repeating, Slot};
 use agents::REPLY;
 use endpoint::{Binding, DeviceError};
 use frames::FaultCounts;
@@ -19,6 +20,7 @@ use std::alloc::Global;
 use std::io::Write;
 use std::net::{Net, SocketAddr};
 use std::sync::Wait;
+use std::thread::Threads;
 use std::time::{Clock, Instant};
 use subscription::{Joined, Watch, listen, tell_joined, tell_refused};
 
@@ -43,7 +45,8 @@ fn bind<R: Net>(rt: &R, alloc: Global, binding: &Binding) -> Result<Listener, Su
     }
 }
 
-/// Follows the image to the end, and leaves it. What is heard then belongs to the image's life.
+/// Follows the image to the end, and leaves it. What is heard then belongs to the image's life. Nothing is repeated any more
+/// once all is written.
 fn follow_all<R: Wait + Clock, W: Write, E: Write>(
     rt: &R,
     alloc: Global,
@@ -52,6 +55,7 @@ fn follow_all<R: Wait + Clock, W: Write, E: Write>(
     output: &mut W,
     errors: &mut E,
     watch: &mut Watch,
+    slot: &Slot,
 ) -> Result<Subscribed, SubscribeFault>
     requires size { joined.old.duty.mtu ≡ REPLY }
     requires begun { WritesLife plan.now (W.contents output.old) 0 joined.old.number joined.old.subscriber (W.contents output.old) }
@@ -61,7 +65,8 @@ fn follow_all<R: Wait + Clock, W: Write, E: Write>(
     ensures lives { IfOk result (λ s. WritesLife plan.now (W.contents output.old) s.messages joined.new.number joined.new.subscriber (W.contents output.new)) }
 {
     tell_joined(errors, joined.opening.session, joined.place());
-    let followed = follow(rt, alloc, plan, joined, output, errors, watch);
+    let followed = follow(rt, alloc, plan, joined, output, errors, watch, slot);
+    slot.end(rt);
     tell_refused(
         errors,
         joined.subscriber.refused(),
@@ -70,6 +75,36 @@ fn follow_all<R: Wait + Clock, W: Write, E: Write>(
     let (messages, ending) = followed?;
     leave(rt, joined, watch);
     Ok(Subscribed { messages, ending })
+}
+
+/// Listens until an image opens, and follows it to the end.
+fn listen_and_follow<R: Wait + Clock, W: Write, E: Write>(
+    rt: &R,
+    alloc: Global,
+    plan: &SubscribePlan,
+    listener: Listener,
+    output: &mut W,
+    errors: &mut E,
+    watch: &mut Watch,
+    slot: &Slot,
+) -> Result<Subscribed, SubscribeFault>
+    ensures writes { IfOk result (λ s. Writes plan.now.end.form 0 (W.contents output.old) s.messages (W.contents output.new)) }
+    ensures lives { IfOk result (λ s. WritesLives plan.now (W.contents output.old) s.messages (W.contents output.new)) }
+    ensures few { IfOk result (λ s. s.messages ≤ plan.now.messages) }
+    ensures short { IfOk result (λ s. s.ending ≡ Short → IsTrue plan.now.once) }
+{
+    match listen(rt, alloc, plan, listener, errors, watch)? {
+        None => {
+            tell_refused(errors, FaultCounts::new(), watch.strangers());
+            Ok(Subscribed {
+                messages: 0,
+                ending: quiet_ending(plan),
+            })
+        }
+        Some(mut joined) => {
+            follow_all(rt, alloc, plan, &mut joined, output, errors, watch, slot)
+        }
+    }
 }
 
 /// Subscribes as planned, over a socket that is bound so, and writes each message to the output as the plan's form says. The
@@ -85,11 +120,14 @@ fn follow_all<R: Wait + Clock, W: Write, E: Write>(
 /// joined, silent, heard again and closed, another sender of a session that isn't silent, and the counters are lines of
 /// `errors`, and at the end what was refused, where anything was.
 ///
+/// While the output blocks, a thread of its own sends the last status message again, so that the publisher doesn't take it for
+/// gone. That one is ended and joined however this ends. The time in which the output blocked is no silence.
+///
 /// The fault is `Taken` where another socket has the address, `NotHere` where this machine doesn't, `Output` where the output
-/// failed, `Message` where a message was refused, and `Failed`: `Device` where the socket can't be bound, all its calls failed
-/// for 5 seconds, or the clock can't be read, and `Memory` where memory was refused. Behind a fault the output may end within a
+/// failed, `Message` where a message was refused, and `Failed`: `Device` where the socket can't be bound or have a second
+/// handle, all its calls failed for 5 seconds, or the clock can't be read, and `Memory` where memory or the thread was refused. Behind a fault the output may end within a
 /// message.
-pub fn subscribe<R: Wait + Clock + Net, W: Write, E: Write>(
+pub fn subscribe<R: Threads + Wait + Clock + Net + Copy + Send + 'static, W: Write, E: Write>(
     rt: &R,
     alloc: Global,
     plan: &SubscribePlan,
@@ -110,14 +148,9 @@ pub fn subscribe<R: Wait + Clock + Net, W: Write, E: Write>(
     };
     let mut watch = Watch::new(began);
     let listener = bind(rt, alloc, binding)?;
-    match listen(rt, alloc, plan, listener, errors, &mut watch)? {
-        None => {
-            tell_refused(errors, FaultCounts::new(), watch.strangers());
-            Ok(Subscribed {
-                messages: 0,
-                ending: quiet_ending(plan),
-            })
-        }
-        Some(mut joined) => follow_all(rt, alloc, plan, &mut joined, output, errors, &mut watch),
-    }
+    let repeating = Repeating::start(rt, alloc, listener.status_socket()?)?;
+    let slot = repeating.slot();
+    let done = listen_and_follow(rt, alloc, plan, listener, output, errors, &mut watch, slot);
+    repeating.end(rt);
+    done
 }

@@ -1,7 +1,7 @@
 use Rattle.std.proofs.Common.{◌∙◌, ap, subst, ℕ, Option, Some}
 use Rattle.subscriber.specs.Leavings.{IsEnding}
 use Rattle.subscription.specs.declared.followed.Notes.{Notes}
-use Rattle.subscriber.proofs.Lived.{attended_life, silent_life}
+use Rattle.subscriber.proofs.Lived.{attended_life, silent_life, told_life}
 use Rattle.subscriber.proofs.Written.{writes_more}
 use Rattle.subscription.specs.declared.joined.Joined.{Joined}
 use Rattle.subscriber.proofs.following.follow.Goals as goal
@@ -9,9 +9,9 @@ use Rattle.subscriber.proofs.following.follow.Goals as goal
 pub loop-preserved : goal.loop-preserved
 loop-preserved g c =
     let wrote = c.in_ok-all.ensures.writes in
-    let size = c.attend.ensures.size ∙ ap (λ (j : Joined). j.duty.mtu) c.tell_silence.ensures.same ∙ c.cycle_once.ensures.size in
+    let size = ap (λ (j : Joined). j.duty.mtu) c.tell_news.ensures ∙ c.attend.ensures.size ∙ ap (λ (j : Joined). j.duty.mtu) c.tell_silence.ensures.same ∙ c.cycle_once.ensures.size in
     let lived = silent_life _ _ _ _ _ _ c.loop.joined c.cycle_once.new.joined c.tell_silence.new.joined c.cycle_once.ensures.number c.tell_silence.ensures.same c.loop.invariant.3 c.in_ok-all.ensures.lives in
-    (size, wrote.0, writes_more _ _ _ _ _ _ _ c.loop.invariant.2 wrote.1, attended_life _ _ _ _ _ _ _ _ c.in_ok-attend.ensures.attends lived)
+    (size, wrote.0, writes_more _ _ _ _ _ _ _ c.loop.invariant.2 wrote.1, told_life _ _ _ _ c.attend.new.joined c.tell_news.new.joined _ c.tell_news.ensures (attended_life _ _ _ _ _ _ _ _ c.in_ok-attend.ensures.attends lived))
 
 pub returns-in-Some-ending_of-clause-writes : goal.returns-in-Some-ending_of-clause-writes
 returns-in-Some-ending_of-clause-writes g c = writes_more _ _ _ _ _ _ _ c.loop.invariant.2 c.in_ok-all.ensures.writes.1

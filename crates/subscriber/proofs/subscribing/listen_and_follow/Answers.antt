@@ -3,7 +3,7 @@ use Rattle.std.specs.Prelude.{IfSome}
 use Rattle.subscription.specs.Calls.{IsJoined}
 use Rattle.subscriber.proofs.Lived.{joined_life}
 use Rattle.subscriber.proofs.Leaving.{all_written}
-use Rattle.subscriber.proofs.subscribing.subscribe.Goals as goal
+use Rattle.subscriber.proofs.subscribing.listen_and_follow.Goals as goal
 
 pub follow_all-requires-clause-begun : goal.follow_all-requires-clause-begun
 follow_all-requires-clause-begun g c = joined_life c.args.plan.now c.listen.new.watch c.in-Some.joined (g.W.Write.contents c.args.output.now) (subst (λ found. IfSome found (IsJoined c.args.plan.now c.listen.new.watch)) c.in-Some.is c.in_ok-listen.ensures.joined)

@@ -1,0 +1,116 @@
+//! The thread that repeats a subscriber's last status message while its output blocks.
+
+use crate::fault::SubscribeFault;
+use agents::Began;
+use crossbeam_queue::ArrayQueue;
+use peer::StatusSocket;
+use std::alloc::{AllocError, Global};
+use std::sync::{Arc, Wait};
+use std::thread;
+use std::thread::{JoinHandle, Threads};
+use std::time::{Clock, Duration};
+use subscription::{News, Repeater};
+
+/// Milliseconds from one look to the next.
+const PAUSE: u64 = 100;
+
+/// What the thread is told.
+#[derive(Clone, Copy)]
+enum Told {
+    /// What is new of the status messages.
+    News(News),
+    /// To end.
+    End,
+}
+
+/// Where the thread is told something: the newest, until it has taken that.
+#[derive(Drop)]
+pub(crate) struct Slot {
+    newest: ArrayQueue<Told>,
+}
+
+impl Slot {
+    fn new(alloc: Global) -> Result<Slot, AllocError> {
+        Ok(Slot {
+            newest: ArrayQueue::new(alloc, 1)?,
+        })
+    }
+
+    /// Tells what is new. What stood there before isn't told any more.
+    pub(crate) fn tell<R: Wait>(&self, rt: &R, news: News) {
+        self.newest.force_push(rt, Told::News(news));
+    }
+
+    /// Tells it to end. Nothing is told behind that.
+    pub(crate) fn end<R: Wait>(&self, rt: &R) {
+        self.newest.force_push(rt, Told::End);
+    }
+}
+
+/// The moment; the one before where the clock can't be read.
+fn moment_from<R: Clock>(rt: &R, began: &Began, before: u64) -> u64 {
+    began.moment(rt).unwrap_or(before)
+}
+
+/// Looks each 100 ms for what is new, and repeats the last status message where it is due, until it is told to end.
+fn repeat_all<R: Wait + Clock>(rt: &R, slot: &Slot, began: &Began, mut socket: StatusSocket) {
+    let mut repeater = Repeater::new();
+    let mut now = 0;
+    for _ in rt.forever() {
+        thread::sleep(rt, Duration::from_millis(PAUSE));
+        let news = match slot.newest.pop(rt) {
+            Some(Told::End) => return,
+            Some(Told::News(news)) => Some(news),
+            None => None,
+        };
+        now = moment_from(rt, began, now);
+        repeater.turn(&mut socket, now, news);
+    }
+    unreachable!()
+}
+
+/// The thread, and where it is told something. It lives until `end`.
+#[derive(Drop)]
+pub(crate) struct Repeating {
+    slot: Arc<Slot, Global>,
+    handle: JoinHandle<()>,
+}
+
+/// Starts the thread. The error is that memory or the thread was refused.
+fn started<R: Threads + Wait + Clock + Copy + Send + 'static>(
+    rt: &R,
+    alloc: Global,
+    socket: StatusSocket,
+    began: Began,
+) -> Result<Repeating, AllocError> {
+    let slot = Arc::new(alloc, Slot::new(alloc)?)?;
+    let theirs = Arc::try_clone(&slot)?;
+    let there = *rt;
+    let handle = thread::spawn(rt, move || repeat_all(&there, &theirs, &began, socket))?;
+    Ok(Repeating { slot, handle })
+}
+
+impl Repeating {
+    /// Starts the thread, which sends by this socket. The fault is that the clock can't be read, or that memory or the thread
+    /// was refused.
+    pub(crate) fn start<R: Threads + Wait + Clock + Copy + Send + 'static>(
+        rt: &R,
+        alloc: Global,
+        socket: StatusSocket,
+    ) -> Result<Repeating, SubscribeFault> {
+        let began = Began::now(rt)?;
+        Ok(started(rt, alloc, socket, began)?)
+    }
+
+    /// Where the thread is told something.
+    pub(crate) fn slot(&self) -> &Slot {
+        &self.slot
+    }
+
+    /// Tells the thread to end, and waits until it has.
+    pub(crate) fn end<R: Threads + Wait>(self, rt: &R) {
+        let Repeating { slot, handle } = self;
+        slot.end(rt);
+        handle.join(rt);
+    }
+}
