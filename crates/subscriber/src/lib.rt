@@ -1,7 +1,8 @@
 //! A subscriber's end of a channel: one thread listens until a SETUP opens an image, writes each message as
 //! soon as it is polled, and only then hears and answers, so that a status message never tells of a message that
-//! isn't written. While the output blocks a second thread sends the last status message again, which tells nothing new; the
-//! first one hands it what was sent by a slot that keeps the newest (`Repeater` of `subscription`). What opens an image, what is heard, and the time that passes are `subscription`'s.
+//! isn't written. While the output blocks a second thread sends the last status message again, which tells nothing
+//! new; the first one tells it what was sent by a slot that keeps the newest (`Repeater` of `subscription`). What
+//! opens an image, what is heard, and the time that passes are `subscription`'s.
 //!
 //! While the session isn't silent no SETUP changes anything; of a silent one a SETUP of its own ties the device to
 //! who sent it and changes nothing else, and another one that would open an image opens it, with the next number, in

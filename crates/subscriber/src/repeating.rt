@@ -41,7 +41,7 @@ impl Slot {
         self.newest.force_push(rt, Told::News(news));
     }
 
-    /// Tells it to end. Nothing is told behind that.
+    /// Tells it to end, which may be told again. Nothing else is told behind that.
     pub(crate) fn end<R: Wait>(&self, rt: &R) {
         self.newest.force_push(rt, Told::End);
     }
