@@ -188,8 +188,9 @@ pub fn publish_over<
         began,
     };
     let offering = Offering::new(theirs, publisher, input);
-    let (published, (keeper, reader)) =
-        publish_shared(alloc, &context, reader, passes, offering, errors)?;
+    let (published, (keeper, reader)) = publish_shared(
+        alloc, &context, reader, passes, offering, errors,
+    )?;
     let log = log_of(ours);
     let end = LogEnd {
         log,
