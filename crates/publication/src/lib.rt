@@ -1,5 +1,6 @@
 //! Publishing without a lock: offers and claims of a publisher, their commit and abort, and the turn to the next
-//! term, written once over the calls on one word each that whatever has the words of a log meets (`WordCalls`).
+//! term, written once over calls that whatever has the words of a log meets (`WordCalls`): each is one step on one word, but
+//! for that which stores the words of a frame behind its first.
 //!
 //! Each contract speaks of the pass before and after and of the answer, never of the log. An accepted `offer` gives
 //! its pass one claim more, at the position of the word that its addition answered, with the message in its frames'
