@@ -20,7 +20,8 @@
 //! the other, at most as many as were wanted, and it has counted them (`Writes`): those that the polls of its images
 //! gave, image by image, each of which a SETUP opened and which lived through datagrams, moments and polls since
 //! (`WritesLives`); of honest datagrams that is a run of the stream (`receiver`). Which datagrams came isn't
-//! said, since its device tells nothing; nor that anything comes, or is repeated in time: `tools/channels` shows it.
+//! said, since its device tells nothing; nor that anything comes, nor what the second thread sends, but for each turn
+//! (`Repeater::turn`): `tools/channels` shows it.
 #![tactic(auto)]
 
 mod delivery;
