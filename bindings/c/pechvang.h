@@ -169,7 +169,7 @@ int32_t pv_set_closed(pv_keeper *keeper);
 int32_t pv_join(pv_keeper *keeper, pv_reader *reader);
 
 /* ---- a subscriber and a sender: datagrams and moments in, datagrams out one by one. Moments are nanoseconds of any clock that
-   doesn't go back. Both are used again only once pv_.._next has answered PV_DONE: until then PV_UNSENT, and nothing changes. */
+   doesn't go back. Until pv_.._next has answered PV_DONE pv_.._tick and pv_hear answer PV_UNSENT, and nothing changes. */
 
 /* What became of a frame, or of a datagram. */
 typedef enum pv_outcome {

@@ -27,7 +27,7 @@
 //!
 //! A log opens for the agents of one stream with one reader and all its passes (`open_log`, by `AreNewPasses`), and its
 //! sender's agent has sent nothing yet (`open_sender`, by `IsNewSender`; to a group `open_stream_sender`, by `IsNewSenderBy`). `IdleStrategy::after` counts the idle turns
-//! in a row, up to 200; that a thread yields or sleeps no contract can say.
+//! in a row, up to 15,200; that a thread yields or sleeps no contract can say.
 #![tactic(auto)]
 
 mod began;

@@ -14,7 +14,7 @@ use thiserror::Error;
 pub enum DeviceError {
     /// The device failed, or the system refused a socket, a thread or the clock.
     Device,
-    /// Memory was refused, and the datagram for which it was wanted is lost.
+    /// Memory was refused; in a cycle the datagram for which it was wanted is lost.
     Memory,
 }
 

@@ -24,7 +24,7 @@ pub fn whole_word(payload: &[u8], at: usize) -> u64
     payload_word(&payload[at..at + 8])
 }
 
-/// The word of a payload's last bytes, of which there are less than eight, with zeros behind them.
+/// The word of a payload's last bytes, at most eight, with zeros behind them.
 #[inline(always)]
 pub fn last_word(payload: &[u8], at: usize) -> u64
     requires within { at ≤ length payload.now }

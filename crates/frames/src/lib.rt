@@ -3,7 +3,7 @@
 //!
 //! `read_frame` succeeds exactly where the input begins with a frame's spelling, and gives that frame and how many
 //! bytes it takes; its fault is the first in the fixed order. `check_datagram` says the same of a datagram.
-//! `write_frame` writes the one spelling and leaves the rest of the buffer. No length is bounded. `Frame::size` is
+//! `write_frame` writes the one spelling and leaves the rest of the buffer. `Frame::size` is
 //! what a frame takes, `FrameError` has the faults with their texts, `FaultCounts` how often each came.
 //!
 //! Of bytes that are known to begin with a DATA frame or a padding, `front_of` gives which of the two it is, its

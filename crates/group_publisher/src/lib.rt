@@ -8,8 +8,8 @@
 //! gives up where along one way nobody was ever heard for too long, or nothing more is waited for along any. Along one way that
 //! is how a publisher to one ends (`ends_as_one`).
 //!
-//! Its log, its reading and what is left of its input are as with one subscriber (`publish_group_over`, by `EndsInput`, over
-//! any reader and any devices). Where it ends whole, the reading has ended at the input's end, and what was accepted of it has
+//! Its reading and what is left of its input are as with one subscriber (`publish_group_over`, by `EndsInput`, over any reader
+//! and any devices); its log isn't closed. Where it ends whole, the reading has ended at the input's end, and what was accepted of it has
 //! arrived along as many ways as it began with (`AllHaveArrived`; `publish_group`, by `PublishesAllAlong`). The lines that name
 //! a way are exact. That ways keep their numbers while datagrams go along them isn't said, nor what a group's sender gives out.
 #![tactic(auto)]

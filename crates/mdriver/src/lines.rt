@@ -25,7 +25,7 @@ enum Way {
 }
 
 /// A writer of lines. What is written up to a line feed is a line; it is shown by a thread that owns the output, or
-/// counted where it repeats the line before it, or lost where that thread's queue is full. No call waits for the output,
+/// counted where it repeats the line before it, or lost where that thread's queue is full. No call but `finish` waits for the output,
 /// but where memory or the thread was refused: then lines are written in place.
 #[derive(Drop)]
 pub struct ErrorLines<R, E> {
@@ -127,7 +127,7 @@ impl<R: Wait, E: Write> ErrorLines<R, E> {
 }
 
 impl<R: Wait, E: Write> Write for ErrorLines<R, E> {
-    /// Takes all bytes. The error comes where memory was refused to a line's begin.
+    /// Takes all bytes. The error comes where memory was refused to a byte of the line that stands.
     fn write(&mut self, bytes: &[u8]) -> io::Result<usize> {
         for byte in bytes {
             if *byte == b'\n' {

@@ -3,7 +3,7 @@
 //! A handle holds a pass in a box, or nothing, and each export says what it holds before and after: what
 //! the call of that pass says, with the code that it answers. No export asks anything of its caller but what a C function
 //! asks by its types. A handle that holds nothing, or a pass of another kind, gets a code, and nothing changes then; so
-//! does a publisher's whose claim is open, or isn't where it should be. Whatever a handle holds is let go when it is freed,
+//! does a publisher's whose claim is open where the call wants none, or the other way round. Whatever a handle holds is let go when it is freed,
 //! or another pass is put in: an open claim is aborted then, and the log is freed with the last of its passes.
 #![tactic(auto)]
 

@@ -1,5 +1,5 @@
-//! The two ends of a channel, over UDP: a subscriber's device, which hears anybody until it is tied
-//! to one peer, and a publisher's, which screens what comes, notes which receivers it hears and when it ends by that.
+//! The two ends of a channel, over UDP: a subscriber's socket, which hears anybody (`Listener`), and its device, tied to one
+//! peer (`TiedDevice`); and a publisher's, which screens what comes, notes which receivers it hears and when it ends by that.
 //!
 //! A tied device meets the trait of devices: it fails only where it counts that; what it hands over came from its
 //! peer and is counted as heard, and a receive that met another's datagram counts that and is one that found nothing

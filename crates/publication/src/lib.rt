@@ -1,5 +1,5 @@
 //! Publishing without a lock: offers and claims of a publisher, their commit and abort, and the turn to the next
-//! term, written once over calls that whatever has the words of a log meets (`WordCalls`): each is one step on one word, but
+//! term, written once over the trait of word calls (`WordCalls`): each is one step on one word, but
 //! for that which stores the words of a frame behind its first.
 //!
 //! Each contract speaks of the pass before and after and of the answer, never of the log. An accepted `offer` gives

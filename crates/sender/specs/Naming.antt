@@ -3,7 +3,7 @@ use Rattle.std.specs.Prelude.{ℕ, Bool, Option, Some, if◌then◌else◌}
 use Rattle.std.specs.Option.{option_to_list}
 use Rattle.theory.specs.Timing.{is_setup_due, seen}
 
--- the greatest moment seen, the moment of the last SETUP that was due, and whether a status message that doesn't ask has come
+-- the greatest moment seen, the moment of the last SETUP that was due, and whether each receiver that is waited for was heard
 pub record Naming : Type 0 where
   pub clock : ℕ
   pub last : Option ℕ

@@ -5,10 +5,11 @@ ghost use Rattle.sender.specs.Naming.{is_due, after_due};
 
 use std::marker::Model;
 
-/// Nanoseconds from one SETUP to the next, until a status message has come.
+/// Nanoseconds from one SETUP to the next, until each receiver that is waited for was heard.
 const INTERVAL: u64 = 100_000_000;
 
-/// When a sender's SETUP is due: at its first cycle, and then each 100 ms until a status message comes that doesn't ask.
+/// When a sender's SETUP is due: at its first cycle, and then each 100 ms until each receiver that is
+/// waited for was heard.
 #[derive(Clone, Copy, Debug, PartialEq, Eq)]
 pub struct SenderSetup {
     clock: u64,
@@ -55,7 +56,7 @@ impl SenderSetup {
         due
     }
 
-    /// Whether a status message that doesn't ask has come.
+    /// Whether each receiver that is waited for was heard.
     pub fn heard(&self) -> bool
         ensures { result ≡ self.now.heard }
     {

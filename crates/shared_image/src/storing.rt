@@ -1,4 +1,4 @@
-//! A frame is stored: its words, its start bit, then the held bits behind the word of its first unit's, then those of that
+//! A frame is stored: its words, its start bit, the held bits in later words than its first unit's, and last those in that
 //! word.
 
 ghost use Rattle.std.specs.Prelude.{◌≡◌, [], ◌∷◌, ◌+◌, ◌*◌, ◌/◌, ◌%◌, ◌^◌, ◌<◌, ◌≤◌, length};

@@ -15,7 +15,7 @@
 //! packets were lost, repeated or reordered, and whatever bytes were handed to the sender or to other receivers.
 //! Bytes of the script's own may reach that receiver too, as long as each DATA frame and padding that its image is
 //! given, and the SETUP that opens it, stands in a packet that was printed before; else nothing is said of its
-//! messages. From the first fault of its assembler on it isn't said which messages its polls print.
+//! messages. From the first `A1` on it isn't said which messages its polls print.
 //!
 //! Without these premises: what an assembler gives of the frames that a reader's lines showed is what was published
 //! from the start to the end of these frames; the frames of each image never overlap, its consumer stays within what
