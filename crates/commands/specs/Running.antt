@@ -5,7 +5,7 @@ use Rattle.simulation.specs.LineTexts.{shares_text}
 use Rattle.options.specs.Run.Plans.{IsPlanOf}
 use Rattle.options.specs.declared.run.made.Plan.{Plan}
 use Rattle.options.specs.declared.run.options.RunOptions.{RunOptions}
-use Rattle.run.specs.Outcomes.{IsOutcome, ending_of}
+use Rattle.run.specs.Outcomes.{IsOutcome, PublishersPublish, ReceiversLiveLossily, ending_of}
 use Rattle.run.specs.declared.outcome.Ending.{Ending}
 use Rattle.run.specs.declared.outcome.Outcome.{Outcome}
 use Rattle.run.specs.declared.outcome.Polled.{Polled}
@@ -28,5 +28,8 @@ pub record IsLeftBy (options : RunOptions) (before after : Option (List ℕ)) (e
   pub planned : IsPlanOf options plan
   pub outcome : Outcome
   pub left : IsOutcome plan outcome
+  -- whose receivers lived so, and whose publishers published that
+  pub lives : ReceiversLiveLossily plan outcome.tallies.items
+  pub published : PublishersPublish plan outcome
   pub ended : ending ≡ ending_of outcome
   pub written : Appends before after (outcome_text outcome)

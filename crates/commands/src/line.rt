@@ -35,15 +35,13 @@ const PUBLISH_HELP: [&str; 2] = ["publish", "--help"];
 /// The line that asks for the help of `subscribe`.
 const SUBSCRIBE_HELP: [&str; 2] = ["subscribe", "--help"];
 
-/// Carries out a command line over a reader and two writers, and gives the status: 0 where all was done, 1 at a fault,
-/// 2 for a refused command line, and for an end's refused channel or rates, 3 for a run whose turns were used before all was
-/// polled by each receiver's subscriber, for a publisher that ended before one receiver had received all from the start on, and for a subscriber that was
-/// to end with the stream and didn't. The first word is the program's name; `--version` or `-V` alone asks for the version,
-/// and `publish` and `subscribe` are carried out by `publish_command` and `subscribe_command`. The input is taken over, since
-/// the thread that reads it may outlive the command.
+/// Carries out a command line, and gives the status: 0 where all was done, 1 at a fault, 2 where the line, an end's channel,
+/// endpoints or rates are refused, 3 where a run was short, a publisher ended before all was written, or a subscriber with
+/// `--once` wasn't told the end. The first word is the program's name. The input is taken over, since the thread that reads it
+/// may outlive the command.
 ///
-/// What is written for each isn't promised here: `options`, `sim`, `decode` and `run_driver` say what they make of the words
-/// and of the input, and the texts of help and refusals are the parser's, of which no contract speaks.
+/// What is written isn't promised here: `options`, `sim`, `decode` and `run_driver` say what they make of the words and of the
+/// input; the texts of help and refusals are the parser's, of which no contract speaks.
 pub fn command<
     'a,
     C: Threads + Wait + Clock + Net + RandomSource + Sync + Send + Copy + 'static,

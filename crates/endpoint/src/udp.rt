@@ -82,7 +82,8 @@ fn is_loss(error: &io::Error) -> bool
 }
 
 impl UdpDevice {
-    /// A device at a port of 127.0.0.1 that the system chooses, with no peer yet.
+    /// A device at a port of 127.0.0.1 that the system chooses, with no peer yet. `Device`: the system refuses the socket;
+    /// `Memory`: there is none for its datagrams. So it is with the calls below; of a refused one nothing is left.
     pub fn bind<R: Net>(rt: &R, alloc: Global) -> Result<UdpDevice, DeviceError>
         ensures { IfOk result (λ u. u.device ≡ fresh) }
     {

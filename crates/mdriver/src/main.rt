@@ -14,11 +14,11 @@ mod lines;
 mod shared;
 
 use command_line::process_words;
-use commands::{Fault, command};
+use commands::command;
 use lines::ErrorLines;
 use std::alloc::AllocGlobal;
 use std::env::Env;
-use std::io::{self, BufWriter, Read, Write};
+use std::io::{self, BufWriter, ErrorKind, Read, Write};
 use std::net::Net;
 use std::process::ExitCode;
 use std::random::RandomSource;
@@ -32,15 +32,23 @@ fn main(rt: HostRuntime) -> ExitCode {
     errors.finish();
     match done {
         Ok(status) => ExitCode::from(status),
-        Err(_) => {
-            let fault = Fault::Memory;
-            let _ = eprintln!(rt; "error: {fault}");
+        Err(error) => {
+            let text = fault_text(&error);
+            let _ = eprintln!(rt; "error: {text}");
             ExitCode::from(1)
         }
     }
 }
 
-/// Carries out the process's command line. What fails here is memory, before anything was read.
+/// What a user reads where no command was begun.
+fn fault_text(error: &io::Error) -> &'static str {
+    match error.kind() {
+        ErrorKind::InvalidData => "a word of the command line is no text",
+        _ => "memory",
+    }
+}
+
+/// Carries out the process's command line. What fails here is memory, or a word that is no text; nothing was read then.
 fn carry_out<
     C: Threads
         + Wait

@@ -35,7 +35,7 @@ use std::sync::{Arc, Wait};
 use std::thread::Threads;
 use std::time::Clock;
 
-/// What the threads share, once for each.
+/// What the threads share, once for each. The fault is that memory was refused.
 pub fn shared(
     alloc: Global,
     state: OfferingState,
@@ -87,7 +87,7 @@ impl<I> Offering<I> {
     }
 }
 
-/// Starts the thread that reads.
+/// Starts the thread that reads. The fault is `Device`: the system refused a thread.
 pub fn started<R: Threads + Clock + Send + Copy + 'static, I: BufRead + Send + Drop + 'static>(
     rt: &R,
     alloc: Global,
@@ -151,7 +151,8 @@ fn publish_shared<
     Ok((published, passes_of(sender)))
 }
 
-/// Runs with all that a publisher begins with, over any device. What is left of its log comes back.
+/// Runs with all that a publisher begins with, over any device. What is left of its log comes back. The faults are those of
+/// `publish`, but for `NoSocket`.
 pub fn publish_over<
     R: Threads + Wait + Clock + Send + Copy + 'static,
     I: BufRead + Send + Drop + 'static,

@@ -58,7 +58,7 @@ impl Progress {
         }
     }
 
-    /// Sees what was heard up to a moment. Whether receivers have changed.
+    /// Sees what was heard up to a moment, in nanoseconds as all here. Whether receivers have changed.
     pub fn see(&mut self, cycle: &Seen, now: u64) -> bool
         ensures changed { result ≡ not (nat_eq cycle.now.attendance.changes self.old.changes) }
         ensures seen { self.new ≡ seen self.old cycle.now now }

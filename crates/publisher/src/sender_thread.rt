@@ -124,7 +124,8 @@ fn cycle<R: Wait + Clock, D: Datagrams>(
 }
 
 /// Sends and keeps until the publisher ends. The answer is how, by the receivers that its device has heard, and by how the
-/// reading had ended then.
+/// reading had ended then. The fault is the input's where no message came before it, `Device` where the device or the clock
+/// failed.
 #[tactic(auto, using(crate::proofs::Ends::ends, sender_meaning::proofs::Cycles::lived_on))]
 pub fn send_all<R: Wait + Clock, D: Datagrams, E: Write>(
     context: &PublisherContext<'_, R>,

@@ -250,7 +250,7 @@ impl ReceiverCore {
         self.clock = self.clock.max(now);
     }
 
-    /// Takes a datagram, and says what became of each of its frames. One that can't be read is counted by its fault. The
+    /// Takes a datagram at a moment, in nanoseconds of any clock that doesn't go back, and says what became of each of its frames. One that can't be read is counted by its fault. The
     /// image's consumers are looked at once for each frame, and may have gone forward since they were seen last.
     /// Memory is asked for twice: for the outcomes, and at a SETUP that opens an image. Where it is refused, nothing has
     /// changed, the moment isn't seen either, and the datagram may be handed in again.
@@ -489,7 +489,7 @@ impl ReceiverCore {
         }
     }
 
-    /// Takes a moment, and gives what goes out then. The image's consumers are looked at once.
+    /// Takes a moment, in nanoseconds, and gives what goes out then. The image's consumers are looked at once.
     pub fn tick(&mut self, now: u64) -> Replies
         ensures replies { (r : Receiver) → Represents (core_seen_as self.old self.new) r → replied result ≡ replies r now }
         ensures state { (r : Receiver) → Represents (core_seen_as self.old self.new) r → Represents self.new (ticked r now) }

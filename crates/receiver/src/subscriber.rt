@@ -65,7 +65,7 @@ impl Subscriber {
         })
     }
 
-    /// Takes a datagram, and says what became of each of its frames. At an error memory was refused and nothing has
+    /// Takes a datagram at a moment, in nanoseconds, and says what became of each of its frames. At an error memory was refused and nothing has
     /// changed: it may be handed in again.
     pub fn on_datagram(&mut self, bytes: &[u8], now: u64) -> Result<Vec<Outcome>, AllocError>
         ensures heard { IfOk result (λ outs. SubscriberBecomes self.old self.new (λ r s. TakesDatagram r now bytes.now outs.items s)) }
@@ -84,7 +84,7 @@ impl Subscriber {
         self.core.refused()
     }
 
-    /// Takes a moment, and gives what goes out then.
+    /// Takes a moment, in nanoseconds, and gives what goes out then.
     pub fn tick(&mut self, now: u64) -> Replies
         ensures replies { (r : Receiver) → RepresentsSubscriber self.old r → replied result ≡ replies r now }
         ensures state { (r : Receiver) → RepresentsSubscriber self.old r → RepresentsSubscriber self.new (ticked r now) }
@@ -96,8 +96,9 @@ impl Subscriber {
         replies
     }
 
-    /// Reads on until a message is complete, the assembler refuses a frame, or no frame is left: none then. The fault is
-    /// `A2` exactly where the message would be longer than the greatest. A message that is given has no more bytes.
+    /// Reads on until a message is complete, the assembler refuses a frame, or no frame is left: none then. The faults are
+    /// `NoImage`, where none is open; `A1`, where memory was refused to a part; `A2`, exactly where the message would be longer
+    /// than the greatest. A message that is given is no longer than that.
     pub fn poll(&mut self) -> Result<Option<Message<Global>>, PollError>
         ensures polled { SubscriberBecomes self.old self.new (λ r s. Polls r (answer_of result) s) }
         ensures small { IfOk result (λ m. IfSome m (λ m. length m.bytes.items ≤ self.old.assembler.greatest)) }

@@ -60,7 +60,7 @@ fn positions_line(positions: Option<Positions>) -> Line
 }
 
 impl<L: OneHandLog> Simulation<L> {
-    /// Plays one command, and adds its lines.
+    /// Plays one command, and adds its lines. The error is that memory was refused; then nothing is said of what stands.
     pub fn play(&mut self, command: &Command, lines: &mut Vec<Line>) -> Result<(), AllocError>
         requires { StandsSomewhere self.old }
         ensures { OnOk result (IsAnswered self.old (commands.content_of command.now) lines.old.items lines.new.items self.new) }

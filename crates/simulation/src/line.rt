@@ -65,7 +65,7 @@ pub enum Line {
     Book(Book),
 }
 
-/// Adds a line.
+/// Adds a line. The error is that memory was refused.
 pub fn add_line(lines: &mut Vec<Line>, line: Line) -> Result<(), AllocError>
     ensures { OnOk result (lines.new.items ≡ lines.old.items ++ line ∷ []) }
 {

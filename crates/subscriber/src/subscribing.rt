@@ -107,26 +107,18 @@ fn listen_and_follow<R: Wait + Clock, W: Write, E: Write>(
     }
 }
 
-/// Subscribes as planned, over a socket that is bound so, and writes each message to the output as the plan's form says. The
-/// answer is how many were written, and how it ended.
+/// Subscribes as planned, over a socket that is bound so, once, and writes each message to the output as the plan's form says.
+/// The answer is how many were written, and how it ended.
 ///
 /// It ends whole behind as many messages as are wanted. One that is to end with the stream ends whole where the publisher told
 /// the stream's end and all before that is written and flushed, and short where it was quiet before: no DATA frame, padding or
 /// heartbeat of its session came from its peer for as long as the plan says, or before it had an image no datagram that the
 /// plan takes. One that isn't ends whole where it was quiet.
 ///
-/// Its socket is bound once. An image is kept while its session is silent. After 10 seconds of silence another SETUP that the
-/// plan takes closes it, and opens a new one under a receiver id of its own: the plan's and the image's number, from 0. What is
-/// joined, silent, heard again and closed, another sender of a session that isn't silent, and the counters are lines of
+/// What is joined, silent, heard again and closed, another sender of a session that isn't silent, and the counters are lines of
 /// `errors`, and at the end what was refused, where anything was.
 ///
-/// While the output blocks, a thread of its own sends the last status message again, so that the publisher doesn't take it for
-/// gone. That one is ended and joined however this ends. The time in which the output blocked is no silence.
-///
-/// The fault is `Taken` where another socket has the address, `NotHere` where this machine doesn't, `Output` where the output
-/// failed, `Message` where a message was refused, and `Failed`: `Device` where the socket can't be bound or have a second
-/// handle, all its calls failed for 5 seconds, or the clock can't be read, and `Memory` where memory or the thread was refused. Behind a fault the output may end within a
-/// message.
+/// The fault says why (`SubscribeFault`). Behind one the output may end within a message.
 pub fn subscribe<R: Threads + Wait + Clock + Net + Copy + Send + 'static, W: Write, E: Write>(
     rt: &R,
     alloc: Global,

@@ -170,7 +170,8 @@ fn invited(alloc: Global, plan: &SubscribePlan, number: u64, setup: &Setup) -> R
     )
 }
 
-/// The subscriber to the image with this number that a SETUP opens.
+/// The subscriber to the image with this number that a SETUP opens at a moment, in nanoseconds. The error is that memory was
+/// refused.
 pub fn opened(
     alloc: Global,
     plan: &SubscribePlan,

@@ -27,7 +27,8 @@ pub struct ClaimPass {
 impl PublisherPass {
     ghost use Rattle.claims.specs.Passes.Claiming.{DeclinesClaim, Opens, Writes};
 
-    /// Claims a range for a message of `size` bytes, zeros at first. Where it is denied, the publisher comes back.
+    /// Claims a range for a message of `size` bytes, zeros at first. Where it is denied, the publisher comes back with the cause:
+    /// `Long`, `Refused` or `Memory`.
     pub fn claim(self, size: usize) -> Result<ClaimPass, (Fault, PublisherPass)>
         ensures opened { IfOk result (λ c. Opens self size c) }
         ensures declined { IfErr result (λ d. DeclinesClaim self size d.0 d.1) }
@@ -60,7 +61,7 @@ fn write_at(bytes: &mut [u8], offset: usize, part: &[u8])
 impl ClaimPass {
     ghost use Rattle.claims.specs.Passes.Claiming.{DeclinesPart, Ends, Writes};
 
-    /// Writes bytes into the message, from an offset on. They must be inside it.
+    /// Writes bytes into the message, from an offset on. The fault is `Outside`, where they aren't inside it: nothing is written.
     pub fn write(&mut self, offset: usize, part: &[u8]) -> Result<(), Fault>
         ensures written { OnOk result (Writes self.old offset part.now self.new) }
         ensures declined { IfErr result (λ fault. DeclinesPart self.old offset (length part.now) fault self.new) }

@@ -159,7 +159,7 @@ impl Opened {
         })
     }
 
-    /// The first publisher that nobody took yet.
+    /// The first publisher that nobody took yet. The fault is `NoneLeft`, or `Memory`; nothing is taken then.
     pub fn take_publisher(&mut self) -> Result<PublisherPass, Fault>
         ensures taken { IfOk result (λ p. TakesPublisher self.old p self.new) }
         ensures declined { IfErr result (λ fault. DeclinesPublisher self.old fault self.new) }
@@ -173,7 +173,7 @@ impl Opened {
         }
     }
 
-    /// The first reader that nobody took yet.
+    /// The first reader that nobody took yet. The fault is `NoneLeft`, or `Memory`; nothing is taken then.
     pub fn take_reader(&mut self) -> Result<ReaderPass, Fault>
         ensures taken { IfOk result (λ p. TakesReader self.old p self.new) }
         ensures declined { IfErr result (λ fault. DeclinesReader self.old fault self.new) }
@@ -187,7 +187,7 @@ impl Opened {
         }
     }
 
-    /// The keeper, once.
+    /// The keeper, once. The fault is `NoneLeft`, or `Memory`; nothing is taken then.
     pub fn take_keeper(&mut self) -> Result<KeeperPass, Fault>
         ensures taken { IfOk result (λ p. TakesKeeper self.old p self.new) }
         ensures declined { IfErr result (λ fault. DeclinesKeeper self.old fault self.new) }

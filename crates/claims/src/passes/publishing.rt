@@ -43,7 +43,8 @@ impl PublisherPass {
         PublisherPass { log, claimant }
     }
 
-    /// Offers a message. The answer is the position behind its frames.
+    /// Offers a message. The answer is the position behind its frames. The fault is `Long`, where no message may be so long, or
+    /// `Refused`, with the cause; nothing is committed then but a padding at a term's end.
     pub fn offer(&mut self, message: &[u8]) -> Result<u64, Fault>
         ensures accepted { IfOk result (λ end. Accepts self.old message.now end self.new) }
         ensures declined { IfErr result (λ fault. Declines self.old (length message.now) fault self.new) }

@@ -27,7 +27,7 @@ pub struct PublishOptions<'a> {
     pub to: Vec<&'a str>,
     /// After how many seconds without a status message of a receiver that was heard it gives up.
     pub linger: u32,
-    /// After how many seconds in which nobody was ever heard it gives up.
+    /// After how many seconds in which nobody was ever heard it gives up; the greatest number stands for never.
     pub wait: u32,
 }
 
@@ -35,9 +35,9 @@ pub struct PublishOptions<'a> {
 #[derive(Clone, Copy, Debug)]
 pub struct SubscribeOptions<'a> {
     pub end: EndOptions<'a>,
-    /// After how many messages it ends.
+    /// After how many messages it ends; the greatest number stands for never.
     pub messages: u64,
-    /// After how many seconds without a datagram it ends.
+    /// After how many seconds without a datagram it ends; the greatest number stands for never.
     pub quiet: u32,
     /// Whether it ends with the stream.
     pub once: bool,

@@ -6,6 +6,8 @@ returns g c = record {
   planned = c.in_ok-plan.ensures.made;
   outcome = c.in_ok-outcome.outcome;
   left = c.in_ok-outcome.ensures.outcome;
+  lives = c.in_ok-outcome.ensures.lives;
+  published = c.in_ok-outcome.ensures.published;
   ended = c.ending.ensures;
   written = c.in_ok-show_outcome.ensures.done;
 }
