@@ -133,6 +133,7 @@ int32_t pv_offer(pv_publisher *publisher, const uint8_t *message, size_t length,
 /* PV_DONE, and the position at which the claim begins: it has `length` zeros. Readers wait before it until it ends. */
 int32_t pv_claim(pv_publisher *publisher, size_t length, uint64_t *start);
 
+/* PV_DONE: the claim has these bytes from the offset on. PV_OUTSIDE: they don't lie inside it, and nothing is written. */
 int32_t pv_claim_write(pv_publisher *publisher, size_t offset, const uint8_t *bytes, size_t length);
 
 /* PV_DONE, and the position behind the claim: with its message, or as a padding that readers pass. */
@@ -147,11 +148,12 @@ int32_t pv_share(pv_publisher *publisher, uint64_t *share);
 typedef struct pv_frame {
     uint64_t position;          /* where it starts */
     size_t length;              /* of its payload; 0 of a padding */
-    uint8_t flags;              /* 128 where a message begins, 64 where it ends, 192 of a whole one */
+    uint8_t flags;              /* 128 where a message begins, 64 where it ends, 192 of a whole one and of a padding */
     bool is_data;               /* else it is a padding, to be passed */
 } pv_frame;
 
-/* PV_FRAME: the frame where the reader stands, its payload at the front of the room; the reader stays. PV_DONE: none yet. */
+/* PV_FRAME: the frame where the reader stands, its payload at the front of the room; the reader stays. PV_DONE: none yet.
+   PV_ROOM_TOO_SMALL: nothing is read, and `frame` has the length that the room has to have. */
 int32_t pv_next(pv_reader *reader, uint8_t *room, size_t size, pv_frame *frame);
 
 /* PV_FRAME: the reader stands behind the frame that it read. PV_DONE: it had read none. */
@@ -162,10 +164,11 @@ int32_t pv_advance(pv_reader *reader);
 /* Cleans what all readers have left behind by a term or more, and raises the limit to half a term above the least of them. */
 int32_t pv_clean_and_limit(pv_keeper *keeper, uint64_t *limit);
 
+/* Says whether somebody receives the stream: else offers are refused. Closing is for good. */
 int32_t pv_set_connected(pv_keeper *keeper, bool connected);
 int32_t pv_set_closed(pv_keeper *keeper);
 
-/* Opens a reader at the position of the least one. */
+/* Opens a further reader, at the position of the least one; PV_FULL where eight are there. */
 int32_t pv_join(pv_keeper *keeper, pv_reader *reader);
 
 /* ---- a subscriber and a sender: datagrams and moments in, datagrams out one by one. Moments are nanoseconds of any clock that
@@ -211,6 +214,7 @@ typedef struct pv_subscription {
     uint32_t window;            /* bytes: a multiple of 32 from the MTU to half a term, or each SETUP is refused */
 } pv_subscription;
 
+/* A subscriber without an image: a SETUP of its session and stream opens one. */
 int32_t pv_open_subscriber(const pv_subscription *config, pv_subscriber *subscriber);
 
 /* PV_DONE, and of how many frames the datagram is; what became of them is written as far as there is room. After PV_NO_MEMORY
