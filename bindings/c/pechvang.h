@@ -133,7 +133,7 @@ int32_t pv_offer(pv_publisher *publisher, const uint8_t *message, size_t length,
 /* PV_DONE, and the position at which the claim begins: it has `length` zeros. Readers wait before it until it ends. */
 int32_t pv_claim(pv_publisher *publisher, size_t length, uint64_t *start);
 
-/* PV_DONE: the claim has these bytes from the offset on. PV_OUTSIDE: they don't lie inside it, and nothing is written. */
+/* PV_DONE: the claim has these bytes from the offset on. PV_OUTSIDE_CLAIM: they don't lie inside it, and nothing is written. */
 int32_t pv_claim_write(pv_publisher *publisher, size_t offset, const uint8_t *bytes, size_t length);
 
 /* PV_DONE, and the position behind the claim: with its message, or as a padding that readers pass. */
