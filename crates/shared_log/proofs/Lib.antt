@@ -14,3 +14,5 @@ mod Owned
 mod Gathered
 mod Together
 mod Storing
+mod Copying
+mod Cleaned

@@ -21,7 +21,8 @@ pub enum SubscribeFault {
     Output,
     /// A message was refused, and is lost.
     Message,
-    /// The socket or the clock failed, or memory was refused.
+    /// `Device`: the socket can't be bound or have a second handle, all its calls failed for 5 seconds, the clock can't be
+    /// read, or the system refused a thread. `Memory`: memory was refused.
     Failed(DeviceError),
 }
 

@@ -1,7 +1,7 @@
 //! A subscriber's end of a channel: one thread listens until a SETUP opens an image, writes each message as
 //! soon as it is polled, and only then hears and answers, so that a status message never tells of a message that
 //! isn't written. While the output blocks a second thread sends the last status message again, which tells nothing
-//! new; the first one tells it what was sent by a slot that keeps the newest (`Repeater` of `subscription`). What
+//! new; the first one tells it what was sent by a slot that keeps the newest (`StatusRepeater`). What
 //! opens an image, what is heard, and the time that passes are `subscription`'s.
 //!
 //! While the session isn't silent no SETUP changes anything; of a silent one a SETUP of its own ties the device to
@@ -20,8 +20,8 @@
 //! the other, at most as many as were wanted, and it has counted them (`Writes`): those that the polls of its images
 //! gave, image by image, each of which a SETUP opened and which lived through datagrams, moments and polls since
 //! (`WritesLives`); of honest datagrams that is a run of the stream (`receiver`). Which datagrams came isn't
-//! said, since its device tells nothing; nor that anything comes, nor what the second thread sends, but for each turn
-//! (`Repeater::turn`): `tools/channels` shows it.
+//! said, since its device tells nothing; nor that anything comes. The second thread has nothing to send by but a
+//! `StatusRepeater`, of which each turn is exact; that it gives turns, and in time, `tools/channels` shows.
 #![tactic(auto)]
 
 mod delivery;

@@ -3,13 +3,13 @@
 use crate::fault::SubscribeFault;
 use agents::Began;
 use crossbeam_queue::ArrayQueue;
-use peer::StatusSocket;
+use endpoint::DeviceError;
 use std::alloc::{AllocError, Global};
 use std::sync::{Arc, Wait};
 use std::thread;
 use std::thread::{JoinHandle, Threads};
 use std::time::{Clock, Duration};
-use subscription::{News, Repeater};
+use subscription::{News, StatusRepeater};
 
 /// Milliseconds from one look to the next.
 const PAUSE: u64 = 100;
@@ -53,8 +53,7 @@ fn moment_from<R: Clock>(rt: &R, began: &Began, before: u64) -> u64 {
 }
 
 /// Looks each 100 ms for what is new, and repeats the last status message where it is due, until it is told to end.
-fn repeat_all<R: Wait + Clock>(rt: &R, slot: &Slot, began: &Began, mut socket: StatusSocket) {
-    let mut repeater = Repeater::new();
+fn repeat_all<R: Wait + Clock>(rt: &R, slot: &Slot, began: &Began, mut repeater: StatusRepeater) {
     let mut now = 0;
     for _ in rt.forever() {
         thread::sleep(rt, Duration::from_millis(PAUSE));
@@ -64,7 +63,7 @@ fn repeat_all<R: Wait + Clock>(rt: &R, slot: &Slot, began: &Began, mut socket: S
             None => None,
         };
         now = moment_from(rt, began, now);
-        repeater.turn(&mut socket, now, news);
+        repeater.turn(now, news);
     }
     unreachable!()
 }
@@ -76,30 +75,32 @@ pub(crate) struct Repeating {
     handle: JoinHandle<()>,
 }
 
-/// Starts the thread. The error is that memory or the thread was refused.
+/// Starts the thread. The fault is `Memory`, or `Device` where the system refused the thread.
 fn started<R: Threads + Wait + Clock + Copy + Send + 'static>(
     rt: &R,
     alloc: Global,
-    socket: StatusSocket,
+    repeater: StatusRepeater,
     began: Began,
-) -> Result<Repeating, AllocError> {
+) -> Result<Repeating, SubscribeFault> {
     let slot = Arc::new(alloc, Slot::new(alloc)?)?;
     let theirs = Arc::try_clone(&slot)?;
     let there = *rt;
-    let handle = thread::spawn(rt, move || repeat_all(&there, &theirs, &began, socket))?;
-    Ok(Repeating { slot, handle })
+    match thread::spawn(rt, move || repeat_all(&there, &theirs, &began, repeater)) {
+        Ok(handle) => Ok(Repeating { slot, handle }),
+        Err(_) => Err(SubscribeFault::Failed(DeviceError::Device)),
+    }
 }
 
 impl Repeating {
-    /// Starts the thread, which sends by this socket. The fault is that the clock can't be read, or that memory or the thread
-    /// was refused.
+    /// Starts the thread, which gives the repeater its turns. The fault is `Device` where the clock can't be read or the
+    /// system refused the thread, or `Memory`.
     pub(crate) fn start<R: Threads + Wait + Clock + Copy + Send + 'static>(
         rt: &R,
         alloc: Global,
-        socket: StatusSocket,
+        repeater: StatusRepeater,
     ) -> Result<Repeating, SubscribeFault> {
         let began = Began::now(rt)?;
-        Ok(started(rt, alloc, socket, began)?)
+        started(rt, alloc, repeater, began)
     }
 
     /// Where the thread is told something.

@@ -22,7 +22,7 @@ use std::net::{Net, SocketAddr};
 use std::sync::Wait;
 use std::thread::Threads;
 use std::time::{Clock, Instant};
-use subscription::{Joined, Watch, listen, tell_joined, tell_refused};
+use subscription::{Joined, StatusRepeater, Watch, listen, tell_joined, tell_refused};
 
 /// Why there is no listener at this address.
 fn fault_of(address: SocketAddr, error: BindError) -> SubscribeFault
@@ -140,7 +140,8 @@ pub fn subscribe<R: Threads + Wait + Clock + Net + Copy + Send + 'static, W: Wri
     };
     let mut watch = Watch::new(began);
     let listener = bind(rt, alloc, binding)?;
-    let repeating = Repeating::start(rt, alloc, listener.status_socket()?)?;
+    let repeater = StatusRepeater::new(listener.status_socket()?);
+    let repeating = Repeating::start(rt, alloc, repeater)?;
     let slot = repeating.slot();
     let done = listen_and_follow(rt, alloc, plan, listener, output, errors, &mut watch, slot);
     repeating.end(rt);

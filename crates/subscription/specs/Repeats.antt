@@ -46,6 +46,11 @@ abbrev pub given_again : StatusSending → Option Sent → StatusSending
 given_again s None = s
 given_again s (Some sent) = giving s sent.to sent.bytes
 
+-- what is to be repeated, and by which socket
+pub record RepeatingBy : Type 0 where
+  pub repeating : Repeating
+  pub socket : StatusSending
+
 -- what was new at a moment, and what was sent then
 pub record Turn : Type 0 where
   pub moment : ℕ

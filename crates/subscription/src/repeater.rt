@@ -78,20 +78,42 @@ impl Repeater {
         self.held = held_by(now, &news);
         None
     }
+}
 
-    /// A step at a moment, whose message goes to its peer by this socket. The answer is that message.
-    pub fn turn(
-        &mut self,
-        socket: &mut StatusSocket,
-        now: u64,
-        news: Option<News>,
-    ) -> Option<SentStatus>
-        ensures step { Steps now news self.old result self.new }
-        ensures given { socket.new ≡ given_again socket.old result }
+/// A repeater with the socket by which it sends. Whoever has it can give it turns, and nothing else goes out.
+#[derive(Drop)]
+pub struct StatusRepeater {
+    repeater: Repeater,
+    socket: StatusSocket,
+}
+
+impl Model for StatusRepeater {
+    ghost use Rattle.subscription.specs.Repeats.{RepeatingBy};
+
+    ghost Value = { RepeatingBy };
+
+    ghost view = { λ r. record { repeating = r.repeater; socket = r.socket } };
+}
+
+impl StatusRepeater {
+    /// One that was told of nothing yet, and sends by this socket.
+    pub fn new(socket: StatusSocket) -> StatusRepeater
+        ensures { result ≡ record { repeating = holding_none; socket = socket } }
     {
-        let sent = self.step(now, news);
+        StatusRepeater {
+            repeater: Repeater::new(),
+            socket,
+        }
+    }
+
+    /// A step at a moment, whose message goes to its peer. The answer is that message.
+    pub fn turn(&mut self, now: u64, news: Option<News>) -> Option<SentStatus>
+        ensures step { Steps now news self.old.repeating result self.new.repeating }
+        ensures given { self.new.socket ≡ given_again self.old.socket result }
+    {
+        let sent = self.repeater.step(now, news);
         if let Some(status) = &sent {
-            socket.send(status.to(), status.bytes());
+            self.socket.send(status.to(), status.bytes());
         }
         sent
     }
