@@ -3,3 +3,5 @@ pub mod Written
 pub mod Patience
 pub mod Lived
 pub mod Leaving
+pub mod Told
+pub mod Breaking

@@ -37,11 +37,11 @@ given_on (Ticks now ∷ xs) ys = given_on xs ys
 given_on (Gives message ∷ xs) ys = ap (λ ms. message ∷ ms) (given_on xs ys)
 given_on (GivesNone ∷ xs) ys = given_on xs ys
 
-all_polled : (s t : Subscribing) (messages : List (List ℕ)) → PollsAll s messages t → Lives s (map Gives messages) t
+pub all_polled : (s t : Subscribing) (messages : List (List ℕ)) → PollsAll s messages t → Lives s (map Gives messages) t
 all_polled s t [] all = all
 all_polled s t (m ∷ ms) all = (all.0, all.1, all_polled all.0 t ms all.2)
 
-polled_given : (messages : List (List ℕ)) → given_in (map Gives messages) ≡ messages
+pub polled_given : (messages : List (List ℕ)) → given_in (map Gives messages) ≡ messages
 polled_given [] = refl
 polled_given (m ∷ ms) = ap (λ xs. m ∷ xs) (polled_given ms)
 
@@ -56,7 +56,7 @@ heard_given now (d ∷ ds) = heard_given now ds
 -- ---- a cycle
 
 -- it polled all, and where there was none more to poll it found that
-delivered_lives : (form : Form) (most : ℕ) (s t : Subscribing) (a b : Option (List ℕ)) (number : ℕ) → (d : Delivers form most s a number t b) → (acts : List Act) × Lives s acts t × (given_in acts ≡ d.messages)
+pub delivered_lives : (form : Form) (most : ℕ) (s t : Subscribing) (a b : Option (List ℕ)) (number : ℕ) → (d : Delivers form most s a number t b) → (acts : List Act) × Lives s acts t × (given_in acts ≡ d.messages)
 delivered_lives form most s t a b number d = by_end d.ended
   where
     by_end : (((length d.messages ≡ most) × (t ≡ d.middle)) ⊎ PollsNone d.middle t) → (acts : List Act) × Lives s acts t × (given_in acts ≡ d.messages)
@@ -84,7 +84,7 @@ cycle_lives form most now count more tells s a d done t b e sum w =
 
 -- ---- from image to image
 
-spelled_on : (form : Form) (xs ys : List (List ℕ)) → spelling form (xs ++ ys) ≡ spelling form xs ++ spelling form ys
+pub spelled_on : (form : Form) (xs ys : List (List ℕ)) → spelling form (xs ++ ys) ≡ spelling form xs ++ spelling form ys
 spelled_on form xs ys = flat_map-append (spelled form) xs ys
 
 -- the first image

@@ -5,3 +5,4 @@ pub mod Turning
 pub mod Leavings
 pub mod Writings
 pub mod Living
+pub mod Breaking

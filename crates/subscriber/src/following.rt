@@ -1,7 +1,8 @@
 //! A subscriber with an image.
 
-ghost use Rattle.std.specs.Prelude.{◌≡◌, ◌≢◌, ◌≤◌, ◌↔◌, ◌+◌, ◌-◌, ◌^◌, min, ℕ, IfErr, IfOk, IsTrue, OnOk, Some};
+ghost use Rattle.std.specs.Prelude.{◌≡◌, ◌≢◌, ◌≤◌, ◌↔◌, ◌+◌, ◌-◌, ◌^◌, min, ℕ, IfErr, IfOk, IsTrue, OnErr, OnOk, Some};
 ghost use Rattle.endpoint.specs.declared.device_error.DeviceError.TheVariants.{Device};
+ghost use Rattle.subscriber.specs.Breaking.{BreaksActs, BreaksLife};
 ghost use Rattle.subscriber.specs.Leavings.{HasAll, HasEnough, IsEnding, IsQuietEnding, LivesUnpolled, NotesHeard, NotesWork, StandsHere, StandsStill};
 ghost use Rattle.subscription.specs.Watches.{IsBroken, IsSilent};
 ghost use Rattle.subscriber.specs.declared.fault.SubscribeFault.TheVariants.{Failed};
@@ -56,6 +57,8 @@ fn cycle_once<W: Write>(
     ensures heard { OnOk result (NotesHeard joined.old.duty.device.notes.frames joined.new.duty.device.notes.frames watch.old watch.new) }
     ensures writes { IfOk result (λ r. (r.0 ≤ plan.now.messages) × Writes plan.now.end.form written (W.contents output.old) r.0 (W.contents output.new)) }
     ensures lives { IfOk result (λ r. WritesActs plan.now.end.form written joined.old.subscriber (W.contents output.old) r.0 joined.new.subscriber (W.contents output.new)) }
+    // At a fault all that was told is written.
+    ensures broken { OnErr result (BreaksActs plan.now.end.form joined.old.subscriber (W.contents output.old) joined.new.subscriber (W.contents output.new)) }
     ensures number { joined.new.number ≡ joined.old.number }
 {
     let before = joined.duty.device().notes().frames;
@@ -218,6 +221,7 @@ pub(crate) fn follow<R: Wait + Clock, W: Write, E: Write>(
     ensures writes { IfOk result (λ r. Writes plan.now.end.form 0 (W.contents output.old) r.0 (W.contents output.new)) }
     // What its images gave, each in its turn.
     ensures lives { IfOk result (λ r. WritesLife plan.now (W.contents output.old) r.0 joined.new.number joined.new.subscriber (W.contents output.new)) }
+    ensures broken { OnErr result (BreaksLife plan.now (W.contents output.old) joined.new.subscriber (W.contents output.new)) }
 {
     let mut written: u64 = 0;
     let mut idle = IdleStrategy::new();

@@ -1,7 +1,8 @@
 //! A subscriber from its begin to its end.
 
-ghost use Rattle.std.specs.Prelude.{◌≡◌, ◌≤◌, IfErr, IfOk, IsTrue};
+ghost use Rattle.std.specs.Prelude.{◌≡◌, ◌≤◌, IfErr, IfOk, IsTrue, OnErr};
 ghost use Rattle.peer.specs.declared.fault.BindError.{BindError};
+ghost use Rattle.subscriber.specs.Breaking.{BreaksLife, BreaksLives};
 ghost use Rattle.subscriber.specs.Leavings.{of_bind};
 ghost use Rattle.subscriber.specs.Living.{WritesLife, WritesLives};
 ghost use Rattle.subscriber.specs.Writings.{Writes};
@@ -63,6 +64,7 @@ fn follow_all<R: Wait + Clock, W: Write, E: Write>(
     ensures short { IfOk result (λ s. s.ending ≡ Short → IsTrue plan.now.once) }
     ensures writes { IfOk result (λ s. Writes plan.now.end.form 0 (W.contents output.old) s.messages (W.contents output.new)) }
     ensures lives { IfOk result (λ s. WritesLife plan.now (W.contents output.old) s.messages joined.new.number joined.new.subscriber (W.contents output.new)) }
+    ensures broken { OnErr result (BreaksLife plan.now (W.contents output.old) joined.new.subscriber (W.contents output.new)) }
 {
     tell_joined(errors, joined.opening.session, joined.place());
     let followed = follow(rt, alloc, plan, joined, output, errors, watch, slot);
@@ -90,6 +92,7 @@ fn listen_and_follow<R: Wait + Clock, W: Write, E: Write>(
 ) -> Result<Subscribed, SubscribeFault>
     ensures writes { IfOk result (λ s. Writes plan.now.end.form 0 (W.contents output.old) s.messages (W.contents output.new)) }
     ensures lives { IfOk result (λ s. WritesLives plan.now (W.contents output.old) s.messages (W.contents output.new)) }
+    ensures broken { OnErr result (BreaksLives plan.now (W.contents output.old) (W.contents output.new)) }
     ensures few { IfOk result (λ s. s.messages ≤ plan.now.messages) }
     ensures short { IfOk result (λ s. s.ending ≡ Short → IsTrue plan.now.once) }
 {
@@ -131,6 +134,8 @@ pub fn subscribe<R: Threads + Wait + Clock + Net + Copy + Send + 'static, W: Wri
     ensures writes { IfOk result (λ s. Writes plan.now.end.form 0 (W.contents output.old) s.messages (W.contents output.new)) }
     // They are what the polls of its images gave, each image lived through as a receiver does.
     ensures lives { IfOk result (λ s. WritesLives plan.now (W.contents output.old) s.messages (W.contents output.new)) }
+    // Behind a fault all is written of which a status message may have told.
+    ensures broken { OnErr result (BreaksLives plan.now (W.contents output.old) (W.contents output.new)) }
     ensures few { IfOk result (λ s. s.messages ≤ plan.now.messages) }
     // Only one that was to end with the stream ends short.
     ensures short { IfOk result (λ s. s.ending ≡ Short → IsTrue plan.now.once) }

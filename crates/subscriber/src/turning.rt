@@ -1,6 +1,6 @@
 //! What a subscriber with an image makes of a SETUP.
 
-ghost use Rattle.std.specs.Prelude.{◌≡◌, ◌↔◌, IsTrue, OnOk};
+ghost use Rattle.std.specs.Prelude.{◌≡◌, ◌↔◌, IsTrue, OnErr, OnOk};
 ghost use Rattle.frames.specs.Frames.{setup_of};
 ghost use Rattle.subscription.specs.Hearings.{turned_to};
 ghost use Rattle.subscription.specs.Offers.{tied_anew};
@@ -66,6 +66,7 @@ fn renew(
     now: u64,
 ) -> Result<(), SubscribeFault>
     ensures renewed { OnOk result (IsRenewed plan.now now meeting.now joined.old joined.new) }
+    ensures kept { OnErr result (joined.new.subscriber ≡ joined.old.subscriber) }
     ensures size { joined.new.duty.mtu ≡ joined.old.duty.mtu }
 {
     let number = joined.number.wrapping_add(1);
@@ -88,6 +89,7 @@ fn replace<E: Write>(
     now: u64,
 ) -> Result<(), SubscribeFault>
     ensures renewed { OnOk result (IsRenewed plan.now now meeting.now joined.old joined.new) }
+    ensures kept { OnErr result (joined.new.subscriber ≡ joined.old.subscriber) }
     ensures size { joined.new.duty.mtu ≡ joined.old.duty.mtu }
 {
     let refused = joined.subscriber.refused();
@@ -107,6 +109,7 @@ fn turns<E: Write>(
     watch: &mut Watch,
 ) -> Result<(), SubscribeFault>
     ensures turns { OnOk result (Turns plan.now watch.old meeting.now joined.old joined.new watch.new) }
+    ensures kept { OnErr result (joined.new.subscriber ≡ joined.old.subscriber) }
     ensures size { joined.new.duty.mtu ≡ joined.old.duty.mtu }
 {
     let rebuilt = joined.rebuilt();
@@ -133,6 +136,7 @@ fn consider<E: Write>(
     watch: &mut Watch,
 ) -> Result<(), SubscribeFault>
     ensures considers { OnOk result (Considers plan.now watch.old offer.0 offer.1 joined.old joined.new watch.new) }
+    ensures kept { OnErr result (joined.new.subscriber ≡ joined.old.subscriber) }
     ensures size { joined.new.duty.mtu ≡ joined.old.duty.mtu }
 {
     match meeting_of(plan, offer.0, &offer.1) {
@@ -155,6 +159,7 @@ pub(crate) fn attend<E: Write>(
     watch: &mut Watch,
 ) -> Result<(), SubscribeFault>
     ensures attends { OnOk result (Attends plan.now watch.old joined.old joined.new watch.new) }
+    ensures kept { OnErr result (joined.new.subscriber ≡ joined.old.subscriber) }
     ensures size { joined.new.duty.mtu ≡ joined.old.duty.mtu }
 {
     match offered(joined.duty.device_mut()) {

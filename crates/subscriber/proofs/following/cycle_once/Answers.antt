@@ -1,5 +1,6 @@
 use Rattle.std.proofs.Common.{◌+◌, refl}
 use Rattle.std.proofs.lemmas.Result.{err_from_is_err_and}
+use Rattle.subscriber.proofs.Breaking.{cycle_broken}
 use Rattle.subscriber.proofs.Lived.{cycle_lives}
 use Rattle.subscriber.proofs.Patience.{patient}
 use Rattle.subscriber.proofs.following.cycle_once.Goals as goal
@@ -14,3 +15,8 @@ returns-then-done-gt0-clause-lives g c = cycle_lives c.args.plan.now.end.form _ 
 
 pub returns-else-done-gt0-clause-lives : goal.returns-else-done-gt0-clause-lives
 returns-else-done-gt0-clause-lives g c = cycle_lives c.args.plan.now.end.form _ _ c.args.written (c.args.written + c.in_ok-done.done.messages) _ _ _ _ c.in_ok-done.done _ _ _ refl c.in_ok-done.ensures.done
+
+pub returns-in_err-done-clause-broken : goal.returns-in_err-done-clause-broken
+returns-in_err-done-clause-broken g c =
+    let p = err_from_is_err_and c.from_residual.result c.from_residual.ensures.1 in
+    rw p.1 (cycle_broken _ _ _ _ _ _ _ _ _ _ _ _ c.in_err-done.ensures.fault)
