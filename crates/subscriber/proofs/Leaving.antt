@@ -120,7 +120,7 @@ heard_unpolled : (now : ℕ) (datagrams : List (List ℕ)) → AreUnpolled (map 
 heard_unpolled now [] = tt
 heard_unpolled now (d ∷ ds) = heard_unpolled now ds
 
-none_given : (acts : List Act) → AreUnpolled acts → given_in acts ≡ []
+pub none_given : (acts : List Act) → AreUnpolled acts → given_in acts ≡ []
 none_given [] x = refl
 none_given (Hears now bytes ∷ acts) x = none_given acts x
 none_given (Ticks now ∷ acts) x = none_given acts x

@@ -30,7 +30,7 @@ pub lives_on : (s m t : Subscribing) (xs ys : List Act) → Lives s xs m → Liv
 lives_on s m t [] ys first then = subst (λ z. Lives z ys t) first then
 lives_on s m t (x ∷ xs) ys first then = (first.0, first.1, lives_on first.0 m t xs ys first.2 then)
 
-given_on : (xs ys : List Act) → given_in (xs ++ ys) ≡ given_in xs ++ given_in ys
+pub given_on : (xs ys : List Act) → given_in (xs ++ ys) ≡ given_in xs ++ given_in ys
 given_on [] ys = refl
 given_on (Hears now bytes ∷ xs) ys = given_on xs ys
 given_on (Ticks now ∷ xs) ys = given_on xs ys

@@ -1,7 +1,9 @@
-use Rattle.std.proofs.Common.{◌∙◌, ap, subst, ℕ, Option, Some}
+use Rattle.std.proofs.Common.{◌∙◌, ap, subst, refl, ℕ, Option, Some}
+use Rattle.std.proofs.lemmas.Result.{err_from_is_err_and}
 use Rattle.subscriber.specs.Leavings.{IsEnding}
 use Rattle.subscription.specs.declared.followed.Notes.{Notes}
-use Rattle.subscriber.proofs.Lived.{attended_life, silent_life, told_life}
+use Rattle.subscriber.proofs.Breaking.{life_broken, life_kept}
+use Rattle.subscriber.proofs.Lived.{attended_life, life_on, silent_life, told_life}
 use Rattle.subscriber.proofs.Written.{writes_more}
 use Rattle.subscription.specs.declared.joined.Joined.{Joined}
 use Rattle.subscriber.proofs.following.follow.Goals as goal
@@ -24,3 +26,24 @@ returns-in-Some-ending_of-clause-ended g c =
 
 pub returns-in-Some-ending_of-clause-lives : goal.returns-in-Some-ending_of-clause-lives
 returns-in-Some-ending_of-clause-lives g c = silent_life _ _ _ _ _ _ c.loop.joined c.cycle_once.new.joined c.tell_silence.new.joined c.cycle_once.ensures.number c.tell_silence.ensures.same c.loop.invariant.3 c.in_ok-all.ensures.lives
+
+pub returns-in_err-see-clause-broken : goal.returns-in_err-see-clause-broken
+returns-in_err-see-clause-broken g c =
+    let p = err_from_is_err_and c.from_residual.result c.from_residual.ensures.1 in
+    rw p.1 (life_kept _ _ _ _ _ _ _ refl c.loop.invariant.3)
+
+pub returns-in_err-all-clause-broken : goal.returns-in_err-all-clause-broken
+returns-in_err-all-clause-broken g c =
+    let p = err_from_is_err_and c.from_residual.result c.from_residual.ensures.1 in
+    rw p.1 (life_broken _ _ _ _ _ _ _ _ c.loop.invariant.3 c.in_err-all.ensures.broken)
+
+pub returns-in_err-check_works-clause-broken : goal.returns-in_err-check_works-clause-broken
+returns-in_err-check_works-clause-broken g c =
+    let p = err_from_is_err_and c.from_residual.result c.from_residual.ensures.1 in
+    rw p.1 (life_kept _ _ _ _ _ _ _ refl (life_on _ _ _ _ _ _ _ _ _ c.loop.invariant.3 c.in_ok-all.ensures.lives))
+
+pub returns-in_err-attend-clause-broken : goal.returns-in_err-attend-clause-broken
+returns-in_err-attend-clause-broken g c =
+    let p = err_from_is_err_and c.from_residual.result c.from_residual.ensures.1 in
+    let same = c.in_err-attend.ensures.kept ∙ ap (λ (j : Joined). j.subscriber) c.tell_silence.ensures.same in
+    rw p.1 (life_kept _ _ _ _ _ _ _ same (life_on _ _ _ _ _ _ _ _ _ c.loop.invariant.3 c.in_ok-all.ensures.lives))

@@ -1,4 +1,5 @@
 use Rattle.std.proofs.Common.{ℕ, subst, sym}
+use Rattle.std.proofs.lemmas.Result.{err_from_is_err_and}
 use Rattle.subscriber.proofs.Leaving.{left_life}
 use Rattle.subscriber.specs.Living.{WritesLife}
 use Rattle.subscriber.proofs.subscribing.follow_all.Goals as goal
@@ -7,3 +8,8 @@ pub returns-clause-lives : goal.returns-clause-lives
 returns-clause-lives g c =
     subst (λ (n : ℕ). WritesLife c.args.plan.now (g.W.Write.contents c.args.output.now) c.in_ok-messages.messages n c.leave.new.joined.subscriber (g.W.Write.contents c.follow-followed.new.output)) (sym c.leave.ensures.number)
     (left_life _ _ _ _ _ _ _ c.in_ok-messages.ensures.lives c.leave.ensures.unpolled)
+
+pub returns-in_err-messages-clause-broken : goal.returns-in_err-messages-clause-broken
+returns-in_err-messages-clause-broken g c =
+    let p = err_from_is_err_and c.from_residual.result c.from_residual.ensures.1 in
+    rw p.1 c.in_err-messages.ensures.broken
