@@ -34,16 +34,16 @@ returns-in_err-see-clause-broken g c =
 
 pub returns-in_err-all-clause-broken : goal.returns-in_err-all-clause-broken
 returns-in_err-all-clause-broken g c =
-    let p = err_from_is_err_and c.from_residual.result c.from_residual.ensures.1 in
+    let p = err_from_is_err_and c.from_residual-in_err-all.result c.from_residual-in_err-all.ensures.1 in
     rw p.1 (life_broken _ _ _ _ _ _ _ _ c.loop.invariant.3 c.in_err-all.ensures.broken)
 
 pub returns-in_err-check_works-clause-broken : goal.returns-in_err-check_works-clause-broken
 returns-in_err-check_works-clause-broken g c =
-    let p = err_from_is_err_and c.from_residual.result c.from_residual.ensures.1 in
+    let p = err_from_is_err_and c.from_residual-in_err-check_works.result c.from_residual-in_err-check_works.ensures.1 in
     rw p.1 (life_kept _ _ _ _ _ _ _ refl (life_on _ _ _ _ _ _ _ _ _ c.loop.invariant.3 c.in_ok-all.ensures.lives))
 
 pub returns-in_err-attend-clause-broken : goal.returns-in_err-attend-clause-broken
 returns-in_err-attend-clause-broken g c =
-    let p = err_from_is_err_and c.from_residual.result c.from_residual.ensures.1 in
+    let p = err_from_is_err_and c.from_residual-in_err-attend.result c.from_residual-in_err-attend.ensures.1 in
     let same = c.in_err-attend.ensures.kept ∙ ap (λ (j : Joined). j.subscriber) c.tell_silence.ensures.same in
     rw p.1 (life_kept _ _ _ _ _ _ _ same (life_on _ _ _ _ _ _ _ _ _ c.loop.invariant.3 c.in_ok-all.ensures.lives))
