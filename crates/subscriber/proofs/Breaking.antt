@@ -1,9 +1,7 @@
 -- What a subscriber that a fault ended lived through and wrote: from a cycle to the whole.
-use Rattle.std.proofs.Common.{◌≡◌, ◌⊎◌, ◌∙◌, ℕ, Bool, true, false, List, [], ◌∷◌, ◌++◌, map, Option, Result, Ok, Err, OnErr, inl, inr, refl, sym, ap, subst, append_assoc, append-nil}
+use Rattle.std.proofs.Common.{◌≡◌, ◌∙◌, ℕ, Bool, true, false, List, [], ◌∷◌, ◌++◌, map, Option, Result, Ok, Err, OnErr, inl, inr, refl, sym, ap, subst, append_assoc, append-nil}
 use Rattle.std.specs.Io.KnownBytes.{Appends}
 use Rattle.std.proofs.KnownBytes.{Appends-nil, Appends-trans}
-use Rattle.agents.specs.Cycles.{TicksBehind}
-use Rattle.agents.specs.Parties.{ReceiverTicks}
 use Rattle.endpoint.specs.Devices.{Device}
 use Rattle.messages.specs.Forms.{spelling}
 use Rattle.messages.specs.declared.form.Form.{Form}
@@ -13,8 +11,8 @@ use Rattle.receiver.specs.Subscribing.{Subscribing}
 use Rattle.subscriber.proofs.Leaving.{fault_unpolled, none_given}
 use Rattle.subscriber.proofs.Lived.{all_polled, delivered_lives, given_on, lives_on, polled_given, spelled_on}
 use Rattle.subscriber.proofs.Told.{none_told, none_told_behind, told_behind, told_first}
-use Rattle.subscriber.specs.Breaking.{BreaksActs, BreaksLife, BreaksLives, StopsAt, WritesTold, is_ticked, told_in, told_through}
-use Rattle.subscriber.specs.Deliveries.{BreaksOff, Delivers, Ends, FailsBehind, Stops}
+use Rattle.subscriber.specs.Breaking.{BreaksActs, BreaksLife, BreaksLives, StopsAt, WritesTold, is_ticked, told_in}
+use Rattle.subscriber.specs.Deliveries.{BreaksOff, Ends, FailsBehind, Stops}
 use Rattle.subscriber.specs.Living.{IsNumbered, Life, WritesLife, given_through}
 use Rattle.subscriber.specs.declared.delivery.fault.DeliveryFault.{DeliveryFault}
 use Rattle.subscriber.specs.declared.delivery.fault.DeliveryFault.TheVariants as faults
@@ -110,14 +108,13 @@ told_behind_life form older xs ys a b c h w =
     told_so true is = (
       w.untold,
       ap (λ ms. (older ++ given_in xs) ++ ms) w.told_are ∙ sym (append_assoc (older ++ given_in xs) (told_in ys) w.untold)
-      ∙ ap (λ ms. ms ++ w.untold) (append_assoc older (given_in xs) (told_in ys) ∙ ap (λ ms. older ++ ms) (sym (told_behind xs ys is))),
+          ∙ ap (λ ms. ms ++ w.untold) (append_assoc older (given_in xs) (told_in ys) ∙ ap (λ ms. older ++ ms) (sym (told_behind xs ys is))),
     )
     told_so false is =
-        let first = told_first xs in
-        (
+        let first = told_first xs in (
           first.0 ++ w.written,
           ap (λ ms. ms ++ w.written) (ap (λ ms. older ++ ms) (first.1 ∙ ap (λ ms. ms ++ first.0) (sym (none_told_behind xs ys is))) ∙ sym (append_assoc older (told_in (xs ++ ys)) first.0))
-          ∙ append_assoc (older ++ told_in (xs ++ ys)) first.0 w.written,
+              ∙ append_assoc (older ++ told_in (xs ++ ys)) first.0 w.written,
         )
 
 -- a fault in a cycle
@@ -144,16 +141,18 @@ life_kept plan a b count number s t same h =
 
 -- ---- to the end
 
-pub none_broken : (plan : SubscribePlan) (a : Option (List ℕ)) → BreaksLives plan a a
+none_broken : (plan : SubscribePlan) (a : Option (List ℕ)) → BreaksLives plan a a
 none_broken plan a = record {
   images = [];
   lives = tt;
   writes = record { written = []; untold = []; lost = []; between = a; given_are = refl; told_are = refl; whole = Appends-nil a; part = refl };
 }
 
+-- before there was an image
+pub before_image : (plan : SubscribePlan) (a : Option (List ℕ)) (result : Result Subscribed SubscribeFault) → OnErr result (BreaksLives plan a a)
+before_image plan a (Ok s) = tt
+before_image plan a (Err fault) = none_broken plan a
+
+-- behind one
 pub life_lost : (plan : SubscribePlan) (a b : Option (List ℕ)) (t : Subscribing) → BreaksLife plan a t b → BreaksLives plan a b
 life_lost plan a b t h = record { images = h.newest ∷ h.older; lives = (h.last, h.is, h.numbered, h.lives); writes = h.writes }
-
-pub all_broken : (plan : SubscribePlan) (a b : Option (List ℕ)) (t : Subscribing) (result : Result Subscribed SubscribeFault) → OnErr result (BreaksLife plan a t b) → OnErr result (BreaksLives plan a b)
-all_broken plan a b t (Ok s) h = tt
-all_broken plan a b t (Err fault) h = life_lost plan a b t h

@@ -122,6 +122,7 @@ fn listen_and_follow<R: Wait + Clock, W: Write, E: Write>(
 /// `errors`, and at the end what was refused, where anything was.
 ///
 /// The fault says why (`SubscribeFault`). Behind one the output may end within a message.
+#[tactic(auto, using(crate::proofs::Breaking::before_image))]
 pub fn subscribe<R: Threads + Wait + Clock + Net + Copy + Send + 'static, W: Write, E: Write>(
     rt: &R,
     alloc: Global,

@@ -1,8 +1,8 @@
 use Rattle.std.proofs.Common.{subst}
 use Rattle.std.specs.Prelude.{IfSome}
 use Rattle.subscription.specs.Calls.{IsJoined}
-use Rattle.std.proofs.lemmas.Result.{err_from_is_err_and}
-use Rattle.subscriber.proofs.Breaking.{all_broken, none_broken}
+use Rattle.std.proofs.lemmas.Result.{on_err_weaker}
+use Rattle.subscriber.proofs.Breaking.{before_image, life_lost}
 use Rattle.subscriber.proofs.Lived.{joined_life}
 use Rattle.subscriber.proofs.Leaving.{all_written}
 use Rattle.subscriber.proofs.subscribing.listen_and_follow.Goals as goal
@@ -14,9 +14,7 @@ pub returns-in-Some-clause-lives : goal.returns-in-Some-clause-lives
 returns-in-Some-clause-lives g c = all_written _ _ _ _ _ c.follow_all.result c.follow_all.ensures.lives
 
 pub returns-in-Some-clause-broken : goal.returns-in-Some-clause-broken
-returns-in-Some-clause-broken g c = all_broken _ _ _ _ c.follow_all.result c.follow_all.ensures.broken
+returns-in-Some-clause-broken g c = on_err_weaker c.follow_all.result (life_lost _ _ _ _) c.follow_all.ensures.broken
 
 pub returns-in_err-listen-clause-broken : goal.returns-in_err-listen-clause-broken
-returns-in_err-listen-clause-broken g c =
-    let p = err_from_is_err_and c.from_residual.result c.from_residual.ensures.1 in
-    rw p.1 (none_broken _ _)
+returns-in_err-listen-clause-broken g c = before_image _ _ c.from_residual.result
