@@ -22,6 +22,10 @@
 //! (`WritesLives`); of honest datagrams that is a run of the stream (`receiver`). Which datagrams came isn't
 //! said, since its device tells nothing; nor that anything comes. The second thread has nothing to send by but a
 //! `StatusRepeater`, of which each turn is exact; that it gives turns, and in time, `tools/channels` shows.
+//!
+//! Where it ends by a fault, such a writer has grown by what the polls gave, image by image, but for the last message at
+//! most, of which a part may be written. All that the newest image gave before its last tick is written whole, and all
+//! that older ones gave: no status message has told of a message that isn't written (`BreaksLives`).
 #![tactic(auto)]
 
 mod delivery;

@@ -121,7 +121,7 @@ fn listen_and_follow<R: Wait + Clock, W: Write, E: Write>(
 /// What is joined, silent, heard again and closed, another sender of a session that isn't silent, and the counters are lines of
 /// `errors`, and at the end what was refused, where anything was.
 ///
-/// The fault says why (`SubscribeFault`). Behind one the output may end within a message.
+/// The fault says why (`SubscribeFault`). Behind one the output may end within a message, of which no status message has told.
 #[tactic(auto, using(crate::proofs::Breaking::before_image))]
 pub fn subscribe<R: Threads + Wait + Clock + Net + Copy + Send + 'static, W: Write, E: Write>(
     rt: &R,
