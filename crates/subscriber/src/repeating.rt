@@ -75,6 +75,13 @@ pub(crate) struct Repeating {
     handle: JoinHandle<()>,
 }
 
+/// A slot, once for each thread.
+fn shared_slot(alloc: Global) -> Result<(Arc<Slot, Global>, Arc<Slot, Global>), AllocError> {
+    let ours = Arc::new(alloc, Slot::new(alloc)?)?;
+    let theirs = Arc::try_clone(&ours)?;
+    Ok((ours, theirs))
+}
+
 /// Starts the thread. The fault is `Memory`, or `Device` where the system refused the thread.
 fn started<R: Threads + Wait + Clock + Copy + Send + 'static>(
     rt: &R,
@@ -82,8 +89,7 @@ fn started<R: Threads + Wait + Clock + Copy + Send + 'static>(
     repeater: StatusRepeater,
     began: Began,
 ) -> Result<Repeating, SubscribeFault> {
-    let slot = Arc::new(alloc, Slot::new(alloc)?)?;
-    let theirs = Arc::try_clone(&slot)?;
+    let (slot, theirs) = shared_slot(alloc)?;
     let there = *rt;
     match thread::spawn(rt, move || repeat_all(&there, &theirs, &began, repeater)) {
         Ok(handle) => Ok(Repeating { slot, handle }),
