@@ -14,5 +14,3 @@ mod Owned
 mod Gathered
 mod Together
 mod Storing
-mod Copying
-mod Cleaned

@@ -129,14 +129,6 @@ pub record MayCleanTo (k : KeeperValue) (end : ℕ) : Type 0 where
   pub words : (k.cleaned % 8 ≡ 0) × (end % 8 ≡ 0)
   pub below : end ≤ max k.held.pass.start (least_there (there_of k) (seen_positions k) - term_of k.held.pass)
 
-abbrev pub MayCleanWords : KeeperValue → ℕ → Type 0
-MayCleanWords k count = MayCleanTo k (k.cleaned + 8 * count)
-
--- so many words are cleaned, one after the other
-pub record CleansWords (k : KeeperValue) (count : ℕ) (q : KeeperValue) : Type 0 where
-  pub keeps : KeepsAs k (with_cleaned (k.cleaned + 8 * count) k) q
-  pub steps : TookSteps k count q
-
 -- the limit may be raised to half a term above there: what lies a term below is clean
 pub record MayRaiseFrom (k : KeeperValue) (least : ℕ) : Type 0 where
   pub stands : MayStand k.held.pass least

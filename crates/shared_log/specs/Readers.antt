@@ -207,7 +207,3 @@ LoadsWord l r start index n = (f : FrameWords) → Has r f → f.start ≡ start
 -- the first bytes behind the header of the frame that the reader has there stand in the block's front
 abbrev pub Copies : ReaderValue → ℕ → ℕ → List ℕ → List ℕ → Type 0
 Copies r start count before after = (f : FrameWords) → Has r f → f.start ≡ start → 32 + count ≤ 8 * length f.words → r.position ≤ start + term_of r.held.pass → after ≡ take count (bytes_in (drop 4 f.words)) ++ drop count before
-
--- what was copied up to one word of the frame is copied up to another
-abbrev pub CopiesOn : ReaderValue → ℕ → ℕ → ℕ → List ℕ → List ℕ → Type 0
-CopiesOn r start from to old new = (q : ReaderValue) (before : List ℕ) → Rests q r → Copies q start (8 * from) before old → Copies q start (8 * to) before new

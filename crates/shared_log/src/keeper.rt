@@ -1,19 +1,18 @@
 //! A keeper of a log, and its steps.
 
-ghost use Rattle.std.specs.Prelude.{◌≡◌, ◌<◌, slice_index};
+ghost use Rattle.std.specs.Prelude.{◌≡◌, ◌+◌, ◌-◌, ◌*◌, ◌/◌, ◌%◌, ◌<◌, ◌≤◌, ◌&&◌, not, slice_index};
 ghost use Rattle.theory.specs.Refusal.{is_closed, is_connected, limit_in};
+ghost use Rattle.log_rule.specs.Claims.Packs.{slot, table_length};
 ghost use Rattle.shared_log.specs.Handles.{IsOf};
 ghost use Rattle.log_rule.specs.Kept.{IsThere};
 ghost use Rattle.log_rule.specs.Keepings.{MayRaise, SeesConsumer};
-ghost use Rattle.shared_log.specs.Keepers.{CleansAndLimits, IsKeeping, KeepsAs, KnowsLimit, MayRaiseFrom, Sweeps, TookSteps, closed_word, connected_word, flag_of, raised, reads_of, seen_positions, stored_once, there_of, with_limit, with_reads};
+ghost use Rattle.shared_log.specs.Keepers.{CleansAndLimits, IsKeeping, KeepsAs, KnowsLimit, MayCleanTo, MayRaiseFrom, Sweeps, TookSteps, closed_word, connected_word, flag_of, raised, reads_of, seen_positions, stored_once, there_of, with_cleaned, with_limit, with_reads};
 
-mod cleaning;
 pub(crate) mod joining;
 
-use crate::keeper::cleaning::clean_to;
 use crate::log::Log;
 use atomic_table::Seat;
-use log_rule::{CONSUMERS, Chosen, LINE, Raise, Sweep, View};
+use log_rule::{CONSUMERS, Chosen, Clean, LINE, Raise, Sweep, View};
 use position::Identity;
 use std::marker::{Brand, Model};
 
@@ -109,6 +108,45 @@ pub(crate) fn sweep(log: &Log, keeper: &mut Keeper) -> u64
         }
     }
     least
+}
+
+/// Cleans word after word up to a position, the first of which has this place. The ring doesn't end among them.
+fn clean_stretch(log: &Log, keeper: &mut Keeper, place: usize, end: u64)
+    requires fits { IsOf log.now keeper.old.held }
+    requires there { place ≡ slot log.now.identity.geometry keeper.old.cleaned }
+    requires near { place + (end - keeper.old.cleaned) / 8 ≤ table_length log.now.identity.geometry }
+    requires may { MayCleanTo keeper.old end }
+    requires knows { KnowsLimit keeper.old }
+    ensures keeps { KeepsAs keeper.old (with_cleaned end keeper.old) keeper.new }
+    ensures steps { TookSteps keeper.old ((end - keeper.old.cleaned) / 8) keeper.new }
+{
+    let words = &log.table.shared;
+    let mut at = keeper.cleaned;
+    let mut here = place;
+    while at < end {
+        words.store::<Clean>(&mut keeper.seat, here, 0);
+        at += 8;
+        here += 1;
+    }
+    keeper.cleaned = at;
+}
+
+/// Cleans word after word up to a position, in stretches between which the ring ends.
+fn clean_to(log: &Log, keeper: &mut Keeper, end: u64)
+    requires fits { IsOf log.now keeper.old.held }
+    requires may { MayCleanTo keeper.old end }
+    requires knows { KnowsLimit keeper.old }
+    ensures keeps { KeepsAs keeper.old (with_cleaned end keeper.old) keeper.new }
+    ensures steps { TookSteps keeper.old ((end - keeper.old.cleaned) / 8) keeper.new }
+{
+    let _ = &keeper.seat;
+    let mut ring = log.ring();
+    while keeper.cleaned < end {
+        let place = log.slot_of(&mut ring, keeper.cleaned);
+        let room = 8 * (log.word_end() - place) as u64;
+        let stop = keeper.cleaned + room.min(end - keeper.cleaned);
+        clean_stretch(log, keeper, place, stop);
+    }
 }
 
 /// Stores the limit word.

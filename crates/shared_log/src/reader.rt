@@ -1,20 +1,18 @@
 //! A reader of a log, and its steps.
 
-ghost use Rattle.std.specs.Prelude.{◌≡◌, ◌+◌, ◌*◌, ◌<◌, ◌≤◌, IfNone, IfSome, length};
-ghost use Rattle.log_rule.specs.Claims.Packs.{slot};
+ghost use Rattle.std.specs.Prelude.{◌≡◌, ◌+◌, ◌-◌, ◌*◌, ◌^◌, ◌<◌, ◌≤◌, IfNone, IfSome, List, ℕ, length};
+ghost use Rattle.log_rule.specs.Claims.Packs.{slot, table_length};
 ghost use Rattle.log_rule.specs.Readings.{Looks};
-ghost use Rattle.shared_log.specs.Readers.{Advances, Finds, FindsNone, IsAlone, IsReaderOf, LoadsWord, MayReread, ReadsFrame, ReadsNone, Rereads, Rests, SameSeat};
+ghost use Rattle.shared_log.specs.Readers.{Advances, Copies, Finds, FindsNone, IsAlone, IsReaderOf, LoadsWord, MayReread, ReadsFrame, ReadsNone, Rereads, Rests, SameSeat};
 
-mod copying;
 pub(crate) mod learning;
 pub(crate) mod source;
 pub(crate) mod whole;
 
 use crate::log::Log;
-use crate::reader::copying::copy;
 use atomic_table::Seat;
 use block::Block;
-use frame_words::head_in;
+use frame_words::{head_in, put_bytes, put_word};
 use log_rule::{CONSUMERS, Chosen, Consume, LINE, LookHere, Reread, View, Word};
 use position::{FrameHead, FrameKind, Identity, align32};
 use std::marker::{Brand, Model};
@@ -89,13 +87,7 @@ fn look_as<N: Chosen>(log: &Log, reader: &mut LogReader) -> u64
 }
 
 /// Loads a word of the frame that begins at a position, which the reader has, from its place.
-pub(crate) fn word_as<N: Word>(
-    log: &Log,
-    reader: &mut LogReader,
-    place: usize,
-    start: u64,
-    index: u64,
-) -> u64
+fn word_as<N: Word>(log: &Log, reader: &mut LogReader, place: usize, start: u64, index: u64) -> u64
     requires fits { IsReaderOf log.now reader.old }
     requires there { place ≡ slot log.now.identity.geometry (start + 8 * index) }
     requires chosen { (N.place ≡ reader.old.place) × (N.start ≡ start) × (N.index ≡ index) }
@@ -104,6 +96,89 @@ pub(crate) fn word_as<N: Word>(
 {
     let words = &log.table.shared;
     words.load::<Reread<N>>(&mut reader.seat, place)
+}
+
+/// Copies words behind the header of the frame that begins at a position, from one on, which has this place, to their places
+/// in bytes. The ring doesn't end among them.
+fn copy_stretch(
+    log: &Log,
+    reader: &mut LogReader,
+    place: usize,
+    start: u64,
+    from: usize,
+    to: usize,
+    bytes: &mut [u8],
+)
+    requires fits { IsReaderOf log.now reader.old }
+    requires there { place ≡ slot log.now.identity.geometry (start + 8 * (4 + from)) }
+    requires near { place + (to - from) ≤ table_length log.now.identity.geometry }
+    requires low { start < 2 ^ 56 }
+    requires some { from ≤ to }
+    requires few { to < 2 ^ 29 }
+    requires inside { 8 * to ≤ length bytes.old }
+    ensures rests { Rests reader.old reader.new }
+    ensures copies { (before : List ℕ) → Copies reader.old start (8 * from) before bytes.old → Copies reader.old start (8 * to) before bytes.new }
+    ensures same_length { length bytes.new ≡ length bytes.old }
+{
+    for index in from..to {
+        let here = place + (index - from);
+        let word = word_as::<Brand>(log, reader, here, start, 4 + index as u64);
+        put_word(bytes, 8 * index, word);
+    }
+}
+
+/// Copies so many words behind the header of the frame that begins at a position to the front of bytes, in stretches between
+/// which the ring ends.
+fn copy_whole(log: &Log, reader: &mut LogReader, start: u64, words: usize, bytes: &mut [u8])
+    requires fits { IsReaderOf log.now reader.old }
+    requires low { start < 2 ^ 56 }
+    requires few { words < 2 ^ 29 }
+    requires inside { 8 * words ≤ length bytes.old }
+    ensures rests { Rests reader.old reader.new }
+    ensures copies { Copies reader.old start (8 * words) bytes.old bytes.new }
+    ensures same_length { length bytes.new ≡ length bytes.old }
+{
+    let mut ring = log.ring();
+    let mut done = 0;
+    while done < words {
+        let place = log.slot_of(&mut ring, start + 32 + 8 * done as u64);
+        let near = words.min(done + (log.word_end() - place));
+        copy_stretch(log, reader, place, start, done, near, bytes);
+        done = near;
+    }
+}
+
+/// Copies the first bytes behind the header of the frame that begins at a position to the front of others.
+fn copy_words(log: &Log, reader: &mut LogReader, start: u64, count: usize, bytes: &mut [u8])
+    requires fits { IsReaderOf log.now reader.old }
+    requires low { start < 2 ^ 56 }
+    requires few { count < 2 ^ 32 }
+    requires inside { count ≤ length bytes.old }
+    ensures rests { Rests reader.old reader.new }
+    ensures copies { Copies reader.old start count bytes.old bytes.new }
+    ensures same_length { length bytes.new ≡ length bytes.old }
+{
+    let words = count / 8;
+    copy_whole(log, reader, start, words, bytes);
+    if count % 8 > 0 {
+        let index = 4 + words as u64;
+        let place = log.slot_of(&mut log.ring(), start + 8 * index);
+        let word = word_as::<Brand>(log, reader, place, start, index);
+        put_bytes(bytes, 8 * words, word, count % 8);
+    }
+}
+
+/// Copies the first bytes behind the header of the frame that begins at a position to a block's front.
+fn copy(log: &Log, reader: &mut LogReader, start: u64, count: usize, block: &mut Block)
+    requires fits { IsReaderOf log.now reader.old }
+    requires low { start < 2 ^ 56 }
+    requires few { count < 2 ^ 32 }
+    requires inside { count ≤ length block.old }
+    ensures rests { Rests reader.old reader.new }
+    ensures copies { Copies reader.old start count block.old block.new }
+    ensures same_length { length block.new ≡ length block.old }
+{
+    copy_words(log, reader, start, count, block.bytes_mut());
 }
 
 /// Stores where the frame ends that the reader has read.

@@ -5,8 +5,7 @@ ghost use Rattle.shared_log.specs.Readers.{IsAlone, IsReaderOf, ReadsFrame};
 ghost use Rattle.shared_log.specs.Whole.{LeavesUnread};
 
 use crate::log::Log;
-use crate::reader::copying::copy_words;
-use crate::reader::{LogReader, look};
+use crate::reader::{LogReader, copy_words, look};
 use position::{FrameHead, FrameKind};
 
 /// Why no frame was read.

@@ -1,7 +1,8 @@
-use Rattle.std.proofs.Common.{rules, ◌≡◌, ℕ, [], ◌∷◌, ◌++◌, sym, ap, ◌∙◌, subst, arith}
+use Rattle.std.proofs.Common.{rules, ◌≡◌, ℕ, List, [], ◌∷◌, ◌++◌, sym, ap, ◌∙◌, subst, arith}
 use Rattle.theory.specs.Bytes.{Identity}
 use Rattle.atomic_table.specs.Table.{Joins}
 use Rattle.publication.specs.declared.pass.Pass.{Pass}
+use Rattle.publication.specs.declared.pass.Reading.{Reading}
 use Rattle.log_rule.specs.declared.claims.view.View.{View}
 use Rattle.log_rule.specs.Claims.Closing.{spent_seat}
 use Rattle.log_rule.specs.Claims.Plays.{Mine, newcomer}
@@ -9,6 +10,7 @@ use Rattle.log_rule.specs.Table.{LogRuled, knowledge_of, knowledge_right, reader
 use Rattle.log_rule.proofs.Dealing.{knowledge}
 use Rattle.log_rule.proofs.Joining.{returns as returned}
 use Rattle.shared_log.specs.Handles.{LogValue}
+use Rattle.shared_log.specs.Keepers.{KeeperValue}
 use Rattle.shared_log.specs.Readers.{ReaderValue}
 use Rattle.shared_log.proofs.closing.remember_as.Goals as goal
 

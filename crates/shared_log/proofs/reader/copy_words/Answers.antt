@@ -5,7 +5,7 @@ use Rattle.publication.specs.Steps.{term_of}
 use Rattle.shared_log.specs.Readers.{ReaderValue, Rests}
 use Rattle.shared_log.proofs.Looking.{has_on}
 use Rattle.frame_words.proofs.Copying.{copied_to}
-use Rattle.shared_log.proofs.reader.copying.copy_words.Goals as goal
+use Rattle.shared_log.proofs.reader.copy_words.Goals as goal
 
 within : (n w : ℕ) → 32 + n ≤ 8 * w → 0 < n % 8 → 4 + n / 8 < w
 within n w le some = omega (arith, le, some)

@@ -1,7 +1,7 @@
 use Rattle.std.proofs.Common.{refl, subst}
 use Rattle.shared_log.specs.Keepers.{IsKeeping, KeeperValue}
 use Rattle.shared_log.proofs.Limits.{cleans_none}
-use Rattle.shared_log.proofs.keeper.cleaning.clean_to.Goals as goal
+use Rattle.shared_log.proofs.keeper.clean_to.Goals as goal
 
 pub loop-keeper-init : goal.loop-keeper-init
 loop-keeper-init c =

@@ -1,7 +1,7 @@
 use Rattle.std.proofs.Common.{◌≡◌, ◌-◌, ◌*◌, ◌≤◌, length}
 use Rattle.log_rule.specs.Claims.Packs.{ring_of}
 use Rattle.shared_log.specs.Readers.{Copies, Rests}
-use Rattle.shared_log.proofs.reader.copying.copy_whole.Given as goal
+use Rattle.shared_log.proofs.reader.copy_whole.Given as goal
 
 -- the words so far are copied
 abbrev pub invariant-loop-done : goal.invariant-loop-done
