@@ -1,5 +1,5 @@
 -- What was published in all, where a publisher to several subscribers has ended whole.
-use Rattle.std.proofs.Common.{◌≡◌, ◌<◌, List, [], ◌∷◌, ℕ, Option, None, Some, IfSome, subst, arith}
+use Rattle.std.proofs.Common.{◌≡◌, ◌<◌, List, [], ◌∷◌, ℕ, Option, None, Some, IfOk, IfSome, Result, Ok, Err, subst, arith}
 use Rattle.log_rule.specs.Claims.Handles.{PublisherValue}
 use Rattle.shared_log.specs.Handles.{IsNew, LogValue}
 use Rattle.options.specs.declared.ends.plans.PublishPlan.{PublishPlan}
@@ -8,6 +8,10 @@ use Rattle.offering.specs.Ended.{EndsInput}
 use Rattle.offering.specs.declared.reader.InputEnd.{InputEnd}
 use Rattle.publisher.specs.Ended.{reading_left}
 use Rattle.publisher.specs.Openings.{IsPlanned}
+use Rattle.publisher.specs.declared.fault.PublishFault.{PublishFault}
+use Rattle.messages.specs.declared.form.Form.{Form}
+use Rattle.publisher.proofs.AllPublished.{as_given}
+use Rattle.group_publisher.specs.declared.two_threads.GroupPublished.{GroupPublished}
 use Rattle.group_publisher.specs.Ended.{AllHaveArrived, PublishesAllAlong}
 
 -- where there is a way, something is left of the input
@@ -30,3 +34,11 @@ all_published {I} remaining p log first old given (Some left) ways heard planned
   heard = heard;
   arrived = arrived;
 })
+
+-- what a thread has promised, by what it was given
+pub as_given_all : {I : Type 0} (remaining : I → Option (List ℕ)) (r : Result (GroupPublished I) PublishFault) (form own_form : Form) (log own_log : LogValue) (input own_input : I) (first own_first : PublisherValue)
+    → form ≡ own_form → log ≡ own_log → input ≡ own_input → first ≡ own_first
+    → IfOk r (λ p. IfSome p.input (λ l. EndsInput form log (remaining input) (remaining l.input) first.pass l.publisher l.reading))
+    → IfOk r (λ p. IfSome p.input (λ l. EndsInput own_form own_log (remaining own_input) (remaining l.input) own_first.pass l.publisher l.reading))
+as_given_all {I} remaining (Ok p) form own_form log own_log input own_input first own_first f g i q h = as_given remaining p.input form own_form log own_log input own_input first own_first f g i q h
+as_given_all {I} remaining (Err fault) form own_form log own_log input own_input first own_first f g i q h = tt

@@ -29,4 +29,4 @@ pub ends : {D : Type 0} (shown ways : List (ChannelWay D)) (linger wait : ℕ) (
 ends {D} shown ways linger wait answer is told found same =
     let both = as_judged told.reading _ is (sym found ∙ told.is) in
     subst (λ (ws : List (ChannelWay D)). Ends ws linger wait is) same
-    (record { is = ap (λ (r : Option Reading). group_ending shown (end_in r) linger wait) (sym both.0) ∙ both.1 })
+    (ap (λ (r : Option Reading). group_ending shown (end_in r) linger wait) (sym both.0) ∙ both.1)

@@ -75,7 +75,7 @@ each read judged linger wait (w ∷ ws) whole ended all =
 
 by_judged : {D : Type 0} (read : Option Reading) (judged : Judged) (e : Ending) (linger wait : ℕ) (ways : List (ChannelWay D)) → judged.ending ≡ e → Ends ways linger wait judged → ended_by read (Ok judged) ≡ Ok Whole → AllByRecursion (AllArrived read) (map heard_along ways)
 by_judged read judged Whole linger wait ways is ends ended =
-    each read judged linger wait ways is ended (whole_if _ _ (ends.is ∙ ap (λ (x : Ending). Some x) is))
+    each read judged linger wait ways is ended (whole_if _ _ (ends ∙ ap (λ (x : Ending). Some x) is))
 by_judged read judged Short linger wait ways is ends ended =
     absurd (not_short (is_read_so read judged) (fault_in read) (subst (λ (x : Ending). faulted_or (fault_in read) (Ok (ending_by (is_read_so read judged) x)) ≡ Ok Whole) is ended))
   where
@@ -100,11 +100,11 @@ known_so (Ok e) known ways h =
     (eqb-true known ways both.0, ap (λ (x : Ending). Ok x) both.1)
 known_so (Err fault) known ways h = absurd (subst NotOkWhole h tt)
 
-pub all_arrived : {D : Type 0} (read : Option Reading) (sent : Result Judged PublishFault) (ending told : Result Ending PublishFault) (linger wait known count : ℕ) (ways shown : List (ChannelWay D)) (heard : List Attendance)
-    → IfOk sent (λ judged. Ends ways linger wait judged) → ending ≡ ended_by read sent → told ≡ ending_with ending known count → heard ≡ map heard_along shown → shown ≡ ways → known ≡ length heard → told ≡ Ok Whole → AllHaveArrived read count heard
-all_arrived read sent ending told linger wait known count ways shown heard ends is told_is heard_is shown_is known_is whole =
+pub all_arrived : {D : Type 0} (read : Option Reading) (sent : Result Judged PublishFault) (ending told : Result Ending PublishFault) (linger wait known count : ℕ) (ways : List (ChannelWay D)) (heard : List Attendance)
+    → IfOk sent (λ judged. Ends ways linger wait judged) → ending ≡ ended_by read sent → told ≡ ending_with ending known count → heard ≡ map heard_along ways → known ≡ length heard → told ≡ Ok Whole → AllHaveArrived read count heard
+all_arrived read sent ending told linger wait known count ways heard ends is told_is heard_is known_is whole =
     let so = known_so ending known count (sym told_is ∙ whole) in
     record {
       many = sym known_is ∙ so.0;
-      arrived = subst (AllByRecursion (AllArrived read)) (sym (heard_is ∙ ap (λ ws. map heard_along ws) shown_is)) (by_sent read sent linger wait ways ends (sym is ∙ so.1));
+      arrived = subst (AllByRecursion (AllArrived read)) (sym heard_is) (by_sent read sent linger wait ways ends (sym is ∙ so.1));
     }

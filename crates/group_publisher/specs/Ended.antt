@@ -1,19 +1,17 @@
 -- What a publisher to several subscribers that has ended whole has read and published, and what was heard of that.
-use Rattle.std.specs.Prelude.{◌≡◌, ℕ, nat_eq, List, length, Option, Some, IfOk, IfSome, Result, Ok, Err, if◌then◌else◌}
+use Rattle.std.specs.Prelude.{◌≡◌, ℕ, nat_eq, List, length, Option, Some, Result, Ok, Err, if◌then◌else◌}
 use Rattle.std.specs.List.{AllByRecursion}
 use Rattle.log_rule.specs.Claims.Handles.{PublisherValue}
 use Rattle.shared_log.specs.Handles.{IsNew, LogValue}
-use Rattle.messages.specs.declared.form.Form.{Form}
 use Rattle.options.specs.declared.ends.plans.PublishPlan.{PublishPlan}
 use Rattle.peer.specs.declared.attendance.Attendance.{Attendance}
 use Rattle.peer.specs.declared.ending.Ending.{Ending}
-use Rattle.peer.specs.declared.ending.Ending.TheVariants.{Short, Whole}
+use Rattle.peer.specs.declared.ending.Ending.TheVariants.{Short}
 use Rattle.offering.specs.Ended.{EndsInput}
 use Rattle.offering.specs.declared.reading.Reading.{Reading}
-use Rattle.publisher.specs.Ended.{AllArrived, reading_left}
+use Rattle.publisher.specs.Ended.{AllArrived}
 use Rattle.publisher.specs.Openings.{IsPlanned}
 use Rattle.publisher.specs.declared.fault.PublishFault.{PublishFault}
-use Rattle.group_publisher.specs.declared.two_threads.GroupPublished.{GroupPublished}
 
 -- so many receivers, along a way each, have received all
 pub record AllHaveArrived (r : Option Reading) (ways : ℕ) (heard : List Attendance) : Type 0 where
@@ -24,14 +22,6 @@ pub record AllHaveArrived (r : Option Reading) (ways : ℕ) (heard : List Attend
 abbrev pub ending_with : Result Ending PublishFault → ℕ → ℕ → Result Ending PublishFault
 ending_with (Ok ending) known ways = Ok (if nat_eq known ways then ending else Short)
 ending_with (Err fault) known ways = Err fault
-
--- where its reading has ended too, what its first publisher has published of this input is told by how that ended
-pub record LeavesInput {I : Type 0} (remaining : I → Option (List ℕ)) (form : Form) (log : LogValue) (input : I) (first : PublisherValue) (r : Result (GroupPublished I) PublishFault) : Type 0 where
-  pub is : IfOk r (λ e. IfSome e.input (λ left. EndsInput form log (remaining input) (remaining left.input) first.pass left.publisher left.reading))
-
--- it ends whole only where all has arrived along so many ways
-pub record EndsWhole {I : Type 0} (ways : ℕ) (r : Result (GroupPublished I) PublishFault) : Type 0 where
-  pub is : IfOk r (λ e. e.ending ≡ Ok Whole → AllHaveArrived (reading_left e.input) ways e.attendances.items)
 
 -- for the plan all that the input had was read, and it was published, each message once and whole, in their order, by the first
 -- publisher of a log of the plan, which had just been opened; and that has arrived along so many ways

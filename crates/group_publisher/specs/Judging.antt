@@ -13,5 +13,5 @@ pub record Judges {D : Type 0} (ways : List (ChannelWay D)) (linger wait : ℕ) 
   pub is : answer ≡ judged_by reading (group_ending ways (end_in reading) linger wait)
 
 -- the receivers that were heard along these ways end a publisher this way, by how the reading had ended
-pub record Ends {D : Type 0} (ways : List (ChannelWay D)) (linger wait : ℕ) (judged : Judged) : Type 0 where
-  pub is : group_ending ways (end_in judged.reading) linger wait ≡ Some judged.ending
+abbrev pub Ends : {D : Type 0} → List (ChannelWay D) → ℕ → ℕ → Judged → Type 0
+Ends ways linger wait judged = group_ending ways (end_in judged.reading) linger wait ≡ Some judged.ending

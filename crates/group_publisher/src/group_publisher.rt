@@ -1,6 +1,6 @@
 //! A publisher to several subscribers from its begin to its end.
 
-ghost use Rattle.std.specs.Prelude.{◌≡◌, [], Some, ◌≤◌, ◌<◌, IfOk, Ok, length};
+ghost use Rattle.std.specs.Prelude.{◌≡◌, [], Some, ◌≤◌, ◌<◌, IfOk, IfSome, Ok, length};
 ghost use Rattle.std.specs.Arc.{arc_value};
 ghost use Rattle.position.specs.Openings.{IsStart};
 ghost use Rattle.shared_log.specs.Books.{IsDone};
@@ -8,10 +8,12 @@ ghost use Rattle.shared_log.specs.Parts.{IsNewReader};
 ghost use Rattle.flow_control.specs.Stream.{flow_after};
 ghost use Rattle.agents.specs.LogSenders.{IsNewSenderBy, SendsLog};
 ghost use Rattle.peer.specs.declared.ending.Ending.TheVariants.{Whole};
+ghost use Rattle.offering.specs.Ended.{EndsInput};
 ghost use Rattle.publisher.specs.Beginnings.{ArePublisherParts, device_of};
+ghost use Rattle.publisher.specs.Ended.{reading_left};
 ghost use Rattle.publisher.specs.Openings.{ArePasses};
 ghost use Rattle.group_publisher.specs.Beginnings.{AreWaysAlong, IsWayOf};
-ghost use Rattle.group_publisher.specs.Ended.{EndsWhole, LeavesInput, PublishesAllAlong};
+ghost use Rattle.group_publisher.specs.Ended.{AllHaveArrived, PublishesAllAlong};
 
 use crate::sender_thread::{GroupDevice, GroupSender};
 use crate::two_threads::{GroupPublished, run};
@@ -123,8 +125,8 @@ fn publish_shared<
     requires few { sending.ways ≤ 8 }
     requires passes { ArePasses context.now.state.now.log context.now.conductor.now sending.passes }
     requires offering { ((arc_value offering.state).log ≡ context.now.state.now.log) × IsDone context.now.state.now.log offering.publisher }
-    ensures input { LeavesInput I.remaining context.now.plan.now.end.form context.now.state.now.log offering.input offering.publisher result }
-    ensures whole { EndsWhole sending.ways result }
+    ensures input { IfOk result (λ e. IfSome e.input (λ left. EndsInput context.now.plan.now.end.form context.now.state.now.log (I.remaining offering.input) (I.remaining left.input) offering.publisher.pass left.publisher left.reading)) }
+    ensures whole { IfOk result (λ e. e.ending ≡ Ok Whole → AllHaveArrived (reading_left e.input) sending.ways e.attendances.items) }
 {
     let Sending {
         reader,
@@ -152,8 +154,8 @@ pub fn publish_group_over<
 ) -> Result<GroupPublished<I>, PublishFault>
     requires parts { ArePublisherParts plan.now parts }
     requires few { length parts.passes.duty.device.ways ≤ 8 }
-    ensures input { LeavesInput I.remaining plan.now.end.form parts.state.log input parts.publisher result }
-    ensures whole { EndsWhole (length parts.passes.duty.device.ways) result }
+    ensures input { IfOk result (λ e. IfSome e.input (λ left. EndsInput plan.now.end.form parts.state.log (I.remaining input) (I.remaining left.input) parts.publisher.pass left.publisher left.reading)) }
+    ensures whole { IfOk result (λ e. e.ending ≡ Ok Whole → AllHaveArrived (reading_left e.input) (length parts.passes.duty.device.ways) e.attendances.items) }
 {
     let PublisherParts {
         began,

@@ -1,13 +1,14 @@
 //! The two threads of a publisher to several subscribers: one reads messages and offers them, the other sends, keeps the log and
 //! decides the end.
 
-ghost use Rattle.std.specs.Prelude.{◌≡◌, ◌≤◌, IfOk, Ok, map};
+ghost use Rattle.std.specs.Prelude.{◌≡◌, ◌≤◌, IfOk, IfSome, Ok, length, map};
 ghost use Rattle.theory.specs.Position.{max_position};
 ghost use Rattle.agents.specs.LogSenders.{SendsLog};
 ghost use Rattle.peer.specs.declared.ending.Ending.TheVariants.{Whole};
+ghost use Rattle.offering.specs.Ended.{EndsInput};
 ghost use Rattle.publisher.specs.Ended.{reading_left};
 ghost use Rattle.publisher.specs.Openings.{ArePasses};
-ghost use Rattle.group_publisher.specs.Ended.{AllHaveArrived, LeavesInput, ending_with};
+ghost use Rattle.group_publisher.specs.Ended.{AllHaveArrived, ending_with};
 ghost use Rattle.group_publisher.specs.Endings.{heard_along};
 
 use crate::sender_thread::{GroupDevice, GroupSender, send_all};
@@ -100,7 +101,7 @@ pub(crate) fn run<R: Threads + Wait + Clock, I: BufRead + Drop, D: Datagrams, E:
 ) -> Result<GroupPublished<I>, PublishFault>
     requires agent { SendsLog context.now.state.now.log sender.old.agent }
     requires passes { ArePasses context.now.state.now.log context.now.conductor.now sender.old.passes }
-    ensures input { LeavesInput I.remaining reader.handle.promise.form reader.handle.promise.log.value reader.handle.promise.input.value reader.handle.promise.publisher.value result }
+    ensures input { IfOk result (λ p. IfSome p.input (λ e. EndsInput reader.handle.promise.form reader.handle.promise.log.value (I.remaining reader.handle.promise.input.value) (I.remaining e.input) reader.handle.promise.publisher.value.pass e.publisher e.reading)) }
     ensures whole { IfOk result (λ p. p.ending ≡ Ok Whole → AllHaveArrived (reading_left p.input) ways p.attendances.items) }
 {
     let sent = send_all(context, sender, errors);
