@@ -10,9 +10,10 @@
 //! A device that follows a session counts the datagrams that begin with a frame of it, and keeps the last SETUP and the
 //! greatest end that was told, exactly; it notes the last status message that it is given to send, whether that is taken or
 //! not, and what it was given for another session or another peer it forgets (`Followed`). Only such a device makes a
-//! `SentStatus`, so whoever has one knows that the device was given it. The last one is sent again where 300 ms have gone by
-//! without a newer one, byte for byte and to the same peer, and nothing else ever is (`Repeater`, `repeats_the_last`), whoever
-//! gives the turns (`StatusRepeater` has the socket): while the output blocks, the publisher goes on hearing its subscriber.
+//! `SentStatus`, so whoever has one knows that the device was given it. The last one that it was told is sent again by a
+//! `StatusRepeater`, which has the socket, where 300 ms have gone by
+//! without a newer one, byte for byte and to the same peer, and nothing else ever is (`repeats_the_last`): while the output blocks, the publisher
+//! goes on hearing its subscriber. Whoever gives its turns may keep news from it.
 //!
 //! Without an image a datagram is a SETUP that opens one, a frame whose sender is asked for a SETUP, or a stranger's, exactly;
 //! for each such frame its sender is asked once, with the frame's place, and nobody else is. Until a SETUP opens the first image
@@ -39,7 +40,7 @@ pub use joined::{Joined, SubscriberDevice, offered, tie, tied_of};
 pub use listening::listen;
 pub use meeting::{Meeting, meeting_of};
 pub use opening::Opening;
-pub use repeater::{Repeater, StatusRepeater, repeats_the_last};
+pub use repeater::{StatusRepeater, repeats_the_last};
 pub use telling::{
     Counts, tell_again, tell_another, tell_closed, tell_counters, tell_joined, tell_refused,
     tell_silent,

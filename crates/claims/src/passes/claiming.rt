@@ -28,7 +28,7 @@ impl PublisherPass {
     ghost use Rattle.claims.specs.Passes.Claiming.{DeclinesClaim, Opens, Writes};
 
     /// Claims a range for a message of `size` bytes, zeros at first. Where it is denied, the publisher comes back with the cause:
-    /// `Long`, `Refused` or `Memory`.
+    /// `Long` or `Refused`.
     pub fn claim(self, size: usize) -> Result<ClaimPass, (Fault, PublisherPass)>
         ensures opened { IfOk result (λ c. Opens self size c) }
         ensures declined { IfErr result (λ d. DeclinesClaim self size d.0 d.1) }

@@ -37,7 +37,8 @@ pub struct SubscribeOptions<'a> {
     pub end: EndOptions<'a>,
     /// After how many messages it ends; the greatest number stands for never.
     pub messages: u64,
-    /// After how many seconds without a datagram it ends; the greatest number stands for never.
+    /// After how many seconds without a datagram it ends; the greatest number says that none was told: 30 with `once`, else
+    /// never.
     pub quiet: u32,
     /// Whether it ends with the stream.
     pub once: bool,
