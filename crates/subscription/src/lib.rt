@@ -11,9 +11,9 @@
 //! greatest end that was told, exactly; it notes the last status message that it is given to send, whether that is taken or
 //! not, and what it was given for another session or another peer it forgets (`Followed`). Only such a device makes a
 //! `SentStatus`, so whoever has one knows that the device was given it. The last one that it was told is sent again by a
-//! `StatusRepeater`, which has the socket, where 300 ms have gone by
-//! without a newer one, byte for byte and to the same peer, and nothing else ever is (`repeats_the_last`): while the output blocks, the publisher
-//! goes on hearing its subscriber. Whoever gives its turns may keep news from it.
+//! `StatusRepeater`, which has the socket, where 300 ms have gone by without a newer one, byte for byte and to the same
+//! peer, and nothing else ever is (`repeats_the_last`): while the output blocks, the publisher goes on hearing its
+//! subscriber. Whoever gives its turns may keep news from it.
 //!
 //! Without an image a datagram is a SETUP that opens one, a frame whose sender is asked for a SETUP, or a stranger's, exactly;
 //! for each such frame its sender is asked once, with the frame's place, and nobody else is. Until a SETUP opens the first image
