@@ -74,6 +74,18 @@ impl<D> Fan<D> {
             Err(_) => self.failures = self.failures.saturating_add(1),
         }
     }
+
+    /// Counts what became of a send.
+    fn count_sent(&mut self, sent: &Result<(), DeviceFailed>)
+        ensures sent { OnOk sent.now (self.new ≡ self.old) }
+        ensures failed { OnErr sent.now (self.new ≡ record self.old { failures = counted self.old.failures }) }
+        ensures not_fallen { NeverFall (fan_device self.old) (fan_device self.new) }
+        ensures failures { CountsFailure sent.now self.old.failures self.new.failures }
+    {
+        if sent.is_err() {
+            self.failures = self.failures.saturating_add(1);
+        }
+    }
 }
 
 /// Sends a datagram along each of these ways, in order, up to a fault.
@@ -112,11 +124,9 @@ impl<D: Datagrams> Datagrams for Fan<D> {
         ensures sent { OnOk result (self.new ≡ record self.old { ways = self.new.ways }) }
         ensures failed { OnErr result (self.new ≡ record self.old { ways = self.new.ways; failures = counted self.old.failures }) }
     {
-        if send_along(&mut self.ways, datagram).is_err() {
-            self.failures = self.failures.saturating_add(1);
-            return Err(DeviceFailed);
-        }
-        Ok(())
+        let sent = send_along(&mut self.ways, datagram);
+        self.count_sent(&sent);
+        sent
     }
 
     fn recv(&mut self, buffer: &mut [u8]) -> Result<Option<usize>, DeviceFailed>
