@@ -2,6 +2,7 @@
 
 ghost use Rattle.std.specs.Prelude.{◌≡◌, ◌↔◌, IfErr, IfOk, IsErrOf, vec_capacity};
 ghost use Rattle.std.specs.List.{AllByRecursion};
+ghost use Rattle.publication.specs.Steps.{geometry_of};
 ghost use Rattle.position.specs.Openings.{IsConsumerCount, IsStart};
 ghost use Rattle.shared_log.specs.Faults.{OfOpening};
 ghost use Rattle.shared_log.specs.Handles.{IsLogOf, IsOf};
@@ -30,8 +31,8 @@ fn block(alloc: Global, mtu: usize) -> Result<Vec<u8>, AllocError>
     Ok(Vec::with_capacity(alloc, mtu)?)
 }
 
-/// The same for each of eight publishers.
-fn blocks(alloc: Global, mtu: usize) -> Result<[Vec<u8>; 8], AllocError>
+/// The same for each of four publishers.
+fn blocks(alloc: Global, mtu: usize) -> Result<[Vec<u8>; 4], AllocError>
     ensures { IfOk result (λ bs. AllByRecursion (λ b. vec_capacity b ≡ mtu) bs) }
 {
     Ok([
@@ -39,11 +40,24 @@ fn blocks(alloc: Global, mtu: usize) -> Result<[Vec<u8>; 8], AllocError>
         block(alloc, mtu)?,
         block(alloc, mtu)?,
         block(alloc, mtu)?,
-        block(alloc, mtu)?,
-        block(alloc, mtu)?,
-        block(alloc, mtu)?,
-        block(alloc, mtu)?,
     ])
+}
+
+/// Four publishers of this MTU, each with a block of its own.
+fn paired(publishers: [Publisher; 4], blocks: [Vec<u8>; 4], mtu: usize) -> [Claimant; 4]
+    requires rest { AllByRecursion IsResting publishers }
+    requires short { AllByRecursion (λ p. (geometry_of p.pass).mtu ≡ mtu) publishers }
+    requires room { AllByRecursion (λ b. vec_capacity b ≡ mtu) blocks }
+    ensures { result ≡ publishers }
+{
+    let [zero, one, two, three] = publishers;
+    let [for_zero, for_one, for_two, for_three] = blocks;
+    [
+        Claimant::new(zero, for_zero),
+        Claimant::new(one, for_one),
+        Claimant::new(two, for_two),
+        Claimant::new(three, for_three),
+    ]
 }
 
 /// Publishers of a log, each with a block of its own. The error comes only where memory is refused.
@@ -56,28 +70,13 @@ pub fn with_blocks(
     requires rest { AllByRecursion IsResting publishers }
     ensures { IfOk result (λ cs. cs ≡ publishers) }
 {
-    let blocks = blocks(alloc, log.identity().geometry().mtu() as usize)?;
+    let mtu = log.identity().geometry().mtu() as usize;
+    let for_front = blocks(alloc, mtu)?;
+    let for_back = blocks(alloc, mtu)?;
     let [zero, one, two, three, four, five, six, seven] = publishers;
-    let [
-        for_zero,
-        for_one,
-        for_two,
-        for_three,
-        for_four,
-        for_five,
-        for_six,
-        for_seven,
-    ] = blocks;
-    Ok([
-        Claimant::new(zero, for_zero),
-        Claimant::new(one, for_one),
-        Claimant::new(two, for_two),
-        Claimant::new(three, for_three),
-        Claimant::new(four, for_four),
-        Claimant::new(five, for_five),
-        Claimant::new(six, for_six),
-        Claimant::new(seven, for_seven),
-    ])
+    let [zero, one, two, three] = paired([zero, one, two, three], for_front, mtu);
+    let [four, five, six, seven] = paired([four, five, six, seven], for_back, mtu);
+    Ok([zero, one, two, three, four, five, six, seven])
 }
 
 /// A log that opens at a position, unconnected, with its limit and so many consumers at the start, and all its passes; each
