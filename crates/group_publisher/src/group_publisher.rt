@@ -18,7 +18,7 @@ ghost use Rattle.group_publisher.specs.Ended.{AllHaveArrived, PublishesAllAlong}
 use crate::sender_thread::{GroupDevice, GroupSender};
 use crate::two_threads::{GroupPublished, run};
 use crate::way::Way;
-use agents::{Began, open_stream_sender};
+use agents::{Began, Duty, open_stream_sender};
 use endpoint::{Datagrams, DeviceError, Fan, Route, UdpDevice};
 use offering::OfferingState;
 use options::PublishPlan;
@@ -138,6 +138,13 @@ fn publish_shared<
     run(alloc, context, &mut sender, ways, reading, errors)
 }
 
+/// How many ways a device sends along.
+fn ways_of<D: Drop>(duty: &Duty<Fan<D>>) -> usize
+    ensures { result ≡ length duty.now.device.ways }
+{
+    duty.device().each().len()
+}
+
 /// Runs with all that a publisher to so many subscribers, 1 to 8, begins with, over a way to each, over any devices.
 pub fn publish_group_over<
     R: Threads + Wait + Clock + Send + Copy + 'static,
@@ -166,7 +173,7 @@ pub fn publish_group_over<
         reader,
         passes,
     } = parts;
-    let ways = passes.duty.device().each().len();
+    let ways = ways_of(&passes.duty);
     let (ours, theirs) = shared(alloc, state)?;
     let context = PublisherContext {
         rt,

@@ -2,11 +2,12 @@
 
 ghost use Rattle.std.specs.Prelude.{◌≡◌};
 ghost use Rattle.std.specs.Prelude.{map};
+ghost use Rattle.peer.specs.Watching.{told};
 ghost use Rattle.group_publisher.specs.Seeing.{begun, is_quiet, news_along, seen_along};
 
 use crate::way::Way;
 use endpoint::Datagrams;
-use peer::Attendance;
+use peer::{Attendance, Attended};
 use publisher::{ChannelDevice, calls_of, look};
 
 /// Nanoseconds of silence behind which the others go on without a receiver.
@@ -33,13 +34,22 @@ fn is_quiet(attendance: &Attendance, silence: Option<u64>, before: bool) -> bool
     }
 }
 
+impl<D> Way<Attended<D>> {
+    /// Tells its device up to where the stream was sent.
+    fn believe(&mut self, position: u64)
+        ensures { self.new ≡ record self.old { device = record self.old.device { watch = told self.old.device.watch position } } }
+    {
+        self.device.believe(position);
+    }
+}
+
 impl<D: Datagrams> Way<ChannelDevice<D>> {
     /// A cycle begins, with the stream sent up to this position.
     pub(crate) fn begin(&mut self, position: u64)
         ensures { self.new ≡ begun position self.old }
     {
         self.before = calls_of(&self.device);
-        self.device.believe(position);
+        self.believe(position);
     }
 
     /// Sees at a moment what the cycle has shown. What is to be told of that.
