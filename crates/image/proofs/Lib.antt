@@ -2,6 +2,7 @@ pub mod Lists
 pub mod Order
 pub mod Reach
 pub mod Kept
+pub mod Opening
 pub mod Fronts
 pub mod Units
 pub mod Listed
