@@ -1,5 +1,5 @@
 -- A cycle is its steps, one after the other.
-use Rattle.std.proofs.Common.{◌≡◌, ℕ, ◌+◌, Bool, true, false, List, [], ◌∷◌, ◌++◌, length, map, Option, None, Some, refl, sym, ap, ◌∙◌, subst, append-nil, length-append, arith}
+use Rattle.std.proofs.Common.{◌≡◌, ℕ, ◌+◌, ◌≤◌, Bool, true, false, List, [], ◌∷◌, ◌++◌, length, map, Option, None, Some, refl, sym, ap, ◌∙◌, subst, append-nil, length-append, arith}
 use Rattle.std.specs.List.{flat_map}
 use Rattle.std.specs.Option.{option_to_list}
 use Rattle.std.specs.Prelude.{nat_eq, nat_lt, ◌&&◌, if◌then◌else◌}
@@ -18,7 +18,8 @@ use Rattle.sender.specs.Naming.{after_due as named_after, is_due}
 use Rattle.sender.specs.Cycling.{Cycle, GivesAgain, GivesNew, alone, datagrams, heartbeats, is_heard, is_silent, sent_wires, setups}
 use Rattle.sender.specs.Giving.{SendsAgain, SendsNew, with_all}
 use Rattle.frames.specs.Outgoing.{Outgoing, with_datagram}
-use Rattle.sender.specs.Sending.{Cycles, ReadsTo, Sending, SendsFrom, cycled, all_noted}
+use Rattle.sender.specs.Naming.{Naming}
+use Rattle.sender.specs.Sending.{Cycles, GoesOn, ReadsTo, Sending, SendsFrom, cycled, all_noted}
 
 -- ---- what is told
 
@@ -141,6 +142,33 @@ stays_from {R = R} {F = F} c d e mid new last from answered note same =
     let there : SendsFrom (record c { reads = d.reads; handler = after_due c.handler c.clock; last = last }) mid = record { identity = from.identity; position = from.position; near = from.near } in
     let is : e ≡ record c { reads = d.reads; handler = after_due c.handler c.clock; last = last } = note ∙ ap (λ (x : Sending R F). record x { last = last }) answered in
     subst (λ (x : Sending R F). SendsFrom x new) (sym is) (subst (λ (x : Source). SendsFrom (record c { reads = d.reads; handler = after_due c.handler c.clock; last = last }) x) (sym same) there)
+
+-- behind its SETUP it stands where it stood
+pub named_from : {R F : Type 0} (source : R → Source) (s b : Sending R F) (flow : F) (naming : Naming) → SendsFrom s (source s.reads) → b ≡ record s { flow = flow; naming = naming } → SendsFrom b (source b.reads)
+named_from {R = R} {F = F} source s b flow naming from name =
+    subst (λ (x : Sending R F). SendsFrom x (source x.reads)) (sym name) (record { identity = from.identity; position = from.position; near = from.near })
+
+-- and at the end of the cycle it goes on
+pub still_goes : {R F : Type 0} (s b c d e : Sending R F) (flow : F) (naming : Naming) (mid new : Source) (last : Option ℕ) → b ≡ record s { flow = flow; naming = naming } → c ≡ record b { reads = c.reads; handler = c.handler } → SendsFrom c mid → d ≡ record c { reads = d.reads; handler = after_due c.handler c.clock } → e ≡ record d { last = last } → new ≡ mid → GoesOn s e new
+still_goes {R = R} {F = F} s b c d e flow naming mid new last name sent from answered note same = record {
+  identity = ap (λ (x : Sending R F). x.identity) note ∙ ap (λ (x : Sending R F). x.identity) answered ∙ ap (λ (x : Sending R F). x.identity) sent ∙ ap (λ (x : Sending R F). x.identity) name;
+  from = stays_from c d e mid new last from answered note same;
+}
+
+-- one SETUP at the most
+pub named_few : (i : Identity) (at : ℕ) (due : Bool) (o p : Outgoing) → o.datagrams ≡ [] → p ≡ with_all o (alone (setups i at due)) → length p.datagrams ≤ 1
+named_few i at due o p empty named =
+    subst (λ (n : ℕ). n ≤ 1) (sym (ap (λ (x : Outgoing). length x.datagrams) named ∙ ap (λ (x : List (List ℕ)). length (x ++ datagrams (alone (setups i at due)))) empty)) (few due)
+  where
+    few : (b : Bool) → length (datagrams (alone (setups i at b))) ≤ 1
+    few true = omega arith
+    few false = omega arith
+
+-- so many more
+pub more_few : (i : Identity) (fresh : List (List Placed)) (p q : Outgoing) (m n : ℕ) → length p.datagrams ≤ m → length fresh ≤ n → q ≡ with_all p (map (wires i) fresh) → length q.datagrams ≤ m + n
+more_few i fresh p q m n held few out =
+    let all : length q.datagrams ≡ length (p.datagrams ++ datagrams (map (wires i) fresh)) = ap (λ (x : Outgoing). length x.datagrams) out in
+    omega (arith, held, few, all, length-append p.datagrams (datagrams (map (wires i) fresh)), length-map {A = List Wire} {B = List ℕ}, length-map {A = List Placed} {B = List Wire})
 
 -- a reader that stands where the sender does, after new frames
 pub still_from : {R F : Type 0} (grown : List Placed → List Placed → Type 0) (s t : Sending R F) (limit : ℕ) (old new : Source) (o n : Outgoing) → SendsFrom s old → t.identity ≡ s.identity → SendsNew grown s.identity limit old s.handler o new t.handler n → SendsFrom t new

@@ -1,11 +1,9 @@
 -- Where a range that is due begins.
-use Rattle.std.proofs.Common.{◌≡◌, ℕ, ◌+◌, ◌-◌, ◌*◌, ◌/◌, ◌<◌, ◌≤◌, ◌↔◌, List, [], ◌∷◌, Bool, true, false, cond, max, min, nat_eq, nat_le, nat_lt, ◌&&◌, Option, Some, None, find, filter, MatchOption, refl, sym, ap, ◌∙◌, subst, ⊎_elim, arith}
+use Rattle.std.proofs.Common.{◌≡◌, ℕ, ◌+◌, ◌-◌, ◌*◌, ◌/◌, ◌<◌, ◌≤◌, List, [], ◌∷◌, Bool, true, false, cond, max, min, nat_eq, nat_le, nat_lt, Option, Some, None, find, filter, MatchOption, refl, sym, ap, ◌∙◌, subst, ⊎_elim, arith}
 use Rattle.std.specs.Option.{option_map}
-use Rattle.std.specs.List.{list_any}
 use Rattle.std.proofs.lemmas.Bool.{cases_Bool, and_from, and_parts, both_ways, cond-true, cond-false, eqb-true, eq-eqb, leb-true, le-leb, ltb-true, lt-ltb, or_cases, or_left, or_right}
 use Rattle.theory.specs.Position.{Geometry}
-use Rattle.theory.specs.Gap.{Gap}
-use Rattle.theory.specs.Resend.{Action, first_resent, is_in_range, range_end, resend_range}
+use Rattle.theory.specs.Resend.{Action, first_resent, is_in_range, range_end}
 use Rattle.sender.specs.Resending.Handler.{is_near, starts_at}
 use Rattle.sender.specs.Resending.Laws.{IsWanted, IsFirstAsked, NearGiveRange, RangeBeginsFirst}
 use Rattle.sender.specs.Resending.Spaced.{AreSpaced}
