@@ -4,6 +4,7 @@ pub mod Messages
 pub mod Justifying
 pub mod Refusing
 pub mod Adding
+pub mod Padded
 pub mod Ordered
 pub mod Seeing
 pub mod Turned

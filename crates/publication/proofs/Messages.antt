@@ -1,7 +1,7 @@
 -- A message's frames, filled one after the other.
 use Rattle.std.proofs.Common.{◌≡◌, ℕ, ◌+◌, ◌-◌, ◌/◌, ◌%◌, ◌<◌, ◌≤◌, Bool, true, false, List, [], ◌∷◌, ◌++◌, length, take, drop, length-drop, append_assoc, sym, refl, ap, ◌∙◌, subst, arith}
 use Rattle.std.proofs.lemmas.List.{take_all, length-take-le}
-use Rattle.theory.specs.Position.{Geometry, IsGeometry, aligned, cuts_of, framed_length, max_payload, span}
+use Rattle.theory.specs.Position.{Geometry, IsGeometry, aligned, cuts_of, framed_length, max_payload, max_position, span}
 use Rattle.theory.specs.Placed.{Data, Frame}
 use Rattle.theory.specs.Entry.{flags_of, pieces_of}
 use Rattle.theory.specs.Bytes.{Identity}
@@ -36,6 +36,19 @@ last_blank v p rest low b =
 
 pub fits_frame : (v w : Pass) (n : ℕ) → geometry_of w ≡ geometry_of v → n ≤ max_payload (geometry_of v) → n ≤ max_payload (geometry_of w)
 fits_frame v w n shape low = subst (λ (h : Geometry). n ≤ max_payload h) (sym shape) low
+
+pub part_fits : (v w : Pass) (n : ℕ) → geometry_of w ≡ geometry_of v → IsGeometry (geometry_of v) → n ≤ max_payload (geometry_of v) → 32 + n ≤ (geometry_of w).mtu
+part_fits v w n same legal few =
+    subst (λ (g : Geometry). 32 + n ≤ g.mtu) (sym same) (fits (geometry_of v) legal few)
+  where
+    fits : (g : Geometry) → IsGeometry g → n ≤ max_payload g → 32 + n ≤ g.mtu
+    fits g legal few = (let least = legal.mtu.least in omega (arith, least, few))
+
+pub begins_in : (v w : Pass) (at more : ℕ) → geometry_of w ≡ geometry_of v → at + more ≤ max_position (geometry_of v) → at ≤ max_position (geometry_of w)
+begins_in v w at more same within = subst (λ (g : Geometry). at ≤ max_position g) (sym same) (begins (max_position (geometry_of v)) within)
+  where
+    begins : (n : ℕ) → at + more ≤ n → at ≤ n
+    begins n h = omega (arith, h)
 
 pub last_filled : (v w : Pass) (first : Bool) (p : ℕ) (rest : List ℕ) → length rest ≤ max_payload (geometry_of v) → Fills v p (Data (frame_flags first true) rest) w → FillsAll v first p rest w
 last_filled v w first p rest low fills front behind parts =

@@ -8,7 +8,7 @@ use Rattle.publication.specs.Steps.{addition, count_in, geometry_of, message_at,
 use Rattle.publication.specs.Claims.{Takes, TurnsFrom, exactly, padding_words}
 use Rattle.publication.specs.Looks.{EndsTerm}
 use Rattle.publication.proofs.Steppings.{frames_kept, goes_as, goes_by, goes_further}
-use Rattle.publication.proofs.Adding.{full_then, granted, tripped_call, tripped_frames, tripping}
+use Rattle.publication.proofs.Adding.{full_then, granted, to_pad, tripped_call, tripped_frames, tripping}
 use Rattle.publication.proofs.claiming.add_frames.Goals as goal
 
 pub returns-then-offset-covered-clause-part : goal.returns-then-offset-covered-clause-part
@@ -73,3 +73,18 @@ returns-clause-refused g c =
     let found : c.term_count-found.result ≡ count_in (geometry_of (g.W.WordCalls.pass_of c.args.words.now c.args.pass.now)) c.add-word.result = c.term_count-found.ensures ∙ ap (λ (h : Geometry). count_in h c.add-word.result) geometry in
     let over : (geometry_of (g.W.WordCalls.pass_of c.args.words.now c.args.pass.now)).term_length < offset_in c.add-word.result + framed_length (geometry_of (g.W.WordCalls.pass_of c.args.words.now c.args.pass.now)) c.args.size = omega (arith, covered, offset, term, c.if-offset-covered.false) in
     tripping (g.W.WordCalls.pass_of c.args.words.now c.args.pass.now) (g.W.WordCalls.pass_of c.add-word.new.self c.add-word.new.pass) c.args.size c.add-word.result c.add-word.ensures.told over (g.W.WordCalls.pass_of c.pad.new.words c.pad.new.pass) c.pad.ensures.pads (g.W.WordCalls.pass_of c.turn_from.new.words c.turn_from.new.pass) c.args.count c.turn_from.result c.requires.count (subst (λ (n : ℕ). Takes (TurnsFrom (geometry_of (g.W.WordCalls.pass_of c.pad.new.words c.pad.new.pass)) n) (g.W.WordCalls.pass_of c.pad.new.words c.pad.new.pass) (g.W.WordCalls.pass_of c.turn_from.new.words c.turn_from.new.pass)) found c.turn_from.ensures.turns) (subst (λ (n : ℕ). EndsTerm n c.turn_from.result) found c.turn_from.ensures.why)
+
+pub pad-requires-clause-fits : goal.pad-requires-clause-fits
+pad-requires-clause-fits g c = c.add-word.ensures.moved.still
+
+pub pad-requires-clause-draft : goal.pad-requires-clause-draft
+pad-requires-clause-draft g c =
+    let geometry : c.geometry-geometry.result ≡ (geometry_of (g.W.WordCalls.pass_of c.args.words.now c.args.pass.now)) = c.geometry-geometry.ensures.value ∙ ap (λ (i : Identity). i.geometry) c.identity.ensures in
+    let covered : c.framed_length-covered.result ≡ framed_length (geometry_of (g.W.WordCalls.pass_of c.args.words.now c.args.pass.now)) c.args.size = c.framed_length-covered.ensures ∙ ap (λ (h : Geometry). framed_length h c.args.size) geometry in
+    let offset : c.term_offset-offset.result ≡ offset_in c.add-word.result = c.term_offset-offset.ensures in
+    let term : c.term_length.result ≡ (geometry_of (g.W.WordCalls.pass_of c.args.words.now c.args.pass.now)).term_length = c.term_length.ensures.value ∙ ap (λ (h : Geometry). h.term_length) geometry in
+    let over : (geometry_of (g.W.WordCalls.pass_of c.args.words.now c.args.pass.now)).term_length < offset_in c.add-word.result + framed_length (geometry_of (g.W.WordCalls.pass_of c.args.words.now c.args.pass.now)) c.args.size = omega (arith, covered, offset, term, c.if-offset-covered.false) in
+    to_pad (g.W.WordCalls.pass_of c.args.words.now c.args.pass.now) (g.W.WordCalls.pass_of c.add-word.new.self c.add-word.new.pass) c.args.size c.add-word.result c.add-word.ensures.told over
+
+pub turn_from-requires-clause-fits : goal.turn_from-requires-clause-fits
+turn_from-requires-clause-fits g c = c.pad.ensures.part.moved.still

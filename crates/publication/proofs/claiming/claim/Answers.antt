@@ -1,14 +1,14 @@
 use Rattle.std.proofs.Common.{◌≡◌, ℕ, ◌≤◌, List, ap, arith, length}
-use Rattle.std.proofs.lemmas.Result.{IfErr-weaker}
+use Rattle.std.proofs.lemmas.Result.{IfErr-weaker, IfOk-weaker}
 use Rattle.std.specs.Prelude.{IfErr, IfOk, Result, Ok, Err}
 use Rattle.publication.specs.declared.looking.Look.TheVariants as looks
 use Rattle.publication.specs.declared.pass.Pass.{Pass}
 use Rattle.publication.specs.declared.step.WordStep.{WordStep}
 use Rattle.publication.specs.declared.refusal.Refusal.{Refusal}
-use Rattle.publication.specs.Claims.{Justified, exactly, padding_words}
+use Rattle.publication.specs.Claims.{Claimed, Justified, exactly, padding_words}
 use Rattle.publication.specs.Looks.{Granted, Looked, Tripping}
 use Rattle.publication.proofs.Steppings.{calls_as, calls_further, frames_kept, none_padded, padded_behind}
-use Rattle.publication.proofs.Refusing.{claimed, looked_keeps, refused_at_end, refused_tripping}
+use Rattle.publication.proofs.Refusing.{claimed, looked_keeps, refused_at_end, refused_looking, refused_tripping}
 use Rattle.publication.proofs.Justifying.{few}
 use Rattle.publication.proofs.claiming.claim.Goals as goal
 
@@ -38,3 +38,14 @@ pub returns-in-Open-clause-refused : goal.returns-in-Open-clause-refused
 returns-in-Open-clause-refused g c =
     IfErr-weaker c.add_frames.result (λ (why : Refusal). Tripping (g.W.WordCalls.pass_of c.look_at.new.words c.look_at.new.pass) c.in-Open.count c.args.size why (g.W.WordCalls.pass_of c.add_frames.new.words c.add_frames.new.pass)) (λ (why : Refusal). Justified (g.W.WordCalls.pass_of c.args.words.now c.args.pass.now) c.args.size why (g.W.WordCalls.pass_of c.add_frames.new.words c.add_frames.new.pass))
     (λ why t. refused_tripping (g.W.WordCalls.pass_of c.args.words.now c.args.pass.now) c.args.size (g.W.WordCalls.pass_of c.look_at.new.words c.look_at.new.pass) (g.W.WordCalls.pass_of c.add_frames.new.words c.add_frames.new.pass) why c.in-Open.count c.in-Open.ensures.looked t) c.add_frames.ensures.refused
+
+pub returns-in-Refused-clause-refused : goal.returns-in-Refused-clause-refused
+returns-in-Refused-clause-refused g c = refused_looking (g.W.WordCalls.pass_of c.args.words.now c.args.pass.now) c.args.size (g.W.WordCalls.pass_of c.look_at.new.words c.look_at.new.pass) c.in-Refused.refusal c.in-Refused.ensures.looked
+
+pub returns-in-UsedUp-clause-refused : goal.returns-in-UsedUp-clause-refused
+returns-in-UsedUp-clause-refused g c = refused_at_end (g.W.WordCalls.pass_of c.args.words.now c.args.pass.now) c.args.size (g.W.WordCalls.pass_of c.look_at.new.words c.look_at.new.pass) (g.W.WordCalls.pass_of c.turn_from.new.words c.turn_from.new.pass) c.turn_from.result c.in-UsedUp.count c.in-UsedUp.ensures.looked c.turn_from.ensures.turns c.turn_from.ensures.why
+
+pub returns-in-Open-clause-accepted : goal.returns-in-Open-clause-accepted
+returns-in-Open-clause-accepted g c =
+    IfOk-weaker c.add_frames.result (λ (start : ℕ). Granted (g.W.WordCalls.pass_of c.look_at.new.words c.look_at.new.pass) c.in-Open.count c.args.size start (g.W.WordCalls.pass_of c.add_frames.new.words c.add_frames.new.pass)) (λ (start : ℕ). Claimed (g.W.WordCalls.pass_of c.args.words.now c.args.pass.now) c.args.size start (g.W.WordCalls.pass_of c.add_frames.new.words c.add_frames.new.pass))
+    (λ start t. claimed (g.W.WordCalls.pass_of c.args.words.now c.args.pass.now) c.args.size (g.W.WordCalls.pass_of c.look_at.new.words c.look_at.new.pass) (g.W.WordCalls.pass_of c.add_frames.new.words c.add_frames.new.pass) start c.in-Open.count c.in-Open.ensures.looked t) c.add_frames.ensures.accepted

@@ -8,7 +8,7 @@ use Rattle.publication.specs.Frames.{frame_flags, stored_words}
 use Rattle.publication.specs.Claims.{Fills, HasBlank, exactly, message_words}
 use Rattle.publication.specs.Offers.{FillsAll, HasBlanks}
 use Rattle.publication.proofs.Steppings.{goes_further, moves, moves_none, took_more, took_none}
-use Rattle.publication.proofs.Messages.{fits_frame, full_blank, full_filled, full_framed, full_left, full_shape, full_stored, last_filled, last_stored}
+use Rattle.publication.proofs.Messages.{begins_in, fits_frame, full_blank, full_filled, full_framed, full_left, full_shape, full_stored, last_blank, last_filled, last_stored, part_fits}
 use Rattle.publication.proofs.writing.write_message.Goals as goal
 
 pub loop-rest-init : goal.loop-rest-init
@@ -79,3 +79,46 @@ returns-clause-fills g c =
     let most : c.max_payload-most.result ≡ max_payload (geometry_of (g.W.WordCalls.pass_of c.args.words.now c.args.pass.now)) = c.max_payload-most.ensures.value ∙ ap max_payload geometry in
     let low : length c.loop-rest.rest.now ≤ max_payload (geometry_of (g.W.WordCalls.pass_of c.loop-rest.words c.loop-rest.pass)) = fits_frame (g.W.WordCalls.pass_of c.args.words.now c.args.pass.now) (g.W.WordCalls.pass_of c.loop-rest.words c.loop-rest.pass) (length c.loop-rest.rest.now) c.loop-rest.invariant.shape (omega (arith, most, c.loop-rest-test.false)) in
     c.loop-rest.invariant.fills (g.W.WordCalls.pass_of c.write_data-2.new.words c.write_data-2.new.pass) (last_filled (g.W.WordCalls.pass_of c.loop-rest.words c.loop-rest.pass) (g.W.WordCalls.pass_of c.write_data-2.new.words c.write_data-2.new.pass) c.loop-rest.first c.loop-rest.at c.loop-rest.rest.now low (subst (λ (n : ℕ). Fills (g.W.WordCalls.pass_of c.loop-rest.words c.loop-rest.pass) c.loop-rest.at (Data n c.loop-rest.rest.now) (g.W.WordCalls.pass_of c.write_data-2.new.words c.write_data-2.new.pass)) c.flags_of-2.ensures.value c.write_data-2.ensures.fills))
+
+pub write_data-requires-clause-fits : goal.write_data-requires-clause-fits
+write_data-requires-clause-fits g c = c.loop-rest.invariant.moved.still
+
+pub write_data-requires-clause-in_stream : goal.write_data-requires-clause-in_stream
+write_data-requires-clause-in_stream g c = begins_in (g.W.WordCalls.pass_of c.args.words.now c.args.pass.now) (g.W.WordCalls.pass_of c.loop-rest.words c.loop-rest.pass) c.loop-rest.at (framed_length (geometry_of (g.W.WordCalls.pass_of c.args.words.now c.args.pass.now)) (length c.loop-rest.rest.now)) c.loop-rest.invariant.shape c.loop-rest.invariant.in_stream
+
+pub write_data-requires-clause-flags : goal.write_data-requires-clause-flags
+write_data-requires-clause-flags g c = c.flags_of.ensures.legal
+
+pub write_data-requires-clause-short : goal.write_data-requires-clause-short
+write_data-requires-clause-short g c =
+    let geometry : c.geometry-geometry.result ≡ (geometry_of (g.W.WordCalls.pass_of c.args.words.now c.args.pass.now)) = c.geometry-geometry.ensures.value ∙ ap (λ (i : Identity). i.geometry) c.identity.ensures in
+    let legal : IsGeometry (geometry_of (g.W.WordCalls.pass_of c.args.words.now c.args.pass.now)) = subst IsGeometry geometry c.geometry-geometry.ensures.legal in
+    let most : c.max_payload-most.result ≡ max_payload (geometry_of (g.W.WordCalls.pass_of c.args.words.now c.args.pass.now)) = c.max_payload-most.ensures.value ∙ ap max_payload geometry in
+    let high : max_payload (geometry_of (g.W.WordCalls.pass_of c.args.words.now c.args.pass.now)) < length c.loop-rest.rest.now = omega (arith, most, c.loop-rest-test.true) in
+    let front : c.split_at.result.0.now ≡ take (max_payload (geometry_of (g.W.WordCalls.pass_of c.args.words.now c.args.pass.now))) c.loop-rest.rest.now = c.split_at.ensures.front ∙ ap (λ (n : ℕ). take n c.loop-rest.rest.now) most in
+    let part_long : length c.split_at.result.0.now ≡ max_payload (geometry_of (g.W.WordCalls.pass_of c.args.words.now c.args.pass.now)) = ap (λ (xs : List ℕ). length xs) front ∙ length-take-le (max_payload (geometry_of (g.W.WordCalls.pass_of c.args.words.now c.args.pass.now))) c.loop-rest.rest.now (omega (arith, high)) in
+    part_fits (g.W.WordCalls.pass_of c.args.words.now c.args.pass.now) (g.W.WordCalls.pass_of c.loop-rest.words c.loop-rest.pass) (length c.split_at.result.0.now) c.loop-rest.invariant.shape legal (let few : length c.split_at.result.0.now ≤ max_payload (geometry_of (g.W.WordCalls.pass_of c.args.words.now c.args.pass.now)) = omega (arith, part_long) in few)
+
+pub write_data-requires-2-clause-fits : goal.write_data-requires-2-clause-fits
+write_data-requires-2-clause-fits g c = c.loop-rest.invariant.moved.still
+
+pub write_data-requires-2-clause-in_stream : goal.write_data-requires-2-clause-in_stream
+write_data-requires-2-clause-in_stream g c = begins_in (g.W.WordCalls.pass_of c.args.words.now c.args.pass.now) (g.W.WordCalls.pass_of c.loop-rest.words c.loop-rest.pass) c.loop-rest.at (framed_length (geometry_of (g.W.WordCalls.pass_of c.args.words.now c.args.pass.now)) (length c.loop-rest.rest.now)) c.loop-rest.invariant.shape c.loop-rest.invariant.in_stream
+
+pub write_data-requires-2-clause-flags : goal.write_data-requires-2-clause-flags
+write_data-requires-2-clause-flags g c = c.flags_of-2.ensures.legal
+
+pub write_data-requires-2-clause-short : goal.write_data-requires-2-clause-short
+write_data-requires-2-clause-short g c =
+    let geometry : c.geometry-geometry.result ≡ (geometry_of (g.W.WordCalls.pass_of c.args.words.now c.args.pass.now)) = c.geometry-geometry.ensures.value ∙ ap (λ (i : Identity). i.geometry) c.identity.ensures in
+    let legal : IsGeometry (geometry_of (g.W.WordCalls.pass_of c.args.words.now c.args.pass.now)) = subst IsGeometry geometry c.geometry-geometry.ensures.legal in
+    let most : c.max_payload-most.result ≡ max_payload (geometry_of (g.W.WordCalls.pass_of c.args.words.now c.args.pass.now)) = c.max_payload-most.ensures.value ∙ ap max_payload geometry in
+    let low : length c.loop-rest.rest.now ≤ max_payload (geometry_of (g.W.WordCalls.pass_of c.args.words.now c.args.pass.now)) = omega (arith, most, c.loop-rest-test.false) in
+    part_fits (g.W.WordCalls.pass_of c.args.words.now c.args.pass.now) (g.W.WordCalls.pass_of c.loop-rest.words c.loop-rest.pass) (length c.loop-rest.rest.now) c.loop-rest.invariant.shape legal low
+
+pub write_data-requires-2-clause-blank : goal.write_data-requires-2-clause-blank
+write_data-requires-2-clause-blank g c =
+    let geometry : c.geometry-geometry.result ≡ (geometry_of (g.W.WordCalls.pass_of c.args.words.now c.args.pass.now)) = c.geometry-geometry.ensures.value ∙ ap (λ (i : Identity). i.geometry) c.identity.ensures in
+    let most : c.max_payload-most.result ≡ max_payload (geometry_of (g.W.WordCalls.pass_of c.args.words.now c.args.pass.now)) = c.max_payload-most.ensures.value ∙ ap max_payload geometry in
+    let low : length c.loop-rest.rest.now ≤ max_payload (geometry_of (g.W.WordCalls.pass_of c.loop-rest.words c.loop-rest.pass)) = fits_frame (g.W.WordCalls.pass_of c.args.words.now c.args.pass.now) (g.W.WordCalls.pass_of c.loop-rest.words c.loop-rest.pass) (length c.loop-rest.rest.now) c.loop-rest.invariant.shape (omega (arith, most, c.loop-rest-test.false)) in
+    last_blank (g.W.WordCalls.pass_of c.loop-rest.words c.loop-rest.pass) c.loop-rest.at c.loop-rest.rest.now low c.loop-rest.invariant.blanks
