@@ -1,6 +1,7 @@
 pub mod Alone
 pub mod Joins
 pub mod Meeting
+pub mod Named
 pub mod PollFrames
 pub mod Polled
 pub mod Heard

@@ -481,7 +481,10 @@ impl ReceiverCore {
             Err(error) => Ok(Outcome::SetupRefused(error)),
             Ok(named) => {
                 let identity = Identity::new(named.0, self.session, self.stream);
-                let image = open(self.alloc, identity, named.1, self.window, self.consumers)?;
+                let opened = open(self.alloc, identity, named.1, self.window, self.consumers);
+                let Ok(image) = opened else {
+                    return Err(AllocError);
+                };
                 self.image = Some(image);
                 self.unmet = None;
                 Ok(Outcome::Opened(named.1))
@@ -555,14 +558,7 @@ impl ReceiverCore {
                 if !is_due(self.told, self.window, position, self.clock) {
                     return None;
                 }
-                let status = status_at(
-                    &image.geometry(),
-                    self.session,
-                    self.stream,
-                    position,
-                    image.window(),
-                    self.receiver,
-                );
+                let status = status_in(image, self.session, self.stream, position, self.receiver);
                 self.told = Some(LastSent {
                     position,
                     moment: self.clock,
@@ -625,6 +621,21 @@ fn is_due(told: Option<LastSent>, window: u32, position: u64, clock: u64) -> boo
                 || position.saturating_sub(told.position) >= u64::from(window.div_ceil(4))
         }
     }
+}
+
+/// The status message of a receiver with this image, whose least consumer stands at this position.
+fn status_in(image: &OpenImage, session: i32, stream: i32, position: u64, receiver: i64) -> Status
+    requires { position ≤ max_position (geometry_of image.now) }
+    ensures { SM 0 (status_of result) ≡ control.status_at (record { geometry = geometry_of image.now; session = session; stream = stream }) position image.now.window receiver }
+{
+    status_at(
+        &image.geometry(),
+        session,
+        stream,
+        position,
+        image.window(),
+        receiver,
+    )
 }
 
 /// The status message of a receiver whose least consumer stands at this position.

@@ -1,4 +1,4 @@
-ghost use Rattle.std.specs.Prelude.{◌≡◌, IfOk, IfErr, IfSome, IfNone, IsTrue, ◌↔◌, ℕ};
+ghost use Rattle.std.specs.Prelude.{◌≡◌, IfOk, IfErr, IfSome, IfNone, IsTrue, ◌↔◌, ◌<◌, ◌%◌, ◌^◌, ◌-◌, ◌⊎◌, ℕ, pos, ◌<ℤ◌};
 ghost use Rattle.theory.specs.Position.{Geometry as Shape, IsGeometry};
 ghost use Rattle.theory.specs.Setup.{NamesGeometry, NamesPosition, OpensAt, HasSetupFault};
 ghost use Rattle.frames.specs.Frames.{setup_of};
@@ -26,8 +26,12 @@ fn geometry_of(setup: &Setup) -> Option<Geometry>
     ensures named { IfSome result (NamesGeometry (setup_of setup.now)) }
     ensures none { IfNone result ((g : Shape) → NamesGeometry (setup_of setup.now) g → ⊥) }
 {
-    let term_length = u32::try_from(setup.term_length).ok()?;
-    let mtu = u32::try_from(setup.mtu).ok()?;
+    let Some(term_length) = unsigned(setup.term_length) else {
+        return None;
+    };
+    let Some(mtu) = unsigned(setup.mtu) else {
+        return None;
+    };
     Geometry::new(term_length, mtu, setup.initial_term_id).ok()
 }
 
@@ -38,12 +42,31 @@ fn position_of(geometry: &Geometry, setup: &Setup) -> Option<u64>
     ensures named { IfSome result (NamesPosition (setup_of setup.now) geometry.now) }
     ensures none { IfNone result ((p : ℕ) → NamesPosition (setup_of setup.now) geometry.now p → ⊥) }
 {
-    let count = u32::try_from(setup.active_term_id.wrapping_sub(setup.initial_term_id)).ok()?;
-    let offset = u32::try_from(setup.term_offset).ok()?;
+    let Some(count) = unsigned(setup.active_term_id.wrapping_sub(setup.initial_term_id)) else {
+        return None;
+    };
+    let Some(offset) = unsigned(setup.term_offset) else {
+        return None;
+    };
     let length = geometry.term_length();
-    let is_last_end = offset == length && count == i32::MAX as u32;
-    if !offset.is_multiple_of(32) || (offset >= length && !is_last_end) {
+    if !is_place(offset, count, length) {
         return None;
     }
     Some(u64::from(count) * u64::from(length) + u64::from(offset))
+}
+
+/// A number that isn't negative.
+fn unsigned(number: i32) -> Option<u32>
+    ensures some { IfSome result (λ n. number ≡ pos n) }
+    ensures none { IfNone result (number <ℤ pos 0) }
+{
+    u32::try_from(number).ok()
+}
+
+/// Whether an offset is a multiple of 32 below the term length, or equal to it in the last term.
+fn is_place(offset: u32, count: u32, length: u32) -> bool
+    ensures { IsTrue result ↔ ((offset % 32 ≡ 0) × ((offset < length) ⊎ ((offset ≡ length) × (count ≡ 2 ^ 31 - 1)))) }
+{
+    let is_last_end = offset == length && count == i32::MAX as u32;
+    offset.is_multiple_of(32) && (offset < length || is_last_end)
 }
