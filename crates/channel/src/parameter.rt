@@ -96,26 +96,17 @@ impl Parameter {
         ensures found { IfSome result (λ p. name.now ≡ name_of p) }
         ensures none { IfNone result ((p : Parameter) → name.now ≢ name_of p) }
     {
-        if name == "endpoint" {
-            Some(Parameter::Endpoint)
-        } else if name == "interface" {
-            Some(Parameter::Interface)
-        } else if name == "ttl" {
-            Some(Parameter::Ttl)
-        } else if name == "mtu" {
-            Some(Parameter::Mtu)
-        } else if name == "term-length" {
-            Some(Parameter::TermLength)
-        } else if name == "session-id" {
-            Some(Parameter::SessionId)
-        } else if name == "init-term-id" {
-            Some(Parameter::InitialTermId)
-        } else if name == "term-id" {
-            Some(Parameter::TermId)
-        } else if name == "term-offset" {
-            Some(Parameter::TermOffset)
-        } else {
-            None
+        match name {
+            "endpoint" => Some(Parameter::Endpoint),
+            "interface" => Some(Parameter::Interface),
+            "ttl" => Some(Parameter::Ttl),
+            "mtu" => Some(Parameter::Mtu),
+            "term-length" => Some(Parameter::TermLength),
+            "session-id" => Some(Parameter::SessionId),
+            "init-term-id" => Some(Parameter::InitialTermId),
+            "term-id" => Some(Parameter::TermId),
+            "term-offset" => Some(Parameter::TermOffset),
+            _ => None,
         }
     }
 
