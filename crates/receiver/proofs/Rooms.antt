@@ -1,6 +1,5 @@
 -- An image that a SETUP opened keeps room for its readers until they are given away.
-use Rattle.std.proofs.lemmas.List.{length-replicate}
-use Rattle.std.proofs.Common.{replicate, IfSome, ◌≡◌, ℕ, zero, suc, ◌≤◌, List, [], ◌∷◌, ◌++◌, length, length-append, Option, None, Some, sym, ap, ◌∙◌, subst, arith}
+use Rattle.std.proofs.Common.{IfSome, ◌≡◌, ℕ, zero, suc, ◌≤◌, List, [], ◌∷◌, ◌++◌, length, length-append, Option, None, Some, sym, ap, ◌∙◌, subst, arith}
 use Rattle.std.specs.Arc.{arc_value}
 use Rattle.std.specs.List.{All}
 use Rattle.shared_image.specs.Handles.{ImageWords, IsReaderOf, ReaderSeat, position_of}
@@ -69,11 +68,3 @@ dealt_one image join rs r h e = let d : AreDealt image join 0 (r ∷ []) = subst
 pub taken_count : (o : Option Readers) (i : Inserting) (w : Inserting) (n : ℕ) → IfSome o (λ r. TakesReaders i r w) → i.key.consumers ≡ n → IfSome o (λ r. length r.readers.items ≡ n)
 taken_count None i w n taken e = taken
 taken_count (Some r) i w n taken e = taken.count ∙ e
-
--- a block of zeros is as long as it was asked for
-pub block_room : (n : ℕ) (b : List ℕ) → b ≡ replicate n 0 → n ≤ length b
-block_room n b is = omega (arith, ap length is ∙ length-replicate n 0)
-
--- one reader of a list of readers of an image
-pub only_of : (image : ImageWords) (rs : List ReaderSeat) (r : ReaderSeat) → rs ≡ r ∷ [] → All (IsReaderOf image) rs → IsReaderOf image r
-only_of image rs r is all = (subst (All (IsReaderOf image)) is all) 0 r (omega arith)

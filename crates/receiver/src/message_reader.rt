@@ -54,12 +54,8 @@ impl MessageReader {
         ensures begins { IfOk result (λ m. m.heard_to ≡ position_of m.seat) }
         ensures assembler { IfOk result (λ m. m.assembler ≡ record { greatest = greatest; begun = None }) }
     {
-        let Ok(block) = Block::new(alloc, GREATEST_PAYLOAD) else {
-            return Err(AllocError);
-        };
-        let Ok(image) = Arc::try_clone(&taken.image) else {
-            return Err(AllocError);
-        };
+        let block = Block::new(alloc, GREATEST_PAYLOAD)?;
+        let image = Arc::try_clone(&taken.image)?;
         Ok(MessageReader {
             image,
             reader: only_reader(taken),

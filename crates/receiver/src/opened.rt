@@ -81,12 +81,8 @@ pub(crate) fn open(
 {
     match rebuilder::open(alloc, identity, join, window, consumers) {
         Ok((image, inserter)) => {
-            let Ok(image) = Arc::new(alloc, image) else {
-                return Err(AllocError);
-            };
-            let Ok(room) = room_for(alloc, &image, consumers) else {
-                return Err(AllocError);
-            };
+            let image = Arc::new(alloc, image)?;
+            let room = room_for(alloc, &image, consumers)?;
             Ok(OpenImage {
                 image,
                 inserter,

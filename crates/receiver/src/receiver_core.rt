@@ -481,10 +481,7 @@ impl ReceiverCore {
             Err(error) => Ok(Outcome::SetupRefused(error)),
             Ok(named) => {
                 let identity = Identity::new(named.0, self.session, self.stream);
-                let opened = open(self.alloc, identity, named.1, self.window, self.consumers);
-                let Ok(image) = opened else {
-                    return Err(AllocError);
-                };
+                let image = open(self.alloc, identity, named.1, self.window, self.consumers)?;
                 self.image = Some(image);
                 self.unmet = None;
                 Ok(Outcome::Opened(named.1))

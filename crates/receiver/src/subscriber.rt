@@ -57,14 +57,11 @@ impl Subscriber {
         ensures shown { IfOk result (λ s. (r : Receiver) → Represents core r → r.greatest ≡ greatest → RepresentsSubscriber s r) }
         ensures greatest { IfOk result (λ s. s.assembler.greatest ≡ greatest) }
     {
-        let Ok(block) = Block::new(alloc, GREATEST_PAYLOAD) else {
-            return Err(AllocError);
-        };
         Ok(Subscriber {
             core,
             reader: None,
             assembler: Assembler::new(alloc, greatest),
-            block,
+            block: Block::new(alloc, GREATEST_PAYLOAD)?,
         })
     }
 

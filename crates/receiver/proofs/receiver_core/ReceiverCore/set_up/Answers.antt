@@ -6,22 +6,22 @@ use Rattle.image.specs.Seen.{IsJoin}
 use Rattle.frames.specs.Frames.{setup_of}
 use Rattle.receiver.specs.contracts.receiver_core.ReceiverCore.{the_view}
 use Rattle.receiver.proofs.Joins.{opens_join}
-use Rattle.receiver.proofs.Meeting.{core_opened, setup_kept, setup_met, setup_refused, setup_wanted}
+use Rattle.receiver.proofs.Meeting.{core_opened, setup_kept, setup_met, setup_refused}
 use Rattle.receiver.proofs.receiver_core.ReceiverCore.set_up.Goals as goal
 
-pub open-opened-requires-clause-join : goal.open-opened-requires-clause-join
-open-opened-requires-clause-join c = subst (λ (i : Identity). IsJoin i.geometry c.in-Ok.named.1) (sym c.new-identity.ensures) (opens_join _ _ _ _ c.in-Ok.ensures.opens)
+pub open-requires-clause-join : goal.open-requires-clause-join
+open-requires-clause-join c = subst (λ (i : Identity). IsJoin i.geometry c.in-Ok.named.1) (sym c.new-identity.ensures) (opens_join _ _ _ _ c.in-Ok.ensures.opens)
 
 is_none : {X : Type 0} (o : Option X) → is_some o ≡ false → o ≡ None
 is_none None e = refl
 is_none (Some x) e = cc
 
-pub returns-in-Ok-opened-clause-met : goal.returns-in-Ok-opened-clause-met
-returns-in-Ok-opened-clause-met c =
+pub returns-in_ok-image-in-Ok-clause-met : goal.returns-in_ok-image-in-Ok-clause-met
+returns-in_ok-image-in-Ok-clause-met c =
     let none : c.self.inside.image ≡ None = is_none c.self.inside.image (sym c.is_some.ensures ∙ c.if-is_some.false) in
     let opens = subst (λ (i : Identity). OpensAt (setup_of c.args.setup.now) c.self.inside.window i.geometry c.in-Ok.named.1) (sym c.new-identity.ensures) c.in-Ok.ensures.opens in
     let unit = (opens_join _ _ _ _ c.in-Ok.ensures.opens).unit in
-    rw (← c.self.view_is) (setup_met _ (setup_of c.args.setup.now) c.new-identity.result c.in-Ok.named.1 c.in-Ok-opened.image none opens unit c.in-Ok-opened.ensures)
+    rw (← c.self.view_is) (setup_met _ (setup_of c.args.setup.now) c.new-identity.result c.in-Ok.named.1 c.in_ok-image-in-Ok.image none opens unit c.in_ok-image-in-Ok.ensures)
 
 is_there : {X : Type 0} (o : Option X) → is_some o ≡ true → (x : X) × (o ≡ Some x)
 is_there None e = absurd (cc)
@@ -38,9 +38,4 @@ returns-in-Err-clause-met c =
     rw (← c.self.view_is) (setup_refused _ (setup_of c.args.setup.now) c.in-Err.error none c.in-Err.ensures.fault)
 
 pub invariant_of-self : goal.invariant_of-self
-invariant_of-self c = core_opened (the_view c.self.inside) _ c.new-identity.result c.in-Ok.named.1 c.in-Ok-opened.image c.self.invariant c.in-Ok-opened.ensures refl refl refl refl refl
-
-pub returns-in_default-clause-wanted : goal.returns-in_default-clause-wanted
-returns-in_default-clause-wanted c =
-    let none : c.self.inside.image ≡ None = is_none c.self.inside.image (sym c.is_some.ensures ∙ c.if-is_some.false) in
-    rw (← c.self.view_is) (setup_wanted _ (setup_of c.args.setup.now) c.in-Ok.named.0 c.in-Ok.named.1 none c.in-Ok.ensures.opens)
+invariant_of-self c = core_opened (the_view c.self.inside) _ c.new-identity.result c.in-Ok.named.1 c.in_ok-image-in-Ok.image c.self.invariant c.in_ok-image-in-Ok.ensures refl refl refl refl refl
