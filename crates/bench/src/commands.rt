@@ -1,4 +1,3 @@
-use crate::image_speed::timing::{ImageFigures, PassedFigures, measure_image, measure_passed};
 use crate::timing::{Subject, TimingOptions};
 use crate::timing_line::timing_options;
 use crate::timing_plan::timing_plan;
@@ -7,7 +6,8 @@ use command_line::{LineFault, process_words};
 use latency::{HEADER, Row, time_driver, time_log};
 use position::Geometry;
 use speed::{
-    Figures, measure, measure_claims, measure_stream, play_claims, play_round, play_stream,
+    Figures, ImageFigures, PassedFigures, measure, measure_claims, measure_image, measure_passed,
+    measure_stream, play_claims, play_round, play_stream,
 };
 use std::alloc::{AllocGlobal, Global};
 use std::env::Env;

@@ -5,12 +5,10 @@
 //! `bench driver OPTIONS` a row on the time from a message's offer to its poll, of which `bench header` prints the head,
 //! and `bench` plays small rounds and prints no figures.
 //!
-//! An image's figures name the term length and the share of late frames that were asked for (`measure_image`). The
-//! rest is proved safe alone.
+//! It is proved safe, and what its lines tell (`timing_options`, `timing_plan`).
 #![tactic(auto)]
 
 mod commands;
-mod image_speed;
 mod timing;
 mod timing_line;
 mod timing_plan;

@@ -1,5 +1,6 @@
 //! What the log takes, measured: rounds of publishers in threads over a log that they share, and streams that a reader
-//! follows meanwhile.
+//! follows meanwhile; and what an image takes for a frame (`measure_image`, `measure_passed`), whose figures name the term
+//! length and the share of late frames that were asked for.
 //!
 //! A round by one to eight threads, in whatever order they run, leaves a book whose entries tile the stream from 0 to
 //! its tail: as many messages as offers were accepted, of 256 bytes each, and paddings up to the ends of their terms;
@@ -14,12 +15,16 @@
 #![tactic(auto)]
 
 mod fault;
+mod images;
 mod rounds;
 mod samples;
 mod sampling;
 mod sorting;
 
 pub use fault::SpeedError;
+pub use images::{
+    ImageFigures, ImageSpeedError, PassedFigures, Played, measure_image, measure_passed,
+};
 pub use rounds::round::{play_claims, play_round};
 pub use rounds::streaming::play_stream;
 pub use sampling::{Figures, measure, measure_claims, measure_stream};

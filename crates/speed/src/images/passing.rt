@@ -7,7 +7,7 @@ ghost use Rattle.image.specs.Stored.{IsOfStream, IsUnit};
 ghost use Rattle.shared_image.specs.Handles.{IsReaderOf};
 ghost use Rattle.rebuilder.specs.Seen.{IsInserterOf};
 
-use crate::image_speed::playing::{Played, header};
+use crate::images::playing::{Played, header};
 use block::Block;
 use frames::Frame;
 use image::{Image, Insert};

@@ -1,5 +1,5 @@
 use Rattle.std.proofs.Common.{◌≤◌, length}
-use Rattle.bench.proofs.image_speed.playing.play.Given as goal
+use Rattle.speed.proofs.images.playing.play.Given as goal
 
 abbrev pub invariant-loop-index : goal.invariant-loop-index
 invariant-loop-index l = 65472 ≤ length l.block

@@ -19,7 +19,7 @@ const LATE: usize = 8;
 const READS: usize = 4 * LATE;
 
 /// A sum over what was read, and how many frames were stored.
-#[derive(Clone, Copy, Debug, PartialEq, Eq)]
+#[derive(Clone, Copy)]
 pub struct Played {
     pub sum: u64,
     pub stored: u64,

@@ -3,9 +3,9 @@
 ghost use Rattle.std.specs.Prelude.{◌≡◌, ◌*◌, ◌/◌, ◌-◌, ◌^◌, ◌≤◌, length, max, min, IfOk};
 ghost use Rattle.std.specs.Duration.{as_nanos};
 
-use crate::image_speed::fault::ImageSpeedError;
-use crate::image_speed::passing::{SharedImage, pass_all};
-use crate::image_speed::playing::{Played, play};
+use crate::images::fault::ImageSpeedError;
+use crate::images::passing::{SharedImage, pass_all};
+use crate::images::playing::{Played, play};
 use block::Block;
 use image::Image;
 use position::{Geometry, Identity};
@@ -14,7 +14,7 @@ use std::alloc::Global;
 use std::time::{Clock, Duration, Instant};
 
 /// What was measured with one term length and one share of frames that come late.
-#[derive(Clone, Copy, Debug, PartialEq, Eq)]
+#[derive(Clone, Copy)]
 pub struct ImageFigures {
     pub term_length: u32,
     /// How many frames of a hundred came late.
@@ -64,7 +64,7 @@ pub fn measure_image<R: Clock>(
 }
 
 /// What was measured with frames that are read at once.
-#[derive(Clone, Copy, Debug, PartialEq, Eq)]
+#[derive(Clone, Copy)]
 pub struct PassedFigures {
     /// Whether it was the image that threads share.
     pub shared: bool,

@@ -1,6 +1,0 @@
-//! Image speed.
-
-pub(crate) mod fault;
-pub(crate) mod passing;
-pub(crate) mod playing;
-pub(crate) mod timing;
