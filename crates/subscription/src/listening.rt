@@ -2,6 +2,10 @@
 
 ghost use Rattle.std.specs.Prelude.{◌≡◌, None, IfNone, IfOk, IfSome};
 ghost use Rattle.theory.specs.Control.{asking_at};
+ghost use Rattle.loss_injector.specs.Losing.{begun};
+ghost use Rattle.peer.specs.Patience.{patient};
+ghost use Rattle.peer.specs.Ties.{tied_to};
+ghost use Rattle.subscription.specs.Hearings.{following};
 ghost use Rattle.theory.specs.Wire.{IsHeader, SM};
 ghost use Rattle.frames.specs.Frames.{header_of, setup_of, status_of};
 ghost use Rattle.subscription.specs.Calls.{Heeds, IsCall, IsCallWith, IsJoined, IsJoinedBy};
@@ -10,7 +14,7 @@ ghost use Rattle.subscription.specs.Watches.{IsQuiet, after_call};
 
 use crate::followed::Followed;
 use crate::invitation::{header_in, id_of, opened, setup_in, takes_session};
-use crate::joined::Joined;
+use crate::joined::{Joined, SubscriberDevice};
 use crate::meeting::{Meeting, meeting_of};
 use crate::telling::{Counts, tell_waiting};
 use crate::watch::Watch;
@@ -20,7 +24,7 @@ use frames::{FaultCounts, Header, Status};
 use loss_injector::Lossy;
 use options::SubscribePlan;
 use peer::{Listener, PatientDevice, TiedDevice};
-use std::alloc::Global;
+use std::alloc::{AllocError, Global};
 use std::io::Write;
 use std::net::SocketAddr;
 use std::sync::Wait;
@@ -111,6 +115,24 @@ fn heed(plan: &SubscribePlan, listener: &mut Listener, watch: &mut Watch) -> Opt
     }
 }
 
+/// A device that is tied to the one who sent the SETUP.
+fn tied_duty(
+    alloc: Global,
+    plan: &SubscribePlan,
+    listener: Listener,
+    meeting: &Meeting,
+) -> Result<Duty<SubscriberDevice>, AllocError>
+    ensures { IfOk result (λ d. d ≡ record { device = following (begun (patient (tied_to listener meeting.now.from)) plan.now.end.rates plan.now.end.seed) meeting.now.opening.session plan.now.end.stream; mtu = 40 }) }
+{
+    let tied = PatientDevice::new(TiedDevice::new(listener, meeting.from));
+    let lossy = Lossy::new(alloc, tied, plan.end.rates, plan.end.seed);
+    let device = Followed::new(lossy, meeting.opening.session, plan.end.stream);
+    match Duty::new(alloc, device, REPLY) {
+        Ok(duty) => Ok(duty),
+        Err(_) => Err(AllocError),
+    }
+}
+
 /// Opens the first image, and ties the device to the one who sent the SETUP.
 fn join(
     alloc: Global,
@@ -121,11 +143,10 @@ fn join(
 ) -> Result<Joined, DeviceError>
     ensures { IfOk result (IsJoinedBy plan.now now meeting.now listener) }
 {
-    let subscriber = opened(alloc, plan, 0, &meeting.setup, now)?;
-    let tied = PatientDevice::new(TiedDevice::new(listener, meeting.from));
-    let lossy = Lossy::new(alloc, tied, plan.end.rates, plan.end.seed);
-    let device = Followed::new(lossy, meeting.opening.session, plan.end.stream);
-    let Ok(duty) = Duty::new(alloc, device, REPLY) else {
+    let Ok(subscriber) = opened(alloc, plan, 0, &meeting.setup, now) else {
+        return Err(DeviceError::Memory);
+    };
+    let Ok(duty) = tied_duty(alloc, plan, listener, meeting) else {
         return Err(DeviceError::Memory);
     };
     Ok(Joined {
