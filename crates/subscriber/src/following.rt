@@ -148,7 +148,12 @@ fn tell_silence<E: Write>(joined: &mut Joined, errors: &mut E, watch: &Watch)
         return;
     }
     joined.silent = silent;
-    if silent {
+    tell_change(joined, errors);
+}
+
+/// Tells that the session is silent, or that it goes on.
+fn tell_change<E: Write>(joined: &Joined, errors: &mut E) {
+    if joined.silent {
         tell_silent(errors, joined.opening.session, joined.place());
     } else {
         tell_again(errors, joined.opening.session, joined.place());
