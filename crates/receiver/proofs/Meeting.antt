@@ -213,6 +213,17 @@ status_same {g} {h} {a} {b} {c} {d} {p} {q} {m} {n} {e} {f} x y z u v w =
     ap (λ k. status_at (record { geometry = k; session = a; stream = c }) p m e) x ∙ ap (λ k. status_at (record { geometry = h; session = k; stream = c }) p m e) y ∙ ap (λ k. status_at (record { geometry = h; session = b; stream = k }) p m e) z
     ∙ ap (λ k. status_at (record { geometry = h; session = b; stream = d }) k m e) u ∙ ap (λ k. status_at (record { geometry = h; session = b; stream = d }) q k e) v ∙ ap (λ k. status_at (record { geometry = h; session = b; stream = d }) q n k) w
 
+-- there is no image to tell of
+pub none_told : (v : Core) → v.image ≡ None → (r : Receiver) → Represents (core_seen_as v v) r → [] ≡ telling r.image r
+none_told v none r t =
+    let s = subst (λ (x : Core). Represents x r) (as_it_was v v refl) t in
+    subst (λ x. [] ≡ telling x r) (sym (shown_none v.image r.image none s.image)) refl
+
+pub none_noted : (v : Core) → v.image ≡ None → (r : Receiver) → Represents (core_seen_as v v) r → Represents v (record r { told = told_after r.image r })
+none_noted v none r t =
+    let s = subst (λ (x : Core). Represents x r) (as_it_was v v refl) t in
+    subst (λ x. Represents v (record r { told = told_after x r })) (sym (shown_none v.image r.image none s.image)) s
+
 -- a status message that isn't due
 pub not_told : (v : Core) (i : Inserting) (b : Bool) → v.image ≡ Some i → b ≡ is_status_due (option_to_list v.told) v.window (least i.seen) v.clock → b ≡ false
     → (r : Receiver) → Represents v r → ([] ≡ telling r.image r) × Represents v (record r { told = told_after r.image r })
@@ -347,6 +358,10 @@ core_on v w i j is some sees then window consumers unmet faults =
     core_of v w j is
     (record { image = then; width = sees.window ∙ is.width i some; seats = ((λ n. (sees.key n).consumers) ∙ s.0, sees.all ∙ s.1) })
     window consumers (subst (λ (x : Option Header). ForSome x IsHeader) (sym unmet) is.unmet) faults
+
+-- with the header of a frame that met no image
+pub core_missed : (v : Core) (h : Header) → IsCore v → IsHeader h → IsCore (missed v h)
+core_missed v h is header = record { count = is.count; width = is.width; seats = is.seats; unmet = λ k e. (let same : h ≡ k = cc in subst IsHeader same header); faults = is.faults }
 
 -- whose readers were given away
 pub core_left : (v w : Core) (i j : Inserting) → IsCore v → v.image ≡ Some i → j ≡ record i { undealt = j.undealt } → w.image ≡ Some j → w.window ≡ v.window → w.consumers ≡ v.consumers → w.unmet ≡ v.unmet → w.faults ≡ v.faults → IsCore w
