@@ -1,5 +1,6 @@
 -- What a hand holds beside its log is right behind each call.
-use Rattle.std.proofs.Common.{◌≡◌, ◌∙◌, ℕ, zero, suc, ◌+◌, ◌-◌, ◌<◌, ◌≤◌, List, [], ◌∷◌, map, Some, None, sym, ap, subst, arith}
+use Rattle.std.proofs.Math.Nat.{mul-le-mul_right}
+use Rattle.std.proofs.Common.{◌≡◌, ◌∙◌, ℕ, zero, suc, ◌+◌, ◌*◌, ◌-◌, ◌<◌, ◌≤◌, List, [], ◌∷◌, map, Some, None, sym, ap, subst, arith}
 use Rattle.std.specs.Prelude.{Err, IfErr, IfOk, Ok, Option, Result, slice_index, slice_index_or, slice_set, sum}
 use Rattle.std.proofs.lemmas.List.{get_or-set_same}
 use Rattle.std.proofs.lemmas.List.Sums.{sum_by-cons}
@@ -12,7 +13,7 @@ use Rattle.log_rule.specs.Shares.{claimed_bytes}
 use Rattle.shared_log.specs.Handles.{LogValue}
 use Rattle.one_hand.specs.Entries.{with_share}
 use Rattle.one_hand.specs.Legal.{IsStream}
-use Rattle.one_hand.specs.Stream.{Stream}
+use Rattle.one_hand.specs.Stream.{Stream, term_of}
 use Rattle.one_hand.proofs.InHand.{is_stream, knows_on}
 use Rattle.one_hand.specs.declared.log_hand.held.Held.{Held}
 use Rattle.one_hand.specs.Shown.{consumers_of, seated, shares_of}
@@ -23,8 +24,22 @@ use Rattle.one_hand.specs.Parts.{AreNumbers, IsHand, Numbers, Stands, stream_at}
 pub there : (l : LogValue) (o : Option PublisherValue) (p : PublisherValue) (held : List (Option Held)) (n : Numbers) → IsHand l o held n → o ≡ Some p → Stands l p held n
 there l o p held n h e = subst (λ (x : Option PublisherValue). IsHand l x held n) e h
 
+pub nobody : (l : LogValue) (o : Option PublisherValue) (held : List (Option Held)) (n : Numbers) → IsHand l o held n → o ≡ None → ⊥
+nobody l o held n h e = subst (λ (x : Option PublisherValue). IsHand l x held n) e h
+
 pub shown : (o : Option PublisherValue) (p : PublisherValue) (held : List (Option Held)) (s : Stream) → stream_at o held ≡ s → o ≡ Some p → stream_in p held ≡ s
 shown o p held s v e = ap (λ (x : Option PublisherValue). stream_at x held) (sym e) ∙ v
+
+tail_small : (s : Stream) → IsStream s → s.tail ≤ 36028797018963968
+tail_small s is =
+    let last : s.active + 1 ≤ 2147483648 = (let l = is.last in omega (arith, l)) in
+    let most : (s.active + 1) * term_of s ≤ 2147483648 * term_of s = mul-le-mul_right (term_of s) last in
+    let short : term_of s ≤ 16777216 = is.geometry.term.greatest in
+    let to : s.tail ≤ (s.active + 1) * term_of s = is.to in
+    omega (arith, most, short, to)
+
+pub tail_fits : (s : Stream) (start covered : ℕ) → IsStream s → start ≡ s.tail → covered < 4294967296 → start + covered < 18446744073709551616
+tail_fits s start covered is at short = let tail : s.tail ≤ 36028797018963968 = tail_small s is in omega (arith, at, short, tail)
 
 pub hand_whole : (l : LogValue) (o : Option PublisherValue) (held : List (Option Held)) (n : Numbers) → IsHand l o held n → IsStream (stream_at o held)
 hand_whole l None held n h = absurd h
