@@ -92,7 +92,8 @@ fn run_cycle<R: Wait + Clock, D: Datagrams>(
         .agent
         .cycle_ways(context.rt, context.conductor, client, duty, now)?;
     let kept = keep(context, &mut sender.passes);
-    Ok(kept || work_of(sender) != before)
+    let moved = work_of(sender) != before;
+    Ok(kept | moved)
 }
 
 /// A cycle, with each way told up to where the stream was sent. Whether there was work.

@@ -1,7 +1,7 @@
 //! The two threads of a publisher to several subscribers: one reads messages and offers them, the other sends, keeps the log and
 //! decides the end.
 
-ghost use Rattle.std.specs.Prelude.{◌≡◌, ◌≤◌, IfOk, IfSome, Ok, length, map};
+ghost use Rattle.std.specs.Prelude.{◌≡◌, ◌≤◌, IfOk, IfSome, Ok, length, map, OnErr};
 ghost use Rattle.theory.specs.Position.{max_position};
 ghost use Rattle.agents.specs.LogSenders.{SendsLog};
 ghost use Rattle.peer.specs.declared.ending.Ending.TheVariants.{Whole};
@@ -74,6 +74,21 @@ fn tell_end<R: Clock, D: Datagrams>(
     }
 }
 
+/// Tells the receivers along all ways where the stream ends, unless the publisher ends by a fault.
+fn bid_farewell<R: Clock, D: Datagrams>(
+    context: &PublisherContext<'_, R>,
+    duty: &mut Duty<GroupDevice<D>>,
+    ending: &Result<Ending, PublishFault>,
+)
+    ensures quiet { OnErr ending.now (duty.new ≡ duty.old) }
+{
+    if ending.is_ok() {
+        let greatest = context.plan.geometry.max_position();
+        let tail = context.state.tail().min(greatest);
+        tell_end(context, duty, tail);
+    }
+}
+
 /// How it ended where so many of its ways are known: whole only where all are.
 fn ending_with(
     ending: Result<Ending, PublishFault>,
@@ -110,11 +125,7 @@ pub(crate) fn run<R: Threads + Wait + Clock, I: BufRead + Drop, D: Datagrams, E:
     let heard = attendances_of(alloc, sender.passes.duty.device().each());
     let input = input_end(context.rt, context, reader);
     let ending = ended(&reading_left(&input), sent);
-    if ending.is_ok() {
-        let greatest = context.plan.geometry.max_position();
-        let tail = context.state.tail().min(greatest);
-        tell_end(context, &mut sender.passes.duty, tail);
-    }
+    bid_farewell(context, &mut sender.passes.duty, &ending);
     let Ok(attendances) = heard else {
         return Err(PublishFault::Failed(DeviceError::Memory));
     };

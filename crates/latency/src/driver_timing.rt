@@ -1,6 +1,7 @@
 //! The driver, timed.
 
-ghost use Rattle.std.specs.Prelude.{◌≡◌, ◌*◌, ◌≤◌, IfOk};
+ghost use Rattle.std.specs.Prelude.{◌≡◌, ◌*◌, ◌^◌, ◌<◌, ◌≤◌, IfOk, vec_len};
+ghost use Rattle.theory.specs.Position.{max_message};
 ghost use Rattle.latency.specs.Beginnings.{ArePasses, AreThreadPasses};
 
 use crate::agent_threads::{MeasuredRun, Passes, ThreadPasses};
@@ -9,6 +10,7 @@ use crate::{Course, LatencyError, Plan, Samples, Timed, timed_by};
 use agents::Began;
 use conductor::Conductor;
 use endpoint::Fan;
+use position::Geometry;
 use run_parties::{
     LossyDevices, RunLog, RunState, lossy_devices, open_run_log, receiver_id, receiver_parts,
 };
@@ -66,6 +68,23 @@ fn begin<R: Net>(
     Ok((state, passes))
 }
 
+/// What is measured with these passes; the receiver's parts and the samples get their room first.
+fn measured<R: Threads + Wait + Clock + Sync>(
+    run: &MeasuredRun<'_, R>,
+    geometry: &Geometry,
+    passes: Passes,
+) -> Result<Samples, LatencyError>
+    requires shape { run.now.state.now.log.identity.geometry ≡ geometry.now }
+    requires short { run.now.load.length ≤ max_message geometry.now }
+    requires passes { ArePasses run.now.state.now.log run.now.state.now.conductor passes }
+    ensures most { IfOk result (λ s. vec_len s.taken ≤ run.now.load.publishers * run.now.load.messages) }
+    ensures few { IfOk result (λ s. vec_len s.taken < 2 ^ 36) }
+{
+    let samples = Samples::new(run.alloc, run.load.wanted())?;
+    let parts = receiver_parts(run.alloc, geometry, receiver_id(1, 0))?;
+    measure(run, parts, passes, samples)
+}
+
 /// Times the driver: publishers offer messages, each in a thread of its own; they are sent as datagrams over UDP on this
 /// machine, received, and polled by this thread. A message is timed from its stamp to the moment at which it was polled; at
 /// full load the stamp is the moment before its first offer, and else the moment at which it is due. The begin is the moment
@@ -81,10 +100,8 @@ pub fn time_driver<R: Threads + Wait + Clock + Net + Sync>(
 ) -> Result<Timed, LatencyError>
     ensures { IfOk result (λ t. t.messages ≤ plan.now.load.publishers * plan.now.load.messages) }
 {
-    let samples = Samples::new(alloc, plan.load.wanted())?;
     let course = Course::new(rt)?;
     let (state, passes) = begin(rt, alloc, plan, course.origin)?;
-    let parts = receiver_parts(alloc, &plan.geometry, receiver_id(1, 0))?;
     let run = MeasuredRun {
         rt,
         alloc,
@@ -92,7 +109,7 @@ pub fn time_driver<R: Threads + Wait + Clock + Net + Sync>(
         course: &course,
         load: plan.load,
     };
-    let samples = measure(&run, parts, passes, samples)?;
+    let samples = measured(&run, &plan.geometry, passes)?;
     course.outcome()?;
     timed_by(samples)
 }

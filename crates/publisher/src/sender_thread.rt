@@ -1,6 +1,6 @@
 //! The thread that sends, keeps the log, and decides the end.
 
-ghost use Rattle.std.specs.Prelude.{◌≡◌, IfErr, IfOk, Option, ℕ};
+ghost use Rattle.std.specs.Prelude.{◌≡◌, IfErr, IfOk, IfSome, Option, ℕ};
 ghost use Rattle.agents.specs.Conducting.{Conducts};
 ghost use Rattle.agents.specs.LogSenders.{SendsLog};
 ghost use Rattle.peer.specs.Watching.{told};
@@ -100,7 +100,8 @@ fn run_cycle<R: Wait + Clock, D: Datagrams>(
         .agent
         .cycle(context.rt, context.conductor, client, duty, now)?;
     let kept = keep(context, &mut sender.passes);
-    Ok(kept || work_of(sender) != before)
+    let moved = work_of(sender) != before;
+    Ok(kept | moved)
 }
 
 /// A cycle, with the device told up to where the stream was sent. Whether there was work, and what it has shown.
@@ -123,10 +124,30 @@ fn cycle<R: Wait + Clock, D: Datagrams>(
     Ok((busy, cycle))
 }
 
+/// A cycle at this moment, judged. Whether there was work, and how the publisher ends, if it does.
+#[tactic(auto, using(crate::proofs::Ends::ends))]
+fn turn<R: Wait + Clock, D: Datagrams, E: Write>(
+    context: &PublisherContext<'_, R>,
+    sender: &mut ChannelSender<'_, D>,
+    progress: &mut Progress,
+    errors: &mut E,
+) -> Result<(bool, Option<Judged>), PublishFault>
+    requires agent { SendsLog context.now.state.now.log sender.old.agent }
+    requires passes { ArePasses context.now.state.now.log context.now.conductor.now sender.old.passes }
+    ensures agent { SendsLog context.now.state.now.log sender.new.agent }
+    ensures lives { Lived sender.old.agent.core sender.new.agent.core }
+    ensures passes { ArePasses context.now.state.now.log context.now.conductor.now sender.new.passes }
+    ensures ends { IfOk result (λ r. IfSome r.1 (Ends sender.new.passes.duty.device.watch.attendance context.now.plan.now.linger context.now.plan.now.wait)) }
+{
+    let now = context.began.moment(context.rt)?;
+    let (busy, seen) = cycle(context, sender, now)?;
+    let judged = judge(context, progress, &seen, errors, now)?;
+    Ok((busy, judged))
+}
+
 /// Sends and keeps until the publisher ends. The answer is how, by the receivers that its device has heard, and by how the
 /// reading had ended then. The fault is the input's where no message came before it, `Device` where the device or the clock
 /// failed.
-#[tactic(auto, using(crate::proofs::Ends::ends, sender_meaning::proofs::Cycles::lived_on))]
 pub fn send_all<R: Wait + Clock, D: Datagrams, E: Write>(
     context: &PublisherContext<'_, R>,
     sender: &mut ChannelSender<'_, D>,
@@ -142,9 +163,8 @@ pub fn send_all<R: Wait + Clock, D: Datagrams, E: Write>(
     let mut progress = Progress::new();
     let mut idle = IdleStrategy::new();
     for _ in context.rt.forever() {
-        let now = context.began.moment(context.rt)?;
-        let (busy, seen) = cycle(context, sender, now)?;
-        if let Some(judged) = judge(context, &mut progress, &seen, errors, now)? {
+        let (busy, judged) = turn(context, sender, &mut progress, errors)?;
+        if let Some(judged) = judged {
             return Ok(judged);
         }
         idle.after(context.rt, busy);

@@ -1,6 +1,6 @@
 //! The two threads of a publisher: one reads messages and offers them, the other sends, keeps the log and decides the end.
 
-ghost use Rattle.std.specs.Prelude.{◌≡◌, ◌+◌, ◌%◌, ◌^◌, ◌≤◌, IfSome, Ok};
+ghost use Rattle.std.specs.Prelude.{◌≡◌, ◌+◌, ◌%◌, ◌^◌, ◌≤◌, IfSome, Ok, OnErr, OnOk};
 ghost use Rattle.theory.specs.Position.{max_position};
 ghost use Rattle.agents.specs.LogSenders.{SendsLog};
 ghost use Rattle.peer.specs.Watching.{plus_one};
@@ -117,6 +117,22 @@ fn tell_end<R: Clock, D: Datagrams>(
     }
 }
 
+/// Tells the receivers where the stream ends, unless the publisher ends by a fault.
+fn bid_farewell<R: Clock, D: Datagrams>(
+    context: &PublisherContext<'_, R>,
+    duty: &mut Duty<ChannelDevice<D>>,
+    ending: &Result<Ending, PublishFault>,
+)
+    ensures told { OnOk ending.now (duty.new.device.watch.tally.datagrams ≡ (duty.old.device.watch.tally.datagrams + 5) % 2 ^ 64) }
+    ensures quiet { OnErr ending.now (duty.new ≡ duty.old) }
+{
+    if ending.is_ok() {
+        let greatest = context.plan.geometry.max_position();
+        let tail = context.state.tail().min(greatest);
+        tell_end(context, duty, tail);
+    }
+}
+
 /// How the reading ended that is left.
 pub fn reading_left<I>(input: &Option<InputEnd<I>>) -> Option<Reading>
     ensures { result ≡ reading_left input.now }
@@ -150,11 +166,7 @@ pub(crate) fn run<R: Threads + Wait + Clock, I: BufRead + Drop, D: Datagrams, E:
     let attendance = sender.passes.duty.device().attendance();
     let input = input_end(context.rt, context, reader);
     let ending = ended(&reading_left(&input), sent);
-    if ending.is_ok() {
-        let greatest = context.plan.geometry.max_position();
-        let tail = context.state.tail().min(greatest);
-        tell_end(context, &mut sender.passes.duty, tail);
-    }
+    bid_farewell(context, &mut sender.passes.duty, &ending);
     Published {
         ending,
         attendance,

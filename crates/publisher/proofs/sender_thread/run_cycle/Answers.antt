@@ -4,8 +4,5 @@ use Rattle.publisher.proofs.sender_thread.run_cycle.Goals as goal
 pub returns-in_err-cycle-clause-lives : goal.returns-in_err-cycle-clause-lives
 returns-in_err-cycle-clause-lives g c = agent_lived _ _ _ _ _ _ _ _ _ c.cycle.ensures.cycle
 
-pub returns-then-kept-clause-lives : goal.returns-then-kept-clause-lives
-returns-then-kept-clause-lives g c = agent_lived _ _ _ _ _ _ _ _ _ c.cycle.ensures.cycle
-
-pub returns-else-kept-clause-lives : goal.returns-else-kept-clause-lives
-returns-else-kept-clause-lives g c = agent_lived _ _ _ _ _ _ _ _ _ c.cycle.ensures.cycle
+pub returns-clause-lives : goal.returns-clause-lives
+returns-clause-lives g c = agent_lived _ _ _ _ _ _ _ _ _ c.cycle.ensures.cycle
