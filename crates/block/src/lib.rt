@@ -3,16 +3,13 @@
 //!
 //! `Block` stands on raw memory: its bytes lie in a piece of exactly its length, none is read before it was written,
 //! none behind the end is touched, and the piece isn't used once it was given back, nor given back twice. The
-//! contracts of `Block`'s methods say it, and beneath them those of `Memory` and `front_mut`, the six functions with
-//! pointers.
+//! contracts of `Block`'s methods say it, and beneath them those of `Memory`, the five functions with pointers.
 //!
 //! That a block's memory is given back no contract says, since what is owned may be forgotten; `Block`'s `drop` does
 //! it. Trusted are the two calls of the heap: that the memory they give is nobody else's until it is given back.
 #![tactic(auto)]
 
 mod block;
-mod front;
 mod memory;
 
 pub use crate::block::Block;
-pub use front::front_mut;

@@ -56,13 +56,6 @@ impl SenderSetup {
         due
     }
 
-    /// Whether each receiver that is waited for was heard.
-    pub fn heard(&self) -> bool
-        ensures { result ≡ self.now.heard }
-    {
-        self.heard
-    }
-
     /// Notes that a status message that doesn't ask has come.
     pub fn on_status(&mut self)
         ensures { self.new ≡ record self.old { heard = true } }
