@@ -1,6 +1,7 @@
 //! The conductor's turns.
 
 ghost use Rattle.std.specs.Prelude.{◌≡◌};
+ghost use Rattle.agents.specs.Conducting.{Conducts};
 ghost use Rattle.run_parties.specs.Passes.{IsKept};
 
 use crate::context::Context;
@@ -18,6 +19,7 @@ fn steer_once<R: Wait>(rt: &R, state: &RunState, keeper: &mut Keeper, taker: &mu
     requires taker { taker.old.queue ≡ state.now.conductor }
     ensures keeper { IsKept state.now.log keeper.new }
     ensures taker { taker.new.queue ≡ taker.old.queue }
+    ensures conducts { Conducts state.now.log keeper.old taker.old result keeper.new taker.new }
 {
     conduct(rt, &state.log, keeper, &state.conductor, taker)
 }

@@ -1,6 +1,8 @@
 //! A receiver's turns.
 
-ghost use Rattle.std.specs.Prelude.{◌≡◌, ◌<◌, ◌^◌, None, Some, IfNone, IfOk, IfSome, OnOk};
+ghost use Rattle.std.specs.Prelude.{◌≡◌, ◌<◌, ◌^◌, ℕ, None, Some, IfNone, IfOk, IfSome, OnOk};
+ghost use Rattle.agents.specs.Cycles.{Cycle};
+ghost use Rattle.agents.specs.Parties.{CoreHears, CoreTicks};
 
 use crate::context::Context;
 use crate::gate::{Gate, Role};
@@ -29,6 +31,7 @@ fn receive_once<N: Named + Begins, R: Wait + Clock, D: Datagrams, G>(
     counters: &Counters,
 ) -> Result<bool, DeviceError>
     requires { counters.now ≡ N.counters }
+    ensures cycle { IfOk result (λ busy. (now : ℕ) × Cycle CoreHears CoreTicks now (D.tells reception.old.duty.device) reception.old.core (D.device reception.old.duty.device) busy reception.new.core (D.device reception.new.duty.device)) }
     ensures image { reception.new.image ≡ reception.old.image }
     ensures still { OnOk result (reception.new.fault ≡ reception.old.fault) }
 {
