@@ -4,7 +4,7 @@ ghost use Rattle.std.specs.Prelude.{◌≡◌, IfErr, IfOk, IfSome, Option, ℕ}
 ghost use Rattle.agents.specs.Conducting.{Conducts};
 ghost use Rattle.agents.specs.LogSenders.{SendsLog};
 ghost use Rattle.peer.specs.Watching.{told};
-ghost use Rattle.sender_meaning.specs.Lives.{Lived};
+ghost use Rattle.sender_meaning.specs.Lives.{Lived, LivedTo};
 ghost use Rattle.publisher.specs.Looking.{calls_of, seen_of};
 ghost use Rattle.publisher.specs.Openings.{ArePasses, IsKept};
 ghost use Rattle.publisher.specs.Progress.{Ends};
@@ -91,6 +91,7 @@ fn run_cycle<R: Wait + Clock, D: Datagrams>(
     requires passes { ArePasses context.now.state.now.log context.now.conductor.now sender.old.passes }
     ensures agent { SendsLog context.now.state.now.log sender.new.agent }
     ensures lives { Lived sender.old.agent.core sender.new.agent.core }
+    ensures told { IfOk result (λ _. LivedTo now sender.old.agent.core sender.new.agent.core) }
     ensures passes { ArePasses context.now.state.now.log context.now.conductor.now sender.new.passes }
 {
     let before = work_of(sender);
@@ -114,6 +115,7 @@ fn cycle<R: Wait + Clock, D: Datagrams>(
     requires passes { ArePasses context.now.state.now.log context.now.conductor.now sender.old.passes }
     ensures agent { SendsLog context.now.state.now.log sender.new.agent }
     ensures lives { Lived sender.old.agent.core sender.new.agent.core }
+    ensures told { IfOk result (λ _. LivedTo now sender.old.agent.core sender.new.agent.core) }
     ensures passes { ArePasses context.now.state.now.log context.now.conductor.now sender.new.passes }
     ensures seen { IfOk result (λ r. r.1 ≡ seen_of (calls_of sender.old.passes.duty.device) sender.new.passes.duty.device) }
 {
@@ -136,6 +138,7 @@ fn turn<R: Wait + Clock, D: Datagrams, E: Write>(
     requires passes { ArePasses context.now.state.now.log context.now.conductor.now sender.old.passes }
     ensures agent { SendsLog context.now.state.now.log sender.new.agent }
     ensures lives { Lived sender.old.agent.core sender.new.agent.core }
+    ensures told { IfOk result (λ _. (now : ℕ) × LivedTo now sender.old.agent.core sender.new.agent.core) }
     ensures passes { ArePasses context.now.state.now.log context.now.conductor.now sender.new.passes }
     ensures ends { IfOk result (λ r. IfSome r.1 (Ends sender.new.passes.duty.device.watch.attendance context.now.plan.now.linger context.now.plan.now.wait)) }
 {
@@ -157,6 +160,7 @@ pub fn send_all<R: Wait + Clock, D: Datagrams, E: Write>(
     requires passes { ArePasses context.now.state.now.log context.now.conductor.now sender.old.passes }
     ensures agent { SendsLog context.now.state.now.log sender.new.agent }
     ensures lives { Lived sender.old.agent.core sender.new.agent.core }
+    ensures told { IfOk result (λ _. (now : ℕ) × LivedTo now sender.old.agent.core sender.new.agent.core) }
     ensures keeper { IsKept context.now.state.now.log sender.new.passes.keeper }
     ensures ends { IfOk result (λ judged. Ends sender.new.passes.duty.device.watch.attendance context.now.plan.now.linger context.now.plan.now.wait judged) }
 {

@@ -1,5 +1,6 @@
 -- A cycle of a sender's agent is a part of its core's life.
 use Rattle.std.proofs.Common.{◌≡◌, ◌⊎◌, ℕ, List, [], ◌∷◌, ◌++◌, Bool, Result, Ok, Err, inl, inr, refl, sym, subst}
+use Rattle.std.specs.Prelude.{IfOk}
 use Rattle.conductor.specs.Parties.{ClientSeen}
 use Rattle.endpoint.specs.Devices.{Device}
 use Rattle.endpoint.specs.declared.device_error.DeviceError.{DeviceError}
@@ -8,7 +9,7 @@ use Rattle.shared_log.specs.Sourced.{StaysOn, frames_stay, stays_on}
 use Rattle.shared_log.specs.declared.reader.source.LogFrames.{LogFrames}
 use Rattle.agents.specs.Cycles.{Cycle, Fault, HearsAll, TicksBehind}
 use Rattle.agents.specs.Duties.{Agent, AgentCycle}
-use Rattle.sender_meaning.specs.Lives.{Act, Hears, HearsSo, KeepsItsReader, Lived, Lives, LogCore, Ticks, TicksSo}
+use Rattle.sender_meaning.specs.Lives.{Act, Hears, HearsSo, KeepsItsReader, Lived, LivedTo, Lives, LogCore, Ticks, TicksSo}
 
 lives_on : (s m t : LogCore) (xs ys : List Act) → Lives s xs m → Lives m ys t → Lives s (xs ++ ys) t
 lives_on s m t [] ys first then = subst (λ (z : LogCore). Lives z ys t) first then
@@ -40,6 +41,14 @@ fault_lived now tells why s t d e f = lived_on s f.middle t (all_heard now s f.m
 pub agent_lived : (now : ℕ) (tells : Type 0) (a b : Agent LogFrames Unicast) (c after : ClientSeen) (d e : Device) (result : Result Bool DeviceError) → AgentCycle HearsSo TicksSo now tells a c d result b after e → Lived a.core b.core
 agent_lived now tells a b c after d e (Ok busy) h = cycle_lived now tells a.core b.core d e busy h.cycle
 agent_lived now tells a b c after d e (Err why) h = fault_lived now tells why a.core b.core d e h.fault
+
+-- without a fault it was told the moment last
+pub agent_lived_to : (now : ℕ) (tells : Type 0) (a b : Agent LogFrames Unicast) (c after : ClientSeen) (d e : Device) (result : Result Bool DeviceError) → AgentCycle HearsSo TicksSo now tells a c d result b after e → IfOk result (λ _. LivedTo now a.core b.core)
+agent_lived_to now tells a b c after d e (Ok busy) h = record { heard = h.cycle.middle; lived = all_heard now a.core h.cycle.middle h.cycle.heard h.cycle.answers h.cycle.all_heard; given = h.cycle.given; told = h.cycle.ticked }
+agent_lived_to now tells a b c after d e (Err why) h = tt
+
+pub lived_to_on : (now : ℕ) (s m t : LogCore) → Lived s m → LivedTo now m t → LivedTo now s t
+lived_to_on now s m t before then = record { heard = then.heard; lived = lived_on s m then.heard before then.lived; given = then.given; told = then.told }
 
 -- it reads the same log by the same reader
 pub lives_reading : (s t : LogCore) (acts : List Act) → Lives s acts t → StaysOn s.reads.log.now s.reads.reader t.reads.log.now t.reads.reader

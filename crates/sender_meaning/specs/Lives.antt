@@ -77,6 +77,13 @@ pub record Lived (s t : LogCore) : Type 0 where
   pub acts : List Act
   pub lives : Lives s acts t
 
+-- it lived on up to a moment, which it was told last
+pub record LivedTo (now : ℕ) (s t : LogCore) : Type 0 where
+  pub heard : LogCore
+  pub lived : Lived s heard
+  pub given : List (List ℕ)
+  pub told : TicksSo heard now t given
+
 -- it reads the same log, by the same reader
 abbrev pub KeepsItsReader : Type 0
 KeepsItsReader = (s t : LogCore) → Lived s t → StaysOn s.reads.log.now s.reads.reader t.reads.log.now t.reads.reader
