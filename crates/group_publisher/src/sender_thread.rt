@@ -2,6 +2,7 @@
 
 ghost use Rattle.std.specs.Prelude.{◌≡◌, IfOk, map};
 ghost use Rattle.agents.specs.LogSenders.{SendsLog};
+ghost use Rattle.sender_meaning.specs.Moments.{CyclesAt};
 ghost use Rattle.publisher.specs.Openings.{ArePasses};
 ghost use Rattle.group_publisher.specs.Judging.{Ends, Judges};
 ghost use Rattle.group_publisher.specs.Seeing.{begun, seen_along};
@@ -84,6 +85,7 @@ fn run_cycle<R: Wait + Clock, D: Datagrams>(
     requires passes { ArePasses context.now.state.now.log context.now.conductor.now sender.old.passes }
     ensures agent { SendsLog context.now.state.now.log sender.new.agent }
     ensures passes { ArePasses context.now.state.now.log context.now.conductor.now sender.new.passes }
+    ensures told { IfOk result (λ _. CyclesAt now sender.old.agent.core sender.new.agent.core) }
 {
     let before = work_of(sender);
     let passes = &mut sender.passes;
@@ -107,6 +109,7 @@ fn cycle<R: Wait + Clock, D: Datagrams, E: Write>(
     requires passes { ArePasses context.now.state.now.log context.now.conductor.now sender.old.passes }
     ensures agent { SendsLog context.now.state.now.log sender.new.agent }
     ensures passes { ArePasses context.now.state.now.log context.now.conductor.now sender.new.passes }
+    ensures told { IfOk result (λ _. CyclesAt now sender.old.agent.core sender.new.agent.core) }
 {
     let position = sender.agent.position();
     begin(&mut sender.passes.duty, position);

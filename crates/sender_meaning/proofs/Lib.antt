@@ -4,3 +4,4 @@ mod Standing
 pub mod Living
 mod Both
 pub mod Cycles
+pub mod Moments
