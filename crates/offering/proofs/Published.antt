@@ -27,11 +27,11 @@ use Rattle.messages.specs.Inputs.{Explains, Gives}
 use Rattle.offering.specs.declared.fault.ReadingFault.{ReadingFault}
 use Rattle.offering.specs.declared.fault.ReadingFault.TheVariants.{Full, Input}
 use Rattle.offering.specs.declared.reading.Offered.{Offered}
-use Rattle.offering.specs.declared.reading.ReadingEnd.{ReadingEnd}
 use Rattle.offering.specs.declared.reading.ReadingEnd.TheVariants.{All, Stopped}
-use Rattle.offering.specs.Published.{OffersOne, Publishes, PublishesInput, PublishesNone, PublishesOne, Reads, claim_of, end_behind, frames_in, messages_in}
+use Rattle.offering.specs.Published.{GivesUp, OffersOne, Publishes, PublishesInput, PublishesNone, PublishesOne, Reads, claim_of, end_behind, frames_in, messages_in}
 use Rattle.offering.specs.Published.{Taken}
 use Rattle.offering.specs.Published.Taken.{Message, Padding}
+use Rattle.offering.specs.Refusals.{IsRefusedForGood}
 
 -- ---- of one pass and a later one
 
@@ -143,6 +143,10 @@ refused p size AdminAction q h = left p h.rest q h.leaves
 refused p size Closed q h = nothing p q h.after
 refused p size MaxPositionExceeded q h = left p h.rest q h.leaves
 
+-- with the offers before
+pub gives_up : (p v q : Pass) (size : ℕ) → PublishesNone p v → IsRefusedForGood v size q → GivesUp p size q
+gives_up p v q size none is = record { last = v; none = none; refused = is }
+
 -- ---- of an input
 
 pub read_more : (form : Form) (greatest : ℕ) (old between new : Option (List ℕ)) (messages : List (List ℕ)) (message : List ℕ)
@@ -175,7 +179,16 @@ one_more form greatest tail old now new p v q offered after number message is gi
 -- then the input is at its end
 pub ended : (form : Form) (greatest tail : ℕ) (old now new : Option (List ℕ)) (p q : Pass) (offered : Offered) (number : ℕ) → PublishesSome form greatest tail old now p q offered number → Consumes now new [] → IsAtEnd new
     → PublishesInput form greatest tail old new p q offered (Ok All)
-ended form greatest tail old now new p q offered number is none end = record { messages = is.messages; between = now; reads = is.reads; publishes = is.publishes; counted = is.counted; stops = (none, end) }
+ended form greatest tail old now new p q offered number is none end = record {
+  messages = is.messages;
+  between = now;
+  reads = is.reads;
+  publishes = is.publishes;
+  counted = is.counted;
+  behind = q;
+  published = is.publishes;
+  stops = (none, end);
+}
 
 -- or so many were read as can be counted
 pub counted_out : (form : Form) (greatest tail : ℕ) (old now : Option (List ℕ)) (p q : Pass) (offered : Offered) (number : ℕ) → PublishesSome form greatest tail old now p q offered number → number ≡ 2 ^ 64 - 1
@@ -186,6 +199,8 @@ counted_out form greatest tail old now p q offered number is all = record {
   reads = is.reads;
   publishes = is.publishes;
   counted = is.counted;
+  behind = q;
+  published = is.publishes;
   stops = inr ((let n = is.count in omega (arith, n, all)), refl);
 }
 
@@ -198,6 +213,8 @@ unreadable form greatest tail old now new p q offered number held fault is why =
   reads = is.reads;
   publishes = is.publishes;
   counted = is.counted;
+  behind = q;
+  published = is.publishes;
   stops = (held, subst (λ (n : ℕ). Explains form n greatest now new held fault) is.count why);
 }
 
@@ -215,18 +232,23 @@ unpublished form greatest tail old now new p v q offered number message is gives
   reads = is.reads;
   publishes = still form greatest tail old now p v q offered number is offer;
   counted = is.counted;
+  behind = v;
+  published = is.publishes;
   stops = inl (message, gives);
 }
 
 pub unplaced : (form : Form) (greatest tail : ℕ) (old now new : Option (List ℕ)) (p v q : Pass) (offered : Offered) (number : ℕ) (message : List ℕ)
-    → PublishesSome form greatest tail old now p v offered number → Gives form greatest now new true message → PublishesNone v q → PublishesInput form greatest tail old new p q offered (Err Full)
-unplaced form greatest tail old now new p v q offered number message is gives offer = record {
+    → PublishesSome form greatest tail old now p v offered number → Gives form greatest now new true message → PublishesNone v q → GivesUp v (length message) q
+    → PublishesInput form greatest tail old new p q offered (Err Full)
+unplaced form greatest tail old now new p v q offered number message is gives offer given_up = record {
   messages = is.messages;
   between = now;
   reads = is.reads;
   publishes = still form greatest tail old now p v q offered number is offer;
   counted = is.counted;
-  stops = (message, gives);
+  behind = v;
+  published = is.publishes;
+  stops = (message, gives, given_up);
 }
 
 -- ---- a fault that is handed on

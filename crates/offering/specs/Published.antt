@@ -17,6 +17,7 @@ use Rattle.offering.specs.declared.fault.ReadingFault.TheVariants.{Input, Full}
 use Rattle.offering.specs.declared.reading.Offered.{Offered}
 use Rattle.offering.specs.declared.reading.ReadingEnd.{ReadingEnd}
 use Rattle.offering.specs.declared.reading.ReadingEnd.TheVariants.{All, Stopped}
+use Rattle.offering.specs.Refusals.{IsRefusedForGood}
 
 -- ---- what a pass published
 
@@ -73,6 +74,12 @@ abbrev pub OffersOne : Pass → List ℕ → Option ℕ → Pass → Type 0
 OffersOne p message None q = PublishesNone p q
 OffersOne p message (Some end) q = PublishesOne p message q end
 
+-- the last offer of a message of this many bytes was refused for good; no message was published before
+pub record GivesUp (p : Pass) (size : ℕ) (q : Pass) : Type 0 where
+  pub last : Pass
+  pub none : PublishesNone p last
+  pub refused : IsRefusedForGood last size q
+
 -- ---- what was read
 
 -- messages of at most so many bytes are taken, one behind the other
@@ -84,13 +91,14 @@ Reads form greatest old (message ∷ messages) new = (between : Option (List ℕ
 abbrev pub ReadsOne : Form → ℕ → Option (List ℕ) → Option (List ℕ) → Type 0
 ReadsOne form greatest old new = (message : List ℕ) × Gives form greatest old new true message
 
--- how it ends behind so many messages: at the input's end; with one more that was read when all was to stop, or behind as many
--- as can be counted; by a message that can't be read; or with one for which the stream has no place
-abbrev pub Stops : Form → ℕ → ℕ → Option (List ℕ) → Option (List ℕ) → Result ReadingEnd ReadingFault → Type 0
-Stops form greatest count old new (Ok All) = Consumes old new [] × IsAtEnd new
-Stops form greatest count old new (Ok Stopped) = ReadsOne form greatest old new ⊎ ((count ≡ 2 ^ 64 - 2) × (new ≡ old))
-Stops form greatest count old new (Err (Input fault)) = (held : List ℕ) × Explains form (suc count) greatest old new held fault
-Stops form greatest count old new (Err Full) = ReadsOne form greatest old new
+-- how it ends behind so many messages, and behind the pass that published them: at the input's end; with one more that was read
+-- when all was to stop, or behind as many as can be counted; by a message that can't be read; or with one for which the stream has
+-- no place: the last offer of that very message, up to the pass that is left, was refused for good
+abbrev pub Stops : Form → ℕ → ℕ → Option (List ℕ) → Option (List ℕ) → Pass → Pass → Result ReadingEnd ReadingFault → Type 0
+Stops form greatest count old new p q (Ok All) = Consumes old new [] × IsAtEnd new
+Stops form greatest count old new p q (Ok Stopped) = ReadsOne form greatest old new ⊎ ((count ≡ 2 ^ 64 - 2) × (new ≡ old))
+Stops form greatest count old new p q (Err (Input fault)) = (held : List ℕ) × Explains form (suc count) greatest old new held fault
+Stops form greatest count old new p q (Err Full) = (message : List ℕ) × Gives form greatest old new true message × GivesUp p (length message) q
 
 -- ---- both
 
@@ -102,4 +110,7 @@ pub record PublishesInput (form : Form) (greatest tail : ℕ) (old new : Option 
   pub reads : Reads form greatest old messages between
   pub publishes : Publishes p tail messages q offered.tail
   pub counted : offered.messages ≡ length messages
-  pub stops : Stops form greatest (length messages) between new ended
+  -- the pass right behind the last of them
+  pub behind : Pass
+  pub published : Publishes p tail messages behind offered.tail
+  pub stops : Stops form greatest (length messages) between new behind q ended

@@ -4,7 +4,8 @@ ghost use Rattle.std.specs.Prelude.{◌≡◌, ◌≤◌, IfErr, IfOk, Ok, Err, 
 ghost use Rattle.theory.specs.Position.{max_message};
 ghost use Rattle.shared_log.specs.Books.{IsDone};
 ghost use Rattle.offering.specs.Inputs.{StopsReading};
-ghost use Rattle.offering.specs.Published.{OffersOne, PublishesInput, PublishesNone, PublishesOne};
+ghost use Rattle.offering.specs.Published.{GivesUp, OffersOne, PublishesInput, PublishesNone, PublishesOne};
+ghost use Rattle.offering.specs.Refusals.{IsRefused, IsRefusedForGood};
 
 use crate::fault::ReadingFault;
 use crate::offering_context::OfferingContext;
@@ -24,12 +25,13 @@ fn offer_once(log: &Log, publisher: &mut Publisher, message: &[u8]) -> Result<u6
     ensures done { IsDone log.now publisher.new }
     ensures accepted { IfOk result (λ end. PublishesOne publisher.old.pass message.now publisher.new.pass end) }
     ensures refused { IfErr result (λ why. PublishesNone publisher.old.pass publisher.new.pass) }
+    ensures why { IfErr result (λ why. IsRefused publisher.old.pass (length message.now) why publisher.new.pass) }
 {
     offer(&mut OnLog::new(log), publisher, message)
 }
 
 /// Offers a message once. Where it ends, if it was accepted; the thread rests where the log has no room yet. The fault is
-/// `Full`.
+/// `Full`, where it was refused for good.
 fn offer_or_rest<R: Clock>(
     context: &OfferingContext<'_, R>,
     publisher: &mut Publisher,
@@ -40,7 +42,7 @@ fn offer_or_rest<R: Clock>(
     requires short { length message.now ≤ max_message context.now.state.now.log.identity.geometry }
     ensures done { IsDone context.now.state.now.log publisher.new }
     ensures published { IfOk result (λ end. OffersOne publisher.old.pass message.now end publisher.new.pass) }
-    ensures fault { IfErr result (λ fault. (fault ≡ ReadingFault.Full) × PublishesNone publisher.old.pass publisher.new.pass) }
+    ensures fault { IfErr result (λ fault. (fault ≡ ReadingFault.Full) × PublishesNone publisher.old.pass publisher.new.pass × IsRefusedForGood publisher.old.pass (length message.now) publisher.new.pass) }
 {
     match offer_once(&context.state.log, publisher, message) {
         Ok(end) => Ok(Some(end)),
@@ -53,7 +55,8 @@ fn offer_or_rest<R: Clock>(
     }
 }
 
-/// Offers a message until it is accepted. Where it ends: it isn't accepted where all is to stop. The fault is `Full`.
+/// Offers a message until it is accepted. Where it ends: it isn't accepted where all is to stop. The fault is `Full`, where its
+/// last offer was refused for good.
 #[tactic(auto, using(crate::proofs::Published::after_none))]
 fn offer_until_accepted<R: Clock>(
     context: &OfferingContext<'_, R>,
@@ -64,7 +67,7 @@ fn offer_until_accepted<R: Clock>(
     requires short { length message.now ≤ max_message context.now.state.now.log.identity.geometry }
     ensures done { IsDone context.now.state.now.log publisher.new }
     ensures published { IfOk result (λ end. OffersOne publisher.old.pass message.now end publisher.new.pass) }
-    ensures fault { IfErr result (λ fault. (fault ≡ ReadingFault.Full) × PublishesNone publisher.old.pass publisher.new.pass) }
+    ensures fault { IfErr result (λ fault. (fault ≡ ReadingFault.Full) × PublishesNone publisher.old.pass publisher.new.pass × GivesUp publisher.old.pass (length message.now) publisher.new.pass) }
 {
     let mut idle = IdleStrategy::new();
     for _turn in 0..u64::MAX {
@@ -117,7 +120,7 @@ fn offer_all<R: Clock, I: BufRead>(
 /// What the publisher has claimed and committed since is the messages that were read, in their order, each once and whole,
 /// and paddings; where what it had claimed before is in the order of the stream, all of it is. Behind them the input is at its
 /// end, or gives no message for the fault that is told; or one more was read, when all was to stop or the stream had no place
-/// for it.
+/// for it: its last offer was refused for good.
 pub fn read_input<R: Clock, I: BufRead>(
     context: &OfferingContext<'_, R>,
     input: &mut I,

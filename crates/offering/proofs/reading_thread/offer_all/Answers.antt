@@ -1,7 +1,6 @@
 use Rattle.std.proofs.Common.{rules, ◌≡◌, ◌≤◌, refl, arith}
 use Rattle.theory.specs.Position.{max_message}
 use Rattle.offering.specs.declared.fault.ReadingFault.TheVariants.{Input}
-use Rattle.offering.specs.Published.{OffersOne}
 use Rattle.offering.proofs.Inputs.{of_message}
 use Rattle.offering.proofs.Published.{at_fault, at_full, one_more, unplaced, unpublished, unreadable}
 use Rattle.offering.proofs.reading_thread.offer_all.Goals as goal
@@ -22,8 +21,9 @@ returns-in_err-tail-clause-fault g c =
     let h = c.in_err-tail.ensures.fault in
     let size : c.max_message-greatest.result ≡ max_message c.args.context.now.state.now.log.identity.geometry = search rules in
     let gives = rw (size, c.if-not-branch.false) at c.in_ok-read_message.ensures.gives in
+    let given_up = rw c.deref.ensures.value at h.2 in
     at_full c.from_residual-in_err-tail.result c.in_err-tail.field-0.0 _ c.from_residual-in_err-tail.ensures.1 h.0
-    (tt, unplaced _ _ _ _ _ _ _ _ _ _ _ _ i gives h.1)
+    (tt, unplaced _ _ _ _ _ _ _ _ _ _ _ _ i gives h.1 given_up)
 
 pub returns-in_default-clause-read : goal.returns-in_default-clause-read
 returns-in_default-clause-read g c =

@@ -1,11 +1,11 @@
 use Rattle.std.proofs.Common.{Some}
-use Rattle.offering.proofs.Published.{after_none, at_fault, both_none}
+use Rattle.offering.proofs.Published.{after_none, at_fault, both_none, gives_up}
 use Rattle.offering.proofs.reading_thread.offer_until_accepted.Goals as goal
 
 pub returns-in_err-end-clause-fault : goal.returns-in_err-end-clause-fault
 returns-in_err-end-clause-fault g c =
     let h = c.in_err-end.ensures.fault in
-    at_fault c.from_residual.result c.in_err-end.field-0.0 _ c.from_residual.ensures.1 (h.0, both_none _ _ _ c.loop-turn.invariant.1 h.1)
+    at_fault c.from_residual.result c.in_err-end.field-0.0 _ c.from_residual.ensures.1 (h.0, both_none _ _ _ c.loop-turn.invariant.1 h.1, gives_up _ _ _ _ c.loop-turn.invariant.1 h.2)
 
 pub returns-in-Some-clause-published : goal.returns-in-Some-clause-published
 returns-in-Some-clause-published g c =
