@@ -1,5 +1,5 @@
 -- A sender's reader at the end.
-use Rattle.std.proofs.Common.{◌≡◌, ◌∙◌, List, ap, subst, refl, sym}
+use Rattle.std.proofs.Common.{◌∙◌, List, ap, subst, refl, sym}
 use Rattle.std.specs.List.{AllByRecursion}
 use Rattle.flow_control.specs.Unicast.{Unicast}
 use Rattle.position.specs.Openings.{IsStart}

@@ -1,9 +1,17 @@
--- A fault of the reading as one of the publisher.
+-- A fault of the reading, and one of a device, as one of the publisher.
+use Rattle.endpoint.specs.declared.device_error.DeviceError.{DeviceError}
+use Rattle.endpoint.specs.declared.device_error.DeviceError.TheVariants.{Device, Memory}
+use Rattle.endpoint.specs.declared.udp.Route.{Route}
 use Rattle.offering.specs.declared.fault.ReadingFault.{ReadingFault}
 use Rattle.offering.specs.declared.fault.ReadingFault.TheVariants as stops
 use Rattle.publisher.specs.declared.fault.PublishFault.{PublishFault}
-use Rattle.publisher.specs.declared.fault.PublishFault.TheVariants.{Input, Full}
+use Rattle.publisher.specs.declared.fault.PublishFault.TheVariants.{Input, Full, NoSocket, Failed}
 
 abbrev pub publish_fault : ReadingFault → PublishFault
 publish_fault (stops.Input fault) = Input fault
 publish_fault stops.Full = Full
+
+-- why there is none along a route
+abbrev pub of_device : Route → DeviceError → PublishFault
+of_device route Device = NoSocket route
+of_device route Memory = Failed Memory

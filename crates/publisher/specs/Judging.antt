@@ -1,5 +1,5 @@
 -- What stops a publisher, and where its stream ends.
-use Rattle.std.specs.Prelude.{◌≡◌, ℕ, Bool, true, false, ◌&&◌, nat_eq, if◌then◌else◌, Option, None, Some, Result, Ok, Err}
+use Rattle.std.specs.Prelude.{◌≡◌, ◌⊎◌, ℕ, Bool, true, false, ◌&&◌, nat_eq, if◌then◌else◌, Option, None, Some, Result, Ok, Err}
 use Rattle.endpoint.specs.declared.device_error.DeviceError.TheVariants.{Device}
 use Rattle.peer.specs.declared.ending.Ending.{Ending}
 use Rattle.peer.specs.declared.ending.Ending.TheVariants.{Short}
@@ -42,6 +42,15 @@ device_fault broken = if broken then Err (Failed Device) else Ok tt
 -- before any message was accepted
 abbrev pub input_fault : PublishFault → ℕ → Result (Unit {0}) PublishFault
 input_fault fault messages = if nat_eq messages 0 then Err fault else Ok tt
+
+-- where the reading has stopped for that
+abbrev pub reading_fault : Option PublishFault → ℕ → Result (Unit {0}) PublishFault
+reading_fault None messages = Ok tt
+reading_fault (Some fault) messages = input_fault fault messages
+
+-- why it goes on no more: each call of the device has failed for too long, or the reading has stopped for that
+abbrev pub FailsBy : Bool → PublishFault → Type 0
+FailsBy broken fault = ((broken ≡ true) × (fault ≡ Failed Device)) ⊎ ((reading : Option Reading) × (fault_in reading ≡ Some fault))
 
 -- ---- how it ended in all
 

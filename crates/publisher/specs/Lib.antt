@@ -2,6 +2,7 @@ pub mod Faults
 pub mod Judging
 pub mod Looking
 pub mod Openings
+pub mod Keeping
 pub mod Progress
 pub mod Ended
 pub mod Texts

@@ -1,12 +1,13 @@
 -- What a publisher has seen and told, and how it ends by that.
-use Rattle.std.specs.Prelude.{◌≡◌, ℕ, ◌-◌, ◌&&◌, Bool, not, true, false, nat_eq, nat_le, if◌then◌else◌, Option, None, Some}
+use Rattle.std.specs.Prelude.{◌≡◌, ℕ, ◌-◌, ◌&&◌, ◌||◌, Bool, not, true, false, nat_eq, nat_le, is_some, if◌then◌else◌, Option, None, Some, IfSome}
 use Rattle.peer.specs.declared.attendance.Attendance.{Attendance}
 use Rattle.peer.specs.declared.attendance.Heard.{Heard}
 use Rattle.peer.specs.declared.ending.Ending.{Ending}
 use Rattle.peer.specs.Endings.{ending_of}
 use Rattle.peer.specs.Silences.{judged, never, seen_at}
 use Rattle.offering.specs.declared.reading.Reading.{Reading}
-use Rattle.publisher.specs.Judging.{end_in}
+use Rattle.publisher.specs.Judging.{end_in, fault_in}
+use Rattle.publisher.specs.declared.fault.PublishFault.{PublishFault}
 use Rattle.publisher.specs.declared.judged.Judged.{Judged}
 use Rattle.publisher.specs.declared.looking.Seen.{Seen}
 use Rattle.publisher.specs.declared.progress.Progress.{Progress}
@@ -33,6 +34,10 @@ is_broken p worked linger now = nat_eq worked p.worked.count && nat_le linger (n
 
 abbrev pub with_work : Progress → ℕ → ℕ → Progress
 with_work p worked now = record p { worked = seen_at p.worked worked now }
+
+-- why the reading stopped was told, if it did
+abbrev pub with_fault : Option PublishFault → Progress → Progress
+with_fault fault p = record p { faulted = p.faulted || is_some fault }
 
 -- a second has gone by since the counters were told
 abbrev pub is_shown : Progress → ℕ → Bool
@@ -62,10 +67,11 @@ abbrev pub judged_by : Option Reading → Option Ending → Option Judged
 judged_by reading None = None
 judged_by reading (Some ending) = Some (record { ending = ending; reading = reading })
 
--- by how the reading has ended, if it has, this is how the publisher ends, if it does
+-- by how the reading has ended, if it has, this is how the publisher ends, if it does; where that was a fault, it was told
 pub record Judges (p : Progress) (s : Seen) (linger wait now : ℕ) (answer : Option Judged) : Type 0 where
   pub reading : Option Reading
   pub is : answer ≡ judged_by reading (ending_seen p s (end_in reading) linger wait now)
+  pub told : IfSome (fault_in reading) (λ _. p.faulted ≡ true)
 
 -- receivers that were heard end a publisher this way, by how the reading had ended
 pub record Ends (a : Attendance) (linger wait : ℕ) (judged : Judged) : Type 0 where

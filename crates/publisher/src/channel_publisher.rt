@@ -1,6 +1,6 @@
 //! A publisher from its begin to its end.
 
-ghost use Rattle.std.specs.Prelude.{◌≡◌, ◌⊎◌, ◌<◌, IfErr, IfOk, IfSome, Ok};
+ghost use Rattle.std.specs.Prelude.{◌≡◌, ◌<◌, IfErr, IfOk, IfSome, Ok};
 ghost use Rattle.std.specs.Arc.{arc_value};
 ghost use Rattle.std.specs.Io.Buffered.{reader_remaining};
 ghost use Rattle.position.specs.Openings.{IsStart};
@@ -8,10 +8,12 @@ ghost use Rattle.shared_log.specs.Books.{IsDone};
 ghost use Rattle.shared_log.specs.Parts.{IsNewReader};
 ghost use Rattle.shared_log.specs.Readers.{IsReaderOf};
 ghost use Rattle.agents.specs.LogSenders.{IsNewSender, SendsLog};
+ghost use Rattle.endpoint.specs.declared.device_error.DeviceError.{DeviceError};
 ghost use Rattle.peer.specs.declared.ending.Ending.TheVariants.{Whole};
 ghost use Rattle.offering.specs.Ended.{EndsInput};
 ghost use Rattle.publisher.specs.Beginnings.{ArePublisherParts};
 ghost use Rattle.publisher.specs.Ended.{AllArrived, HasSent, LeavesLog, PublishesAll, reading_left};
+ghost use Rattle.publisher.specs.Faults.{of_device};
 ghost use Rattle.publisher.specs.Openings.{ArePasses, IsKept};
 
 use crate::beginning::{PublisherParts, publisher_parts};
@@ -202,14 +204,23 @@ pub fn publish_over<
     Ok((published, end))
 }
 
+/// Why there is no device along this route: the system refuses a socket, or memory was refused.
+fn fault_along(route: &Route, error: DeviceError) -> PublishFault
+    ensures { result ≡ of_device route.now error }
+{
+    match error {
+        DeviceError::Device => PublishFault::NoSocket(*route),
+        DeviceError::Memory => PublishFault::Failed(DeviceError::Memory),
+    }
+}
+
 /// The device along a route.
 pub fn connected<R: Net>(rt: &R, alloc: Global, route: &Route) -> Result<UdpDevice, PublishFault>
-    ensures { IfErr result (λ fault. (fault ≡ PublishFault.NoSocket route.now) ⊎ (fault ≡ PublishFault.Failed DeviceError.Memory)) }
+    ensures { IfErr result (λ fault. (error : DeviceError) × (fault ≡ of_device route.now error)) }
 {
     match UdpDevice::bind_along(rt, alloc, route) {
         Ok(device) => Ok(device),
-        Err(DeviceError::Device) => Err(PublishFault::NoSocket(*route)),
-        Err(DeviceError::Memory) => Err(PublishFault::Failed(DeviceError::Memory)),
+        Err(error) => Err(fault_along(route, error)),
     }
 }
 

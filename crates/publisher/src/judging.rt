@@ -1,11 +1,11 @@
 //! What a publisher tells after a cycle, and whether it ends by it.
 
-ghost use Rattle.std.specs.Prelude.{◌≡◌, ◌||◌, true, ℕ, if◌then◌else◌, Err, IfOk, IfSome, IsTrue, OnErr, OnOk};
+ghost use Rattle.std.specs.Prelude.{◌≡◌, ◌||◌, true, ℕ, if◌then◌else◌, Err, IfErr, IfOk, IfSome, IsTrue, OnErr, OnOk};
 ghost use Rattle.endpoint.specs.declared.device_error.DeviceError.TheVariants.{Device};
 ghost use Rattle.peer.specs.Silences.{seen_at};
 ghost use Rattle.publisher.specs.declared.fault.PublishFault.TheVariants.{Failed};
-ghost use Rattle.publisher.specs.Judging.{IsStop, device_fault, end_in, fault_in, input_fault};
-ghost use Rattle.publisher.specs.Progress.{Judges, is_alone, is_broken, seen, shown_at, with_work};
+ghost use Rattle.publisher.specs.Judging.{FailsBy, IsStop, device_fault, end_in, fault_in, input_fault, reading_fault};
+ghost use Rattle.publisher.specs.Progress.{Judges, is_alone, is_broken, seen, shown_at, with_fault, with_work};
 
 use crate::fault::PublishFault;
 use crate::judged::Judged;
@@ -61,7 +61,7 @@ fn check_device(
 }
 
 /// Tells once why no message comes any more, where messages came before. Where none did, that is the publisher's fault.
-pub fn check_input<E: Write>(
+fn check_input<E: Write>(
     progress: &mut Progress,
     fault: PublishFault,
     messages: u64,
@@ -79,6 +79,23 @@ pub fn check_input<E: Write>(
         let _ = tell_fault(errors, fault);
     }
     Ok(())
+}
+
+/// The same for how the reading ended, if it has: it goes on where that was no fault.
+pub fn check_reading<E: Write>(
+    progress: &mut Progress,
+    reading: &Option<Reading>,
+    messages: u64,
+    errors: &mut E,
+) -> Result<(), PublishFault>
+    ensures stops { result ≡ reading_fault (fault_in reading.now) messages }
+    ensures told { OnOk result (progress.new ≡ with_fault (fault_in reading.now) progress.old) }
+    ensures kept { OnErr result (progress.new ≡ progress.old) }
+{
+    match fault_in(reading) {
+        None => Ok(()),
+        Some(fault) => check_input(progress, fault, messages, errors),
+    }
 }
 
 /// Tells which receivers come and go, and once that none does.
@@ -125,7 +142,8 @@ fn tell_counts<R, E: Write>(
 /// then.
 ///
 /// The fault is `Device` where each call of the device failed for the plan's linger, and the input's where no message was
-/// accepted before it.
+/// accepted before it: no other.
+#[tactic(auto, using(crate::proofs::Stopping::broken, crate::proofs::Stopping::stopped, crate::proofs::Stopping::told))]
 pub(crate) fn judge<R, E: Write>(
     context: &PublisherContext<'_, R>,
     progress: &mut Progress,
@@ -136,14 +154,13 @@ pub(crate) fn judge<R, E: Write>(
     ensures judges { IfOk result (λ judged. Judges progress.new cycle.now context.now.plan.now.linger context.now.plan.now.wait now judged) }
     ensures seen { IfOk result (λ _. progress.new.statuses ≡ seen_at progress.old.statuses cycle.now.tally.statuses now) }
     ensures broken { IsTrue (is_broken progress.old cycle.now.worked context.now.plan.now.linger now) → result ≡ Err (Failed Device) }
+    ensures fails { IfErr result (FailsBy (is_broken progress.old cycle.now.worked context.now.plan.now.linger now)) }
 {
     let (plan, state) = (context.plan, context.state);
     let reading = state.reading();
     let (messages, tail) = (state.messages(), state.tail());
     check_device(progress, cycle, plan.linger, now)?;
-    if let Some(fault) = fault_in(&reading) {
-        check_input(progress, fault, messages, errors)?;
-    }
+    check_reading(progress, &reading, messages, errors)?;
     tell_receivers(progress, cycle, errors, now);
     tell_counts(context, progress, cycle, errors, now);
     let end = end_in(&reading);

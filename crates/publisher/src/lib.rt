@@ -12,7 +12,8 @@
 //!
 //! Its sender stands where the plan starts and sends from there, its core lives by datagrams and moments as a sender does
 //! (`send_all`, by `Lived`; what that gives out is honest for the stream: `sender_meaning`), cycles and offers keep what their
-//! crates ask for, and each message is offered at a length that the log takes. Its device takes what fails for lost, loses by the plan's
+//! crates ask for, each cycle goes through one of the conductor, by which the log is kept (`KeepsLog`), and each message is
+//! offered at a length that the log takes. Its device takes what fails for lost, loses by the plan's
 //! rates and seed, and screens and notes the plan's stream from the plan's start (`publisher_parts`, by
 //! `ArePublisherParts` and `device_of`); in each cycle it is told up to where the sender has sent. It ends by its
 //! device's attendance, by how the reading had ended, the plan's linger and wait, and a silence that is judged only where the
@@ -42,7 +43,7 @@ pub use channel_publisher::{
 };
 pub use fault::PublishFault;
 pub use judged::Judged;
-pub use judging::{check_input, end_in, fault_in};
+pub use judging::{check_reading, end_in};
 pub use log_end::LogEnd;
 pub use looking::{Calls, ChannelDevice, Seen, calls_of, look};
 pub use peer::Ending;

@@ -5,6 +5,7 @@ ghost use Rattle.agents.specs.Conducting.{Conducts};
 ghost use Rattle.agents.specs.LogSenders.{SendsLog};
 ghost use Rattle.peer.specs.Watching.{told};
 ghost use Rattle.sender_meaning.specs.Lives.{Lived, LivedTo};
+ghost use Rattle.publisher.specs.Keeping.{KeepsLog};
 ghost use Rattle.publisher.specs.Looking.{calls_of, seen_of};
 ghost use Rattle.publisher.specs.Openings.{ArePasses, IsKept};
 ghost use Rattle.publisher.specs.Progress.{Ends};
@@ -93,6 +94,7 @@ fn run_cycle<R: Wait + Clock, D: Datagrams>(
     ensures lives { Lived sender.old.agent.core sender.new.agent.core }
     ensures told { IfOk result (λ _. LivedTo now sender.old.agent.core sender.new.agent.core) }
     ensures passes { ArePasses context.now.state.now.log context.now.conductor.now sender.new.passes }
+    ensures keeps { IfOk result (λ busy. KeepsLog context.now.state.now.log sender.old.passes busy sender.new.passes) }
 {
     let before = work_of(sender);
     let passes = &mut sender.passes;
@@ -118,6 +120,7 @@ fn cycle<R: Wait + Clock, D: Datagrams>(
     ensures told { IfOk result (λ _. LivedTo now sender.old.agent.core sender.new.agent.core) }
     ensures passes { ArePasses context.now.state.now.log context.now.conductor.now sender.new.passes }
     ensures seen { IfOk result (λ r. r.1 ≡ seen_of (calls_of sender.old.passes.duty.device) sender.new.passes.duty.device) }
+    ensures keeps { IfOk result (λ r. KeepsLog context.now.state.now.log sender.old.passes r.0 sender.new.passes) }
 {
     let before = calls_of(sender.passes.duty.device());
     begin(sender);
@@ -141,6 +144,7 @@ fn turn<R: Wait + Clock, D: Datagrams, E: Write>(
     ensures told { IfOk result (λ _. (now : ℕ) × LivedTo now sender.old.agent.core sender.new.agent.core) }
     ensures passes { ArePasses context.now.state.now.log context.now.conductor.now sender.new.passes }
     ensures ends { IfOk result (λ r. IfSome r.1 (Ends sender.new.passes.duty.device.watch.attendance context.now.plan.now.linger context.now.plan.now.wait)) }
+    ensures keeps { IfOk result (λ r. KeepsLog context.now.state.now.log sender.old.passes r.0 sender.new.passes) }
 {
     let now = context.began.moment(context.rt)?;
     let (busy, seen) = cycle(context, sender, now)?;
