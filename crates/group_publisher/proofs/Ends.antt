@@ -6,6 +6,7 @@ use Rattle.offering.specs.declared.reading.Reading.{Reading}
 use Rattle.publisher.specs.Judging.{end_in}
 use Rattle.publisher.specs.Progress.{judged_by}
 use Rattle.publisher.specs.declared.judged.Judged.{Judged}
+use Rattle.publisher.specs.declared.progress.Progress.{Progress}
 use Rattle.group_publisher.specs.Endings.{group_ending}
 use Rattle.group_publisher.specs.Judging.{Ends, Judges}
 use Rattle.group_publisher.specs.Seeing.{ChannelWay}
@@ -25,8 +26,8 @@ as_judged reading (Some ending) is h =
     let same : is ≡ record { ending = ending; reading = reading } = ap (judged_or is) h in
     (sym (ap (λ (j : Judged). j.reading) same), ap (λ (j : Judged). Some j.ending) (sym same))
 
-pub ends : {D : Type 0} (shown ways : List (ChannelWay D)) (linger wait : ℕ) (answer : Option Judged) (is : Judged) → Judges shown linger wait answer → answer ≡ Some is → shown ≡ ways → Ends ways linger wait is
-ends {D} shown ways linger wait answer is told found same =
+pub ends : {D : Type 0} (p : Progress) (shown ways : List (ChannelWay D)) (linger wait : ℕ) (answer : Option Judged) (is : Judged) → Judges p shown linger wait answer → answer ≡ Some is → shown ≡ ways → Ends ways linger wait is
+ends {D} p shown ways linger wait answer is told found same =
     let both = as_judged told.reading _ is (sym found ∙ told.is) in
     subst (λ (ws : List (ChannelWay D)). Ends ws linger wait is) same
     (ap (λ (r : Option Reading). group_ending shown (end_in r) linger wait) (sym both.0) ∙ both.1)

@@ -1,9 +1,15 @@
 //! The thread that sends along all ways, keeps the log, and decides the end.
 
-ghost use Rattle.std.specs.Prelude.{◌≡◌, IfOk, map};
+ghost use Rattle.std.specs.Prelude.{◌≡◌, Err, IfErr, IfOk, IsTrue, map};
+ghost use Rattle.std.specs.List.{list_all};
 ghost use Rattle.agents.specs.LogSenders.{SendsLog};
 ghost use Rattle.sender_meaning.specs.Moments.{CyclesAt};
+ghost use Rattle.endpoint.specs.declared.device_error.DeviceError.TheVariants.{Device};
+ghost use Rattle.publisher.specs.Judging.{FailsBy};
+ghost use Rattle.publisher.specs.Keeping.{KeepsLog};
 ghost use Rattle.publisher.specs.Openings.{ArePasses};
+ghost use Rattle.publisher.specs.declared.fault.PublishFault.TheVariants.{Failed};
+ghost use Rattle.group_publisher.specs.Endings.{is_broken_along};
 ghost use Rattle.group_publisher.specs.Judging.{Ends, Judges};
 ghost use Rattle.group_publisher.specs.Seeing.{begun, seen_along};
 
@@ -15,7 +21,7 @@ use agents::{Duty, IdleStrategy, StreamSender};
 use endpoint::{Datagrams, DeviceError, Fan};
 use publisher::{
     ChannelDevice, Ending, Judged, Progress, PublishFault, PublisherContext, SenderPasses,
-    check_input, end_in, fault_in, keep, tell_ending,
+    check_reading, end_in, keep, tell_ending,
 };
 use std::io::Write;
 use std::sync::Wait;
@@ -86,6 +92,7 @@ fn run_cycle<R: Wait + Clock, D: Datagrams>(
     ensures agent { SendsLog context.now.state.now.log sender.new.agent }
     ensures passes { ArePasses context.now.state.now.log context.now.conductor.now sender.new.passes }
     ensures told { IfOk result (λ _. CyclesAt now sender.old.agent.core sender.new.agent.core) }
+    ensures keeps { IfOk result (λ busy. KeepsLog context.now.state.now.log sender.old.passes busy sender.new.passes) }
 {
     let before = work_of(sender);
     let passes = &mut sender.passes;
@@ -110,6 +117,7 @@ fn cycle<R: Wait + Clock, D: Datagrams, E: Write>(
     ensures agent { SendsLog context.now.state.now.log sender.new.agent }
     ensures passes { ArePasses context.now.state.now.log context.now.conductor.now sender.new.passes }
     ensures told { IfOk result (λ _. CyclesAt now sender.old.agent.core sender.new.agent.core) }
+    ensures keeps { IfOk result (λ busy. KeepsLog context.now.state.now.log sender.old.passes busy sender.new.passes) }
 {
     let position = sender.agent.position();
     begin(&mut sender.passes.duty, position);
@@ -121,7 +129,8 @@ fn cycle<R: Wait + Clock, D: Datagrams, E: Write>(
 /// Tells what is due. The answer is how the publisher ends, if it does, and how the reading had ended then.
 ///
 /// The fault is `Device` where each call of each way's device failed for the plan's linger, and the input's where no message
-/// was accepted before it.
+/// was accepted before it: no other.
+#[tactic(auto, using(publisher::proofs::Stopping::stopped, publisher::proofs::Stopping::told))]
 fn judge<R, D: Datagrams, E: Write>(
     context: &PublisherContext<'_, R>,
     ways: &[Way<ChannelDevice<D>>],
@@ -129,7 +138,9 @@ fn judge<R, D: Datagrams, E: Write>(
     errors: &mut E,
     now: u64,
 ) -> Result<Option<Judged>, PublishFault>
-    ensures { IfOk result (λ answer. Judges ways.now context.now.plan.now.linger context.now.plan.now.wait answer) }
+    ensures judges { IfOk result (λ answer. Judges progress.new ways.now context.now.plan.now.linger context.now.plan.now.wait answer) }
+    ensures broken { IsTrue (list_all is_broken_along ways.now) → result ≡ Err (Failed Device) }
+    ensures fails { IfErr result (FailsBy (list_all is_broken_along ways.now)) }
 {
     let (plan, state) = (context.plan, context.state);
     let reading = state.reading();
@@ -137,9 +148,7 @@ fn judge<R, D: Datagrams, E: Write>(
     if are_broken(ways) {
         return Err(PublishFault::Failed(DeviceError::Device));
     }
-    if let Some(fault) = fault_in(&reading) {
-        check_input(progress, fault, messages, errors)?;
-    }
+    check_reading(progress, &reading, messages, errors)?;
     tell_counts(context, progress, ways, errors, now);
     let end = end_in(&reading);
     let Some(ending) = group_ending(ways, end, plan.linger, plan.wait) else {

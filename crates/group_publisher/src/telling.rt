@@ -155,7 +155,9 @@ pub(crate) fn tell_counts<R, D: Datagrams, E: Write>(
     ways: &[Way<ChannelDevice<D>>],
     errors: &mut E,
     now: u64,
-) {
+)
+    ensures { progress.new.faulted ≡ progress.old.faulted }
+{
     let (plan, messages) = (context.plan, context.state.messages());
     if !plan.end.counters {
         return;

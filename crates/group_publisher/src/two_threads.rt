@@ -1,9 +1,11 @@
 //! The two threads of a publisher to several subscribers: one reads messages and offers them, the other sends, keeps the log and
 //! decides the end.
 
-ghost use Rattle.std.specs.Prelude.{◌≡◌, ◌≤◌, IfOk, IfSome, Ok, length, map, OnErr};
+ghost use Rattle.std.specs.Prelude.{◌≡◌, ◌≤◌, [], IfOk, IfSome, Ok, Some, length, map, OnErr};
 ghost use Rattle.theory.specs.Position.{max_position};
-ghost use Rattle.agents.specs.LogSenders.{SendsLog};
+ghost use Rattle.shared_log.specs.Readers.{ReaderValue};
+ghost use Rattle.flow_control.specs.Stream.{flow_after};
+ghost use Rattle.agents.specs.LogSenders.{IsNewSenderBy, SendsLog};
 ghost use Rattle.peer.specs.declared.ending.Ending.TheVariants.{Whole};
 ghost use Rattle.offering.specs.Ended.{EndsInput};
 ghost use Rattle.publisher.specs.Ended.{reading_left};
@@ -104,8 +106,8 @@ fn ending_with(
     }
 }
 
-/// Sends along so many ways until the publisher ends, and tells the stream's end unless that is by a fault. Where the reading
-/// has ended by then, its thread is joined.
+/// Sends along so many ways, to a group of as many receivers, until the publisher ends, and tells the stream's end unless that is
+/// by a fault. Where the reading has ended by then, its thread is joined.
 pub(crate) fn run<R: Threads + Wait + Clock, I: BufRead + Drop, D: Datagrams, E: Write>(
     alloc: Global,
     context: &PublisherContext<'_, R>,
@@ -114,6 +116,7 @@ pub(crate) fn run<R: Threads + Wait + Clock, I: BufRead + Drop, D: Datagrams, E:
     reader: Reader<I>,
     errors: &mut E,
 ) -> Result<GroupPublished<I>, PublishFault>
+    requires new { (r : ReaderValue) × IsNewSenderBy (flow_after (Some ways) context.now.state.now.log.start []) context.now.state.now.log r sender.old.agent }
     requires agent { SendsLog context.now.state.now.log sender.old.agent }
     requires passes { ArePasses context.now.state.now.log context.now.conductor.now sender.old.passes }
     ensures input { IfOk result (λ p. IfSome p.input (λ e. EndsInput reader.handle.promise.form reader.handle.promise.log.value (I.remaining reader.handle.promise.input.value) (I.remaining e.input) reader.handle.promise.publisher.value.pass e.publisher e.reading)) }
