@@ -8,3 +8,4 @@ pub mod Calls
 pub mod Statuses
 pub mod Sendings
 pub mod Repeats
+pub mod Texts

@@ -18,7 +18,7 @@
 //! Without an image a datagram is a SETUP that opens one, a frame whose sender is asked for a SETUP, or a stranger's, exactly;
 //! for each such frame its sender is asked once, with the frame's place, and nobody else is. Until a SETUP opens the first image
 //! nothing else happens (`listen`). When a subscriber is silent, quiet or broken is
-//! exact (`Watch`).
+//! exact (`Watch`), and so is each line that it tells (`Texts`).
 #![tactic(auto)]
 
 mod followed;

@@ -174,7 +174,7 @@ fn tell<E: Write>(plan: &SubscribePlan, errors: &mut E, watch: &mut Watch)
         strangers: watch.strangers(),
         refused: FaultCounts::new(),
     };
-    tell_waiting(errors, &counts);
+    let _ = tell_waiting(errors, &counts);
 }
 
 /// Listens until a SETUP opens an image for the plan. There is none where no datagram came that the plan takes for as long as

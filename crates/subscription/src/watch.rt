@@ -1,6 +1,6 @@
 //! The time that a subscriber has seen.
 
-ghost use Rattle.std.specs.Prelude.{◌≡◌, ◌-◌, ◌↔◌, is_some, IfErr, IfSome, IsSome, IsTrue, OnOk};
+ghost use Rattle.std.specs.Prelude.{◌≡◌, ◌≤◌, ◌-◌, ◌↔◌, is_some, IfErr, IfSome, IsSome, IsTrue, OnOk};
 ghost use Rattle.endpoint.specs.declared.device_error.DeviceError.TheVariants.{Device};
 ghost use Rattle.subscription.specs.Watches.{IsBroken, IsDue, IsQuiet, IsSilent, begun, called, hearing, later_by, looking, losing, told_if, with_stranger, working};
 
@@ -61,15 +61,18 @@ impl Watch {
         }
     }
 
-    /// Notes the moment. A clock that can't be read is a device that failed.
+    /// Notes the moment, which never falls. A clock that can't be read is a device that failed.
     pub fn see<R: Clock>(&mut self, rt: &R) -> Result<(), DeviceError>
         ensures seen { OnOk result (self.new ≡ looking self.old self.new.moment) }
+        ensures later { self.old.moment ≤ self.new.moment }
         ensures failed { IfErr result (λ fault. (fault ≡ Device) × (self.new ≡ self.old)) }
     {
         let Ok(time) = self.began.elapsed(rt) else {
             return Err(DeviceError::Device);
         };
-        let now = u64::try_from(time.as_nanos()).unwrap_or(u64::MAX);
+        let now = u64::try_from(time.as_nanos())
+            .unwrap_or(u64::MAX)
+            .max(self.moment);
         self.heard = self.later_by(now, self.heard);
         self.worked = self.later_by(now, self.worked);
         self.moment = now;

@@ -1,0 +1,65 @@
+-- What a subscriber tells on its error output.
+use Rattle.std.specs.Prelude.{◌≡◌, ℕ, ℤ, List, [], ◌∷◌, ◌++◌, codes, decimal}
+use Rattle.std.specs.Fmt.{signed_decimal}
+use Rattle.std.specs.Net.Text.{socket_text}
+use Rattle.std.specs.declared.net.SocketAddr.{SocketAddr}
+use Rattle.frames.specs.FaultCounts.{counts_text, uncounted}
+use Rattle.frames.specs.declared.fault_counts.FaultCounts.{FaultCounts}
+use Rattle.receiver.specs.declared.positions.Positions.{Positions}
+use Rattle.subscription.specs.declared.telling.Counts.{Counts}
+
+-- texts one after the other
+abbrev pub joined : List (List ℕ) → List ℕ
+joined [] = []
+joined (text ∷ []) = text
+joined (text ∷ next ∷ texts) = text ++ joined (next ∷ texts)
+
+abbrev pub joined_line : ℤ → ℕ → List ℕ
+joined_line session position = joined (codes "joined session " ∷ signed_decimal session ∷ codes " at position " ∷ decimal position ∷ (10 ∷ []) ∷ [])
+
+abbrev pub silent_line : ℤ → ℕ → List ℕ
+silent_line session position = joined (codes "silent: session " ∷ signed_decimal session ∷ codes " at position " ∷ decimal position ∷ (codes ", its image is kept" ++ 10 ∷ []) ∷ [])
+
+abbrev pub again_line : ℤ → ℕ → List ℕ
+again_line session position = joined (codes "session " ∷ signed_decimal session ∷ codes " goes on at position " ∷ decimal position ∷ (10 ∷ []) ∷ [])
+
+abbrev pub closed_line : ℤ → ℕ → FaultCounts → List ℕ
+closed_line session position refused = joined (
+    codes "closed: session " ∷ signed_decimal session ∷ codes " at position " ∷ decimal position ∷ codes ", refused" ∷ counts_text refused.counts ∷ (10 ∷ []) ∷ [])
+
+abbrev pub another_line : ℤ → SocketAddr → List ℕ
+another_line session from = joined (codes "another sender at " ∷ socket_text from ∷ codes " for session " ∷ signed_decimal session ∷ (codes ", not heard" ++ 10 ∷ []) ∷ [])
+
+-- ---- counters
+
+abbrev pub written_text : Counts → List ℕ
+written_text c = joined (codes "messages " ∷ decimal c.messages ∷ codes " this-second " ∷ decimal c.since ∷ [])
+
+abbrev pub places_text : Positions → List ℕ
+places_text p = joined (codes "least " ∷ decimal p.least ∷ codes " rebuilt " ∷ decimal p.rebuilt ∷ codes " high-water " ∷ decimal p.high_water ∷ [])
+
+abbrev pub losses_text : Counts → List ℕ
+losses_text c = joined (
+    codes "naks " ∷ decimal c.naks ∷ codes " lost " ∷ decimal c.lost ∷ codes " strangers " ∷ decimal c.strangers ∷ codes " refused" ∷ counts_text c.refused.counts ∷ [])
+
+-- with an image of this session
+abbrev pub counters_line : ℤ → Positions → Counts → List ℕ
+counters_line session p c = joined (
+    codes "session " ∷ signed_decimal session ∷ codes " " ∷ written_text c ∷ codes " " ∷ places_text p ∷ codes " " ∷ losses_text c ∷ (10 ∷ []) ∷ [])
+
+-- where one without an image stands
+abbrev pub nowhere : Positions
+nowhere = record { least = 0; rebuilt = 0; high_water = 0 }
+
+abbrev pub waiting_line : Counts → List ℕ
+waiting_line c = joined (codes "session none " ∷ written_text c ∷ codes " " ∷ places_text nowhere ∷ codes " " ∷ losses_text c ∷ (10 ∷ []) ∷ [])
+
+-- ---- at the end
+
+-- nothing was refused, and no stranger came
+pub record IsClean (refused : FaultCounts) (strangers : ℕ) : Type 0 where
+  pub none : refused ≡ uncounted
+  pub nobody : strangers ≡ 0
+
+abbrev pub refused_line : FaultCounts → ℕ → List ℕ
+refused_line refused strangers = joined (codes "refused" ∷ counts_text refused.counts ∷ codes " strangers " ∷ decimal strangers ∷ (10 ∷ []) ∷ [])
