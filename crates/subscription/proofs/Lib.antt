@@ -3,3 +3,4 @@ pub mod Windows
 pub mod Calling
 pub mod Repeaters
 mod Repeated
+pub mod Due

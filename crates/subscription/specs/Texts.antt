@@ -6,6 +6,7 @@ use Rattle.std.specs.declared.net.SocketAddr.{SocketAddr}
 use Rattle.frames.specs.FaultCounts.{counts_text, uncounted}
 use Rattle.frames.specs.declared.fault_counts.FaultCounts.{FaultCounts}
 use Rattle.receiver.specs.declared.positions.Positions.{Positions}
+use Rattle.subscription.specs.Watches.{Seen}
 use Rattle.subscription.specs.declared.telling.Counts.{Counts}
 
 -- texts one after the other
@@ -53,6 +54,10 @@ nowhere = record { least = 0; rebuilt = 0; high_water = 0 }
 
 abbrev pub waiting_line : Counts → List ℕ
 waiting_line c = joined (codes "session none " ∷ written_text c ∷ codes " " ∷ places_text nowhere ∷ codes " " ∷ losses_text c ∷ (10 ∷ []) ∷ [])
+
+-- what it has counted
+abbrev pub waiting_counts : Seen → Counts
+waiting_counts s = record { messages = 0; since = 0; naks = 0; lost = s.lost; strangers = s.strangers; refused = uncounted }
 
 -- ---- at the end
 

@@ -1,5 +1,5 @@
 -- What a subscriber has seen of the time, and what comes of it.
-use Rattle.std.specs.Prelude.{Result, Ok, Err, ◌+◌, ◌-◌, ◌≤◌, ℕ, nat_lt, Bool, IsTrue, min, if◌then◌else◌}
+use Rattle.std.specs.Prelude.{◌≡◌, Result, Ok, Err, ◌+◌, ◌-◌, ◌≤◌, ℕ, nat_lt, Bool, IsTrue, min, if◌then◌else◌}
 use Rattle.endpoint.specs.Devices.{counted}
 use Rattle.endpoint.specs.declared.datagrams.DeviceFailed.{DeviceFailed}
 use Rattle.options.specs.declared.ends.plans.SubscribePlan.{SubscribePlan}
@@ -81,6 +81,11 @@ IsBroken s = 5000000000 ≤ s.moment - s.worked
 pub record IsDue (plan : SubscribePlan) (s : Seen) : Type 0 where
   pub shown : IsTrue plan.end.counters
   pub second : 1000000000 ≤ s.moment - s.told
+
+-- where they are due they are told at the moment, behind so many messages; else nothing is
+pub record TellsWhereDue (plan : SubscribePlan) (written : ℕ) (s t : Seen) (told quiet : Type 0) : Type 0 where
+  pub due : IsDue plan s → (t ≡ record s { told = s.moment; written = written }) × told
+  pub early : ¬ IsDue plan s → (t ≡ s) × quiet
 
 -- they are told at the moment, behind so many messages, or not
 abbrev pub told_if : Bool → ℕ → Seen → Seen

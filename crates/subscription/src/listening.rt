@@ -1,6 +1,7 @@
 //! A subscriber without an image.
 
-ghost use Rattle.std.specs.Prelude.{◌≡◌, None, IfNone, IfOk, IfSome};
+ghost use Rattle.std.specs.Prelude.{◌≡◌, None, IfNone, IfOk, IfSome, OnOk};
+ghost use Rattle.std.specs.Io.KnownBytes.{Appends};
 ghost use Rattle.theory.specs.Control.{asking_at};
 ghost use Rattle.loss_injector.specs.Losing.{begun};
 ghost use Rattle.peer.specs.Patience.{patient};
@@ -10,7 +11,8 @@ ghost use Rattle.theory.specs.Wire.{IsHeader, SM};
 ghost use Rattle.frames.specs.Frames.{header_of, setup_of, status_of};
 ghost use Rattle.subscription.specs.Calls.{Heeds, IsCall, IsCallWith, IsJoined, IsJoinedBy};
 ghost use Rattle.subscription.specs.Meetings.{Opens, id_of};
-ghost use Rattle.subscription.specs.Watches.{IsQuiet, after_call};
+ghost use Rattle.subscription.specs.Texts.{waiting_counts, waiting_line};
+ghost use Rattle.subscription.specs.Watches.{IsQuiet, TellsWhereDue, after_call};
 
 use crate::followed::Followed;
 use crate::invitation::{header_in, id_of, opened, setup_in, takes_session};
@@ -25,6 +27,7 @@ use loss_injector::Lossy;
 use options::SubscribePlan;
 use peer::{Listener, PatientDevice, TiedDevice};
 use std::alloc::{AllocError, Global};
+use std::io;
 use std::io::Write;
 use std::net::SocketAddr;
 use std::sync::Wait;
@@ -160,21 +163,22 @@ fn join(
 }
 
 /// Tells the counters, once a second.
-fn tell<E: Write>(plan: &SubscribePlan, errors: &mut E, watch: &mut Watch)
-    ensures { watch.new ≡ record watch.old { told = watch.new.told; written = watch.new.written } }
+fn tell<E: Write>(plan: &SubscribePlan, errors: &mut E, watch: &mut Watch) -> io::Result<()>
+    ensures same { watch.new ≡ record watch.old { told = watch.new.told; written = watch.new.written } }
+    ensures tells { TellsWhereDue plan.now 0 watch.old watch.new (OnOk result (Appends (E.contents errors.old) (E.contents errors.new) (waiting_line (waiting_counts watch.old)))) (OnOk result (E.contents errors.new ≡ E.contents errors.old)) }
 {
-    let Some(since) = watch.tells(plan, 0) else {
-        return;
-    };
     let counts = Counts {
         messages: 0,
-        since,
+        since: 0,
         naks: 0,
         lost: watch.lost(),
         strangers: watch.strangers(),
         refused: FaultCounts::new(),
     };
-    let _ = tell_waiting(errors, &counts);
+    match watch.tells(plan, 0) {
+        None => Ok(()),
+        Some(_) => tell_waiting(errors, &counts),
+    }
 }
 
 /// Listens until a SETUP opens an image for the plan. There is none where no datagram came that the plan takes for as long as
@@ -200,7 +204,7 @@ pub fn listen<R: Wait + Clock, E: Write>(
         if let Some(meeting) = heed(plan, &mut listener, watch) {
             return Ok(Some(join(alloc, plan, listener, &meeting, watch.moment())?));
         }
-        tell(plan, errors, watch);
+        let _ = tell(plan, errors, watch);
         watch.check_works()?;
         if watch.is_quiet(plan) {
             return Ok(None);
