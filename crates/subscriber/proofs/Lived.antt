@@ -17,7 +17,7 @@ use Rattle.receiver.specs.Lives.{Act, Gives, GivesNone, Hears, Lives, Ticks, giv
 use Rattle.subscription.specs.Calls.{IsJoined, IsMeeting}
 use Rattle.subscriber.specs.Deliveries.{Delivers, PollsAll, PollsNone, WritesFirst}
 use Rattle.subscriber.specs.Living.{IsNumbered, Life, WritesActs, WritesLife, WritesLives, given_through}
-use Rattle.subscriber.specs.Turning.{Attends, Considers, ConsidersOffer, IsRenewed, KeepsImage, Passes, Renews, Resumes, next, with_device}
+use Rattle.subscriber.specs.Turning.{Attends, Considers, ConsidersOffer, IsRenewed, Passes, Renews, Resumes, next, with_device}
 use Rattle.subscription.specs.Offers.{Offer, SubscriberDevice, setup_taken}
 use Rattle.subscription.specs.Watches.{Seen}
 use Rattle.subscriber.specs.declared.delivery.Delivered.{Delivered}
@@ -141,11 +141,11 @@ renewed plan from f moment m a b count j k meeting r h =
 same_life : (plan : SubscribePlan) (a b : Option (List ℕ)) (count : ℕ) (j k : Joined) → k.number ≡ j.number → k.subscriber ≡ j.subscriber → WritesLife plan a count j.number j.subscriber b → WritesLife plan a count k.number k.subscriber b
 same_life plan a b count j k number same h = subst (λ n. WritesLife plan a count n k.subscriber b) (sym number) (subst (λ x. WritesLife plan a count j.number x b) (sym same) h)
 
-kept_life : (plan : SubscribePlan) (a b : Option (List ℕ)) (count : ℕ) (j k : Joined) → KeepsImage j k → WritesLife plan a count j.number j.subscriber b → WritesLife plan a count k.number k.subscriber b
-kept_life plan a b count j k kept h = same_life plan a b count j k (ap (λ x. x.number) kept.is) (ap (λ x. x.subscriber) kept.is) h
+kept_life : (plan : SubscribePlan) (a b : Option (List ℕ)) (count : ℕ) (j k : Joined) → k ≡ j → WritesLife plan a count j.number j.subscriber b → WritesLife plan a count k.number k.subscriber b
+kept_life plan a b count j k kept h = same_life plan a b count j k (ap (λ x. x.number) kept) (ap (λ x. x.subscriber) kept) h
 
-turned_life : (plan : SubscribePlan) (from : SocketAddr) (f : Setup) (s t : Seen) (m : Meeting) (a b : Option (List ℕ)) (count rebuilt : ℕ) (j k : Joined) → IsMeeting plan from f m → Passes s j k t ⊎ Resumes s m rebuilt j k t ⊎ Renews plan s m rebuilt j k t → WritesLife plan a count j.number j.subscriber b → WritesLife plan a count k.number k.subscriber b
-turned_life plan from f s t m a b count rebuilt j k meeting (inl p) h = kept_life plan a b count j k p.kept h
+turned_life : (plan : SubscribePlan) (from : SocketAddr) (f : Setup) (s t : Seen) (m : Meeting) (a b : Option (List ℕ)) (count rebuilt : ℕ) (j k : Joined) → IsMeeting plan from f m → Passes s m j k t ⊎ Resumes s m rebuilt j k t ⊎ Renews plan s m rebuilt j k t → WritesLife plan a count j.number j.subscriber b → WritesLife plan a count k.number k.subscriber b
+turned_life plan from f s t m a b count rebuilt j k meeting (inl p) h = same_life plan a b count j k (ap (λ x. x.number) p.warns.kept) (ap (λ x. x.subscriber) p.warns.kept) h
 turned_life plan from f s t m a b count rebuilt j k meeting (inr (inl p)) h = same_life plan a b count j k (ap (λ x. x.number) p.tied) (ap (λ x. x.subscriber) p.tied) h
 turned_life plan from f s t m a b count rebuilt j k meeting (inr (inr p)) h = renewed plan from f s.moment m a b count j k meeting p.renewed h
 

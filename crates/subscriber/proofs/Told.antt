@@ -7,7 +7,7 @@ use Rattle.subscriber.specs.Breaking.{is_ticked, told_in}
 two_ticks : (a b c d : List ℕ) → told_in (Gives a ∷ Ticks 1 ∷ Gives b ∷ GivesNone ∷ Hears 2 c ∷ Ticks 2 ∷ Gives d ∷ GivesNone ∷ []) ≡ a ∷ b ∷ []
 two_ticks a b c d = refl
 
-ticked_on : (xs ys : List Act) → is_ticked ys ≡ true → is_ticked (xs ++ ys) ≡ true
+pub ticked_on : (xs ys : List Act) → is_ticked ys ≡ true → is_ticked (xs ++ ys) ≡ true
 ticked_on [] ys h = h
 ticked_on (Hears now bytes ∷ xs) ys h = ticked_on xs ys h
 ticked_on (Ticks now ∷ xs) ys h = refl

@@ -1,5 +1,5 @@
 -- When a subscriber has heard its session, why it ends, what it lives through then, and why it can't begin.
-use Rattle.std.specs.Prelude.{◌≡◌, ◌⊎◌, ◌≤◌, ⊤, ℕ, List, [], ◌∷◌, false, IsTrue, Option, None, Some}
+use Rattle.std.specs.Prelude.{◌≡◌, ◌⊎◌, ◌≤◌, ◌+◌, ⊤, ℕ, List, [], ◌∷◌, true, false, IsTrue, Option, None, Some}
 use Rattle.peer.specs.declared.fault.BindError.{BindError}
 use Rattle.peer.specs.declared.fault.BindError.TheVariants as binds
 use Rattle.options.specs.declared.ends.plans.SubscribePlan.{SubscribePlan}
@@ -8,6 +8,7 @@ use Rattle.receiver.specs.Receiving.{Opened, Receiver}
 use Rattle.receiver.specs.Subscribing.{RepresentsSubscriber, Subscribing}
 use Rattle.subscription.specs.Places.{StandsAt}
 use Rattle.subscription.specs.Watches.{IsQuiet, Seen, hearing, working}
+use Rattle.subscriber.specs.Breaking.{is_ticked}
 use Rattle.subscriber.specs.declared.fault.SubscribeFault.{SubscribeFault}
 use Rattle.subscriber.specs.declared.fault.SubscribeFault.TheVariants.{Taken, NotHere, Failed}
 use Rattle.std.specs.declared.net.SocketAddr.{SocketAddr}
@@ -77,6 +78,19 @@ KeepsConsumers (Some o) (Some p) = p.image.consumers ≡ o.image.consumers
 -- the consumer of its image stands where it stood
 abbrev pub StandsStill : Subscribing → Subscribing → Type 0
 StandsStill s t = (r : Receiver) → RepresentsSubscriber s r → (q : Receiver) × RepresentsSubscriber t q × KeepsConsumers r.image q.image
+
+-- for a second and more it lived on so, and was told a moment, at which it tells where it stands
+pub record BidsFarewell (s : Subscribing) (from : ℕ) (t : Subscribing) (to : ℕ) : Type 0 where
+  pub acts : List Act
+  pub unpolled : AreUnpolled acts
+  pub lived : Lives s acts t
+  pub told : is_ticked acts ≡ true
+  pub lasts : from + 1000000000 ≤ to
+
+-- it is silent where it has all of the stream, and else it tells where it stands
+pub record LeavesFrom (end : Option ℕ) (at : ℕ) (silent tells : Type 0) : Type 0 where
+  pub all : HasAll end at → silent
+  pub part : ¬ HasAll end at → tells
 
 -- why there is no listener at this address
 abbrev pub of_bind : SocketAddr → BindError → SubscribeFault

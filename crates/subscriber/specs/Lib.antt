@@ -6,3 +6,4 @@ pub mod Leavings
 pub mod Writings
 pub mod Living
 pub mod Breaking
+pub mod Endings

@@ -1,7 +1,8 @@
--- What a user reads of a fault.
-use Rattle.std.specs.Prelude.{ℕ, List, ◌++◌, codes}
+-- What a user reads of a fault, and of a silence.
+use Rattle.std.specs.Prelude.{ℕ, ℤ, Bool, true, false, List, ◌++◌, codes}
 use Rattle.std.specs.Net.Text.{socket_text}
 use Rattle.endpoint.specs.Texts as devices
+use Rattle.subscription.specs.Texts.{again_line, silent_line}
 use Rattle.subscriber.specs.declared.delivery.fault.DeliveryFault.{DeliveryFault}
 use Rattle.subscriber.specs.declared.delivery.fault.DeliveryFault.TheVariants as deliveries
 use Rattle.subscriber.specs.declared.fault.SubscribeFault.{SubscribeFault}
@@ -19,3 +20,8 @@ abbrev pub of_delivery : DeliveryFault → SubscribeFault
 of_delivery deliveries.Output = Output
 of_delivery (deliveries.Message error) = Message
 of_delivery (deliveries.Failed error) = Failed error
+
+-- the session has become silent, or goes on
+abbrev pub silence_line : Bool → ℤ → ℕ → List ℕ
+silence_line true session place = silent_line session place
+silence_line false session place = again_line session place

@@ -2,7 +2,7 @@
 -- While its session isn't silent it makes nothing of any. Of a silent session a SETUP of the same shape that isn't behind
 -- what was rebuilt is the session's again: the image goes on, tied to who sent it. Any other that would open an image for
 -- the plan takes the place: a new image is opened, under the next number and so under a receiver id of its own.
-use Rattle.std.specs.Prelude.{◌≡◌, ◌⊎◌, ◌≤◌, ◌+◌, ◌%◌, ◌^◌, ℕ, false, None, Some}
+use Rattle.std.specs.Prelude.{◌≡◌, ◌≢◌, ◌⊎◌, ◌↔◌, ◌≤◌, ◌+◌, ◌%◌, ◌^◌, ℕ, false, IsTrue, None, Some}
 use Rattle.std.specs.declared.net.SocketAddr.{SocketAddr}
 use Rattle.frames.specs.Frames.{setup_of}
 use Rattle.frames.specs.declared.frame.Setup.{Setup}
@@ -36,9 +36,15 @@ with_device j d = record j { duty = record (j.duty) { device = d } }
 abbrev pub next : ℕ → ℕ
 next number = (number + 1) % 2 ^ 64
 
--- the image is kept, and its peer; that another sender was told may be new
-pub record KeepsImage (old new : Joined) : Type 0 where
-  pub is : new ≡ record old { warned = new.warned }
+-- a SETUP of the image's session, which another sent than its peer
+pub record IsAnother (m : Meeting) (j : Joined) : Type 0 where
+  pub session : m.opening.session ≡ j.opening.session
+  pub sender : m.from ≢ j.duty.device.inner.inner.inner.peer
+
+-- the image is kept, and its peer; another sender of its session is noted
+pub record Warns (m : Meeting) (old new : Joined) : Type 0 where
+  pub warned : IsTrue new.warned ↔ (IsTrue old.warned ⊎ IsAnother m old)
+  pub kept : new ≡ record old { warned = new.warned }
 
 -- the image is kept, and this is its peer
 abbrev pub IsTiedTo : SocketAddr → Joined → Joined → Type 0
@@ -53,10 +59,10 @@ pub record IsRenewed (plan : SubscribePlan) (moment : ℕ) (m : Meeting) (old ne
   pub silent : new.silent ≡ false
   pub warned : new.warned ≡ false
 
--- the session isn't silent: nothing is made of it
-pub record Passes (s : Seen) (old new : Joined) (t : Seen) : Type 0 where
+-- the session isn't silent: nothing is made of it, but that another sender is noted
+pub record Passes (s : Seen) (m : Meeting) (old new : Joined) (t : Seen) : Type 0 where
   pub not_silent : ¬ IsSilent s
-  pub kept : KeepsImage old new
+  pub warns : Warns m old new
   pub seen : t ≡ s
 
 -- it is silent, and the SETUP is its own, where its image is rebuilt up to here
@@ -76,16 +82,16 @@ pub record Renews (plan : SubscribePlan) (s : Seen) (m : Meeting) (rebuilt : ℕ
 -- what is made of a SETUP that would open an image
 abbrev pub Turns : SubscribePlan → Seen → Meeting → Joined → Joined → Seen → Type 0
 Turns plan s m old new t =
-    (rebuilt : ℕ) × RebuiltTo old.subscriber rebuilt × (Passes s old new t ⊎ Resumes s m rebuilt old new t ⊎ Renews plan s m rebuilt old new t)
+    (rebuilt : ℕ) × RebuiltTo old.subscriber rebuilt × (Passes s m old new t ⊎ Resumes s m rebuilt old new t ⊎ Renews plan s m rebuilt old new t)
 
 -- what is made of any SETUP
 abbrev pub Considers : SubscribePlan → Seen → SocketAddr → Setup → Joined → Joined → Seen → Type 0
 Considers plan s from f old new t =
-    (OpensNothing plan (setup_of f) × KeepsImage old new × (t ≡ s)) ⊎ ((m : Meeting) × IsMeeting plan from f m × Turns plan s m old new t)
+    (OpensNothing plan (setup_of f) × (new ≡ old) × (t ≡ s)) ⊎ ((m : Meeting) × IsMeeting plan from f m × Turns plan s m old new t)
 
 -- and of the one that came in a cycle, if one did
 abbrev pub ConsidersOffer : SubscribePlan → Seen → Offer → Joined → Joined → Seen → Type 0
-ConsidersOffer plan s None old new t = KeepsImage old new × (t ≡ s)
+ConsidersOffer plan s None old new t = (new ≡ old) × (t ≡ s)
 ConsidersOffer plan s (Some offer) old new t = Considers plan s offer.0 offer.1 old new t
 
 abbrev pub Attends : SubscribePlan → Seen → Joined → Joined → Seen → Type 0

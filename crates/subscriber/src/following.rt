@@ -1,12 +1,14 @@
 //! A subscriber with an image.
 
 ghost use Rattle.std.specs.Prelude.{◌≡◌, ◌≢◌, ◌≤◌, ◌↔◌, ◌+◌, ◌-◌, ◌^◌, min, ℕ, IfErr, IfOk, IsTrue, OnErr, OnOk, Some};
+ghost use Rattle.std.specs.Io.KnownBytes.{Appends};
 ghost use Rattle.endpoint.specs.declared.device_error.DeviceError.TheVariants.{Device};
 ghost use Rattle.subscriber.specs.Breaking.{BreaksActs, BreaksLife};
-ghost use Rattle.subscriber.specs.Leavings.{HasAll, HasEnough, IsEnding, IsQuietEnding, LivesUnpolled, NotesHeard, NotesWork, StandsHere, StandsStill};
+ghost use Rattle.subscriber.specs.Leavings.{BidsFarewell, HasAll, HasEnough, IsEnding, IsQuietEnding, LeavesFrom, LivesUnpolled, NotesHeard, NotesWork, StandsHere, StandsStill};
 ghost use Rattle.subscription.specs.Watches.{IsBroken, IsSilent};
 ghost use Rattle.subscriber.specs.declared.fault.SubscribeFault.TheVariants.{Failed};
 ghost use Rattle.subscriber.specs.Living.{WritesActs, WritesLife};
+ghost use Rattle.subscriber.specs.Texts.{silence_line};
 ghost use Rattle.subscriber.specs.Turning.{with_device};
 ghost use Rattle.subscriber.specs.Writings.{Writes};
 ghost use Rattle.subscription.specs.Sendings.{news_taken};
@@ -22,6 +24,7 @@ use endpoint::DeviceError;
 use options::SubscribePlan;
 use receiver::STATUS_INTERVAL;
 use std::alloc::Global;
+use std::io;
 use std::io::Write;
 use std::sync::Wait;
 use std::time::Clock;
@@ -139,24 +142,28 @@ fn ending_of(
 }
 
 /// Tells once that the session is silent, and once that it goes on.
-fn tell_silence<E: Write>(joined: &mut Joined, errors: &mut E, watch: &Watch)
+fn tell_silence<E: Write>(joined: &mut Joined, errors: &mut E, watch: &Watch) -> io::Result<()>
     ensures noted { IsTrue joined.new.silent ↔ IsSilent watch.now }
     ensures same { joined.new ≡ record joined.old { silent = joined.new.silent } }
+    ensures told { joined.new.silent ≢ joined.old.silent → (place : ℕ) × StandsHere joined.old.subscriber place × OnOk result (Appends (E.contents errors.old) (E.contents errors.new) (silence_line joined.new.silent joined.old.opening.session place)) }
+    ensures quiet { joined.new.silent ≡ joined.old.silent → OnOk result (E.contents errors.new ≡ E.contents errors.old) }
 {
     let silent = watch.is_silent();
     if silent == joined.silent {
-        return;
+        return Ok(());
     }
     joined.silent = silent;
-    tell_change(joined, errors);
+    tell_change(errors, silent, joined.opening.session, joined.place())
 }
 
 /// Tells that the session is silent, or that it goes on.
-fn tell_change<E: Write>(joined: &Joined, errors: &mut E) {
-    if joined.silent {
-        tell_silent(errors, joined.opening.session, joined.place());
+fn tell_change<E: Write>(errors: &mut E, silent: bool, session: i32, place: u64) -> io::Result<()>
+    ensures { OnOk result (Appends (E.contents errors.old) (E.contents errors.new) (silence_line silent session place)) }
+{
+    if silent {
+        tell_silent(errors, session, place)
     } else {
-        tell_again(errors, joined.opening.session, joined.place());
+        tell_again(errors, session, place)
     }
 }
 
@@ -192,7 +199,7 @@ fn tell<E: Write>(
         refused: joined.subscriber.refused(),
     };
     if let Some(positions) = joined.subscriber.positions() {
-        tell_counters(errors, joined.opening.session, &positions, &counts);
+        let _ = tell_counters(errors, joined.opening.session, &positions, &counts);
     }
 }
 
@@ -236,7 +243,7 @@ pub(crate) fn follow<R: Wait + Clock, W: Write, E: Write>(
         let (all, busy) = cycle_once(plan, joined, output, watch, written)?;
         written = all;
         check_works(joined, watch, worked)?;
-        tell_silence(joined, errors, watch);
+        let _ = tell_silence(joined, errors, watch);
         tell(plan, joined, errors, watch, written);
         let end = joined.duty.device().notes().end;
         if let Some(ending) = ending_of(plan, watch, written, end, joined.place()) {
@@ -260,32 +267,39 @@ fn bid_farewell<R: Wait + Clock>(
     ensures unpolled { LivesUnpolled joined.old.subscriber joined.new.subscriber }
     ensures still { StandsStill joined.old.subscriber joined.new.subscriber }
     ensures number { joined.new.number ≡ joined.old.number }
+    ensures farewell { OnOk result (BidsFarewell joined.old.subscriber watch.old.moment joined.new.subscriber watch.new.moment) }
 {
     watch.see(rt)?;
     let ended = watch.moment();
     let mut idle = IdleStrategy::new();
     for _ in rt.forever() {
+        let ahead = watch.moment().saturating_add(STATUS_INTERVAL);
+        let busy = joined.duty.cycle(&mut joined.subscriber, ahead)?;
         watch.see(rt)?;
         if watch.moment().saturating_sub(ended) >= FAREWELL {
             return Ok(());
         }
-        let ahead = watch.moment().saturating_add(STATUS_INTERVAL);
-        let busy = joined.duty.cycle(&mut joined.subscriber, ahead)?;
         idle.after(rt, busy);
     }
     unreachable!()
 }
 
 /// Leaves an image. Where the publisher hasn't told an end at which the subscriber has all, it is told for a second where that
-/// stands.
-pub(crate) fn leave<R: Wait + Clock>(rt: &R, joined: &mut Joined, watch: &mut Watch)
+/// stands; else nothing is sent.
+pub(crate) fn leave<R: Wait + Clock>(
+    rt: &R,
+    joined: &mut Joined,
+    watch: &mut Watch,
+) -> Result<(), SubscribeFault>
     requires { joined.old.duty.mtu ≡ REPLY }
     ensures unpolled { LivesUnpolled joined.old.subscriber joined.new.subscriber }
     ensures still { StandsStill joined.old.subscriber joined.new.subscriber }
     ensures number { joined.new.number ≡ joined.old.number }
+    ensures leaves { (place : ℕ) × StandsHere joined.old.subscriber place × LeavesFrom joined.old.duty.device.notes.end place (joined.new ≡ joined.old) (OnOk result (BidsFarewell joined.old.subscriber watch.old.moment joined.new.subscriber watch.new.moment)) }
 {
     let end = joined.duty.device().notes().end;
-    if !has_all(end, joined.place()) {
-        let _ = bid_farewell(rt, joined, watch);
+    if has_all(end, joined.place()) {
+        return Ok(());
     }
+    bid_farewell(rt, joined, watch)
 }

@@ -3,6 +3,7 @@
 ghost use Rattle.std.specs.Prelude.{◌≡◌, ◌≤◌, IfErr, IfOk, IsTrue, OnErr};
 ghost use Rattle.peer.specs.declared.fault.BindError.{BindError};
 ghost use Rattle.subscriber.specs.Breaking.{BreaksLife, BreaksLives};
+ghost use Rattle.subscriber.specs.Endings.{EndsWithImage, HasEnded};
 ghost use Rattle.subscriber.specs.Leavings.{of_bind};
 ghost use Rattle.subscriber.specs.Living.{WritesLife, WritesLives};
 ghost use Rattle.subscriber.specs.Writings.{Writes};
@@ -64,18 +65,19 @@ fn follow_all<R: Wait + Clock, W: Write, E: Write>(
     ensures short { IfOk result (λ s. s.ending ≡ Short → IsTrue plan.now.once) }
     ensures writes { IfOk result (λ s. Writes plan.now.end.form 0 (W.contents output.old) s.messages (W.contents output.new)) }
     ensures lives { IfOk result (λ s. WritesLife plan.now (W.contents output.old) s.messages joined.new.number joined.new.subscriber (W.contents output.new)) }
+    ensures ended { IfOk result (λ s. EndsWithImage plan.now (W.contents output.old) s (W.contents output.new)) }
     ensures broken { OnErr result (BreaksLife plan.now (W.contents output.old) joined.new.subscriber (W.contents output.new)) }
 {
-    tell_joined(errors, joined.opening.session, joined.place());
+    let _ = tell_joined(errors, joined.opening.session, joined.place());
     let followed = follow(rt, alloc, plan, joined, output, errors, watch, slot);
     slot.end(rt);
-    tell_refused(
+    let _ = tell_refused(
         errors,
         joined.subscriber.refused(),
         strangers(joined, watch),
     );
     let (messages, ending) = followed?;
-    leave(rt, joined, watch);
+    let _ = leave(rt, joined, watch);
     Ok(Subscribed { messages, ending })
 }
 
@@ -95,10 +97,11 @@ fn listen_and_follow<R: Wait + Clock, W: Write, E: Write>(
     ensures broken { OnErr result (BreaksLives plan.now (W.contents output.old) (W.contents output.new)) }
     ensures few { IfOk result (λ s. s.messages ≤ plan.now.messages) }
     ensures short { IfOk result (λ s. s.ending ≡ Short → IsTrue plan.now.once) }
+    ensures ended { IfOk result (λ s. HasEnded plan.now (W.contents output.old) s (W.contents output.new)) }
 {
     match listen(rt, alloc, plan, listener, errors, watch)? {
         None => {
-            tell_refused(errors, FaultCounts::new(), watch.strangers());
+            let _ = tell_refused(errors, FaultCounts::new(), watch.strangers());
             Ok(Subscribed {
                 messages: 0,
                 ending: quiet_ending(plan),
@@ -140,6 +143,8 @@ pub fn subscribe<R: Threads + Wait + Clock + Net + Copy + Send + 'static, W: Wri
     ensures few { IfOk result (λ s. s.messages ≤ plan.now.messages) }
     // Only one that was to end with the stream ends short.
     ensures short { IfOk result (λ s. s.ending ≡ Short → IsTrue plan.now.once) }
+    // It was quiet before any image, and wrote nothing, or it ended where its last image stood then.
+    ensures ended { IfOk result (λ s. HasEnded plan.now (W.contents output.old) s (W.contents output.new)) }
 {
     let Ok(began) = Instant::now(rt) else {
         return Err(SubscribeFault::Failed(DeviceError::Device));

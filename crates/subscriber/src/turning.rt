@@ -1,16 +1,19 @@
 //! What a subscriber with an image makes of a SETUP.
 
-ghost use Rattle.std.specs.Prelude.{◌≡◌, ◌↔◌, IsTrue, OnErr, OnOk};
+ghost use Rattle.std.specs.Prelude.{◌≡◌, ◌≢◌, ◌↔◌, IsTrue, OnErr, OnOk};
+ghost use Rattle.std.specs.Io.KnownBytes.{Appends};
 ghost use Rattle.frames.specs.Frames.{setup_of};
 ghost use Rattle.subscription.specs.Hearings.{turned_to};
 ghost use Rattle.subscription.specs.Offers.{tied_anew};
-ghost use Rattle.subscriber.specs.Turning.{Attends, Considers, GoesOn, IsRenewed, IsTiedTo, KeepsImage, Turns};
+ghost use Rattle.subscription.specs.Texts.{another_line};
+ghost use Rattle.subscriber.specs.Turning.{Attends, Considers, GoesOn, IsAnother, IsRenewed, IsTiedTo, Turns, Warns};
 
 use crate::fault::SubscribeFault;
 use agents::Duty;
 use frames::Setup;
 use options::SubscribePlan;
 use std::alloc::Global;
+use std::io;
 use std::io::Write;
 use std::net::SocketAddr;
 use subscription::{
@@ -27,17 +30,25 @@ fn goes_on(was: &Opening, rebuilt: u64, opening: &Opening) -> bool
         && opening.position >= rebuilt
 }
 
-/// Tells, once for an image, that a SETUP of its session came from another than its peer.
-fn warn<E: Write>(joined: &mut Joined, meeting: &Meeting, errors: &mut E)
-    ensures { KeepsImage joined.old joined.new }
+/// Whether a SETUP is of the image's session, and another sent it than its peer.
+fn is_another(joined: &Joined, meeting: &Meeting) -> bool
+    ensures { IsTrue result ↔ IsAnother meeting.now joined.now }
 {
-    let session = meeting.opening.session;
-    let peer = tied_of(joined.duty.device()).peer();
-    if joined.warned || session != joined.opening.session || meeting.from == peer {
-        return;
+    meeting.opening.session == joined.opening.session
+        && meeting.from != tied_of(joined.duty.device()).peer()
+}
+
+/// Tells, once for an image, that a SETUP of its session came from another than its peer.
+fn warn<E: Write>(joined: &mut Joined, meeting: &Meeting, errors: &mut E) -> io::Result<()>
+    ensures warns { Warns meeting.now joined.old joined.new }
+    ensures told { joined.new.warned ≢ joined.old.warned → OnOk result (Appends (E.contents errors.old) (E.contents errors.new) (another_line meeting.now.opening.session meeting.now.from)) }
+    ensures quiet { joined.new.warned ≡ joined.old.warned → OnOk result (E.contents errors.new ≡ E.contents errors.old) }
+{
+    if joined.warned || !is_another(joined, meeting) {
+        return Ok(());
     }
     joined.warned = true;
-    tell_another(errors, session, meeting.from);
+    tell_another(errors, meeting.opening.session, meeting.from)
 }
 
 /// Makes this the peer.
@@ -93,9 +104,9 @@ fn replace<E: Write>(
     ensures size { joined.new.duty.mtu ≡ joined.old.duty.mtu }
 {
     let refused = joined.subscriber.refused();
-    tell_closed(errors, joined.opening.session, joined.place(), refused);
+    let _ = tell_closed(errors, joined.opening.session, joined.place(), refused);
     renew(alloc, plan, joined, meeting, now)?;
-    tell_joined(errors, joined.opening.session, joined.place());
+    let _ = tell_joined(errors, joined.opening.session, joined.place());
     Ok(())
 }
 
@@ -114,7 +125,7 @@ fn turns<E: Write>(
 {
     let rebuilt = joined.rebuilt();
     if !watch.is_silent() {
-        warn(joined, meeting, errors);
+        let _ = warn(joined, meeting, errors);
         return Ok(());
     }
     if goes_on(&joined.opening, rebuilt, &meeting.opening) {

@@ -9,6 +9,20 @@ returns-clause-lives g c =
     subst (λ (n : ℕ). WritesLife c.args.plan.now (g.W.Write.contents c.args.output.now) c.in_ok-messages.messages n c.leave.new.joined.subscriber (g.W.Write.contents c.follow-followed.new.output)) (sym c.leave.ensures.number)
     (left_life _ _ _ _ _ _ _ c.in_ok-messages.ensures.lives c.leave.ensures.unpolled)
 
+pub returns-clause-ended : goal.returns-clause-ended
+returns-clause-ended g c =
+    let e = c.in_ok-messages.ensures.ended in
+    record {
+      number = c.follow-followed.new.joined.number;
+      newest = c.follow-followed.new.joined.subscriber;
+      lives = c.in_ok-messages.ensures.lives;
+      place = e.0;
+      stands = e.1;
+      seen = c.follow-followed.new.watch;
+      end = c.follow-followed.new.joined.duty.device.notes.end;
+      ending = e.2;
+    }
+
 pub returns-in_err-messages-clause-broken : goal.returns-in_err-messages-clause-broken
 returns-in_err-messages-clause-broken g c =
     let p = err_from_is_err_and c.from_residual.result c.from_residual.ensures.1 in

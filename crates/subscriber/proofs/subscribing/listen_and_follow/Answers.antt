@@ -1,7 +1,7 @@
-use Rattle.std.proofs.Common.{subst}
+use Rattle.std.proofs.Common.{inr, subst}
 use Rattle.std.specs.Prelude.{IfSome}
 use Rattle.subscription.specs.Calls.{IsJoined}
-use Rattle.std.proofs.lemmas.Result.{on_err_weaker}
+use Rattle.std.proofs.lemmas.Result.{IfOk-weaker, on_err_weaker}
 use Rattle.subscriber.proofs.Breaking.{before_image, life_lost}
 use Rattle.subscriber.proofs.Lived.{joined_life}
 use Rattle.subscriber.proofs.Leaving.{all_written}
@@ -12,6 +12,9 @@ follow_all-requires-clause-begun g c = joined_life c.args.plan.now c.listen.new.
 
 pub returns-in-Some-clause-lives : goal.returns-in-Some-clause-lives
 returns-in-Some-clause-lives g c = all_written _ _ _ _ _ c.follow_all.result c.follow_all.ensures.lives
+
+pub returns-in-Some-clause-ended : goal.returns-in-Some-clause-ended
+returns-in-Some-clause-ended g c = IfOk-weaker c.follow_all.result _ _ (λ s ended. inr ended) c.follow_all.ensures.ended
 
 pub returns-in-Some-clause-broken : goal.returns-in-Some-clause-broken
 returns-in-Some-clause-broken g c = on_err_weaker c.follow_all.result (life_lost _ _ _ _) c.follow_all.ensures.broken
