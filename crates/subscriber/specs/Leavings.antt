@@ -11,6 +11,7 @@ use Rattle.subscription.specs.Watches.{IsQuiet, Seen, hearing, working}
 use Rattle.subscriber.specs.Breaking.{is_ticked}
 use Rattle.subscriber.specs.declared.fault.SubscribeFault.{SubscribeFault}
 use Rattle.subscriber.specs.declared.fault.SubscribeFault.TheVariants.{Taken, NotHere, Failed}
+use Rattle.endpoint.specs.declared.device_error.DeviceError.TheVariants.{Device, Memory}
 use Rattle.std.specs.declared.net.SocketAddr.{SocketAddr}
 use Rattle.subscriber.specs.declared.ended.Ending.{Ending}
 use Rattle.subscriber.specs.declared.ended.Ending.TheVariants.{Whole, Short}
@@ -91,6 +92,10 @@ pub record BidsFarewell (s : Subscribing) (from : ℕ) (t : Subscribing) (to : �
 pub record LeavesFrom (end : Option ℕ) (at : ℕ) (silent tells : Type 0) : Type 0 where
   pub all : HasAll end at → silent
   pub part : ¬ HasAll end at → tells
+
+-- why there is no second thread: the clock can't be read, the system refused it, or memory was refused
+abbrev pub IsStartFault : SubscribeFault → Type 0
+IsStartFault fault = (fault ≡ Failed Device) ⊎ (fault ≡ Failed Memory)
 
 -- why there is no listener at this address
 abbrev pub of_bind : SocketAddr → BindError → SubscribeFault

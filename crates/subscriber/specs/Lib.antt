@@ -7,3 +7,4 @@ pub mod Writings
 pub mod Living
 pub mod Breaking
 pub mod Endings
+pub mod Telling

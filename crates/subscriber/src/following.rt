@@ -5,9 +5,10 @@ ghost use Rattle.std.specs.Io.KnownBytes.{Appends};
 ghost use Rattle.endpoint.specs.declared.device_error.DeviceError.TheVariants.{Device};
 ghost use Rattle.subscriber.specs.Breaking.{BreaksActs, BreaksLife};
 ghost use Rattle.subscriber.specs.Leavings.{BidsFarewell, HasAll, HasEnough, IsEnding, IsQuietEnding, LeavesFrom, LivesUnpolled, NotesHeard, NotesWork, StandsHere, StandsStill};
-ghost use Rattle.subscription.specs.Watches.{IsBroken, IsSilent};
+ghost use Rattle.subscription.specs.Watches.{IsBroken, IsSilent, TellsWhereDue};
 ghost use Rattle.subscriber.specs.declared.fault.SubscribeFault.TheVariants.{Failed};
 ghost use Rattle.subscriber.specs.Living.{WritesActs, WritesLife};
+ghost use Rattle.subscriber.specs.Telling.{AreCounts, TellsCounters, TellsLine};
 ghost use Rattle.subscriber.specs.Texts.{silence_line};
 ghost use Rattle.subscriber.specs.Turning.{with_device};
 ghost use Rattle.subscriber.specs.Writings.{Writes};
@@ -175,6 +176,22 @@ pub(crate) fn strangers(joined: &Joined, watch: &Watch) -> u64
     watch.strangers().saturating_add(strangers)
 }
 
+/// What the counters show behind so many messages, of which so many came since they were told last.
+fn counts_of(joined: &Joined, watch: &Watch, written: u64, since: u64) -> Counts
+    ensures { AreCounts joined.now watch.now written since result }
+{
+    let device = joined.duty.device();
+    let lost = device.inner().inner().lost();
+    Counts {
+        messages: written,
+        since,
+        naks: device.naks(),
+        lost: watch.lost().saturating_add(lost),
+        strangers: strangers(joined, watch),
+        refused: joined.subscriber.refused(),
+    }
+}
+
 /// Tells the counters, once a second.
 fn tell<E: Write>(
     plan: &SubscribePlan,
@@ -182,24 +199,17 @@ fn tell<E: Write>(
     errors: &mut E,
     watch: &mut Watch,
     written: u64,
-)
-    ensures { watch.new ≡ record watch.old { told = watch.new.told; written = watch.new.written } }
+) -> io::Result<()>
+    ensures same { watch.new ≡ record watch.old { told = watch.new.told; written = watch.new.written } }
+    ensures tells { TellsWhereDue plan.now written watch.old watch.new (TellsCounters joined.now watch.old written (λ p c. OnOk result (TellsLine p joined.now.opening.session c (E.contents errors.old) (E.contents errors.new)))) (OnOk result (E.contents errors.new ≡ E.contents errors.old)) }
 {
     let Some(since) = watch.tells(plan, written) else {
-        return;
+        return Ok(());
     };
-    let device = joined.duty.device();
-    let lost = device.inner().inner().lost();
-    let counts = Counts {
-        messages: written,
-        since,
-        naks: device.naks(),
-        lost: watch.lost().saturating_add(lost),
-        strangers: strangers(joined, watch),
-        refused: joined.subscriber.refused(),
-    };
-    if let Some(positions) = joined.subscriber.positions() {
-        let _ = tell_counters(errors, joined.opening.session, &positions, &counts);
+    let counts = counts_of(joined, watch, written, since);
+    match joined.subscriber.positions() {
+        None => Ok(()),
+        Some(positions) => tell_counters(errors, joined.opening.session, &positions, &counts),
     }
 }
 
@@ -244,7 +254,7 @@ pub(crate) fn follow<R: Wait + Clock, W: Write, E: Write>(
         written = all;
         check_works(joined, watch, worked)?;
         let _ = tell_silence(joined, errors, watch);
-        tell(plan, joined, errors, watch, written);
+        let _ = tell(plan, joined, errors, watch, written);
         let end = joined.duty.device().notes().end;
         if let Some(ending) = ending_of(plan, watch, written, end, joined.place()) {
             return Ok((written, ending));

@@ -1,5 +1,8 @@
 //! The thread that repeats a subscriber's last status message while its output blocks.
 
+ghost use Rattle.std.specs.Prelude.{◌≤◌, IfErr};
+ghost use Rattle.subscriber.specs.Leavings.{IsStartFault};
+
 use crate::fault::SubscribeFault;
 use agents::Began;
 use crossbeam_queue::ArrayQueue;
@@ -47,9 +50,11 @@ impl Slot {
     }
 }
 
-/// The moment; the one before where the clock can't be read.
-fn moment_from<R: Clock>(rt: &R, began: &Began, before: u64) -> u64 {
-    began.moment(rt).unwrap_or(before)
+/// The moment, which never falls; the one before where the clock can't be read.
+fn moment_from<R: Clock>(rt: &R, began: &Began, before: u64) -> u64
+    ensures { before ≤ result }
+{
+    began.moment(rt).unwrap_or(before).max(before)
 }
 
 /// Looks each 100 ms for what is new, and repeats the last status message where it is due, until it is told to end.
@@ -88,7 +93,9 @@ fn started<R: Threads + Wait + Clock + Copy + Send + 'static>(
     alloc: Global,
     repeater: StatusRepeater,
     began: Began,
-) -> Result<Repeating, SubscribeFault> {
+) -> Result<Repeating, SubscribeFault>
+    ensures { IfErr result IsStartFault }
+{
     let (slot, theirs) = shared_slot(alloc)?;
     let there = *rt;
     match thread::spawn(rt, move || repeat_all(&there, &theirs, &began, repeater)) {
@@ -104,7 +111,9 @@ impl Repeating {
         rt: &R,
         alloc: Global,
         repeater: StatusRepeater,
-    ) -> Result<Repeating, SubscribeFault> {
+    ) -> Result<Repeating, SubscribeFault>
+        ensures { IfErr result IsStartFault }
+    {
         let began = Began::now(rt)?;
         started(rt, alloc, repeater, began)
     }

@@ -1,0 +1,33 @@
+-- What a subscriber with an image tells of its counters.
+use Rattle.std.specs.Prelude.{◌≡◌, ◌+◌, ◌-◌, ◌^◌, ℕ, ℤ, min, List, Option, None, Some}
+use Rattle.std.specs.Io.KnownBytes.{Appends}
+use Rattle.receiver.specs.Polling.{TellsPositions}
+use Rattle.receiver.specs.Receiving.{Receiver}
+use Rattle.receiver.specs.Subscribing.{RepresentsSubscriber}
+use Rattle.receiver.specs.declared.positions.Positions.{Positions}
+use Rattle.subscription.specs.Texts.{counters_line}
+use Rattle.subscription.specs.Watches.{Seen}
+use Rattle.subscription.specs.declared.joined.Joined.{Joined}
+use Rattle.subscription.specs.declared.telling.Counts.{Counts}
+
+-- what it has counted behind so many messages, of which so many are new; in all where it has counted before an image and with one
+pub record AreCounts (j : Joined) (s : Seen) (written more : ℕ) (c : Counts) : Type 0 where
+  pub messages : c.messages ≡ written
+  pub since : c.since ≡ more
+  pub naks : c.naks ≡ j.duty.device.naks
+  pub lost : c.lost ≡ min (s.lost + j.duty.device.inner.inner.lost) (2 ^ 64 - 1)
+  pub strangers : c.strangers ≡ min (s.strangers + j.duty.device.inner.inner.inner.strangers) (2 ^ 64 - 1)
+  pub refused : (r : Receiver) → RepresentsSubscriber j.subscriber r → c.refused.counts ≡ r.faults
+
+-- without an image nothing is told
+abbrev pub TellsLine : Option Positions → ℤ → Counts → Option (List ℕ) → Option (List ℕ) → Type 0
+TellsLine None session c before after = after ≡ before
+TellsLine (Some p) session c before after = Appends before after (counters_line session p c)
+
+-- where its image stands, and what it has counted
+pub record TellsCounters (j : Joined) (s : Seen) (written : ℕ) (tells : Option Positions → Counts → Type 0) : Type 0 where
+  pub positions : Option Positions
+  pub stands : (r : Receiver) → RepresentsSubscriber j.subscriber r → TellsPositions r positions
+  pub counts : Counts
+  pub counted : AreCounts j s written (written - s.written) counts
+  pub told : tells positions counts
