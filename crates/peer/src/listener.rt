@@ -1,6 +1,6 @@
 //! A subscriber's socket.
 
-ghost use Rattle.std.specs.Prelude.{◌≡◌, ◌≢◌, None, IfOk, OnErr, option_map};
+ghost use Rattle.std.specs.Prelude.{◌≡◌, ◌≢◌, ◌⊎◌, None, Ok, IfErr, IfOk, IfSome, IsErr, IsOk, OnErr, OnOk, option_map};
 ghost use Rattle.std.specs.IoError.{error_kind};
 ghost use Rattle.theory.specs.Wire.{SM, spelling};
 ghost use Rattle.frames.specs.Frames.{status_of};
@@ -78,6 +78,32 @@ fn asking_bytes(status: Status) -> [u8; STATUS_BYTES]
     bytes
 }
 
+/// What a receive has brought. One that isn't ready brings nothing; the error comes where the system refuses the call.
+fn arrival_in(answer: io::Result<(usize, SocketAddr)>) -> Result<Option<Arrival>, DeviceFailed>
+    ensures came { IfOk result (λ found. IfSome found (λ a. answer ≡ Ok (a.length, a.from))) }
+    ensures taken { OnOk answer (IsOk result) }
+    ensures not_ready { IfErr answer (λ error. (error_kind error ≡ ErrorKind.WouldBlock) ⊎ (error_kind error ≡ ErrorKind.ConnectionRefused) → result ≡ Ok None) }
+    ensures refused { IfErr answer (λ error. error_kind error ≢ ErrorKind.WouldBlock → error_kind error ≢ ErrorKind.ConnectionRefused → IsErr result) }
+{
+    match answer {
+        Ok((length, from)) => Ok(Some(Arrival { from, length })),
+        Err(error) if is_loss(&error) => Ok(None),
+        Err(_) => Err(DeviceFailed),
+    }
+}
+
+/// What a send's answer says. One that isn't ready loses the datagram; the error comes where the system refuses the call.
+fn sent_by(answer: io::Result<usize>) -> Result<(), DeviceFailed>
+    ensures sent { OnOk answer (IsOk result) }
+    ensures not_ready { IfErr answer (λ error. (error_kind error ≡ ErrorKind.WouldBlock) ⊎ (error_kind error ≡ ErrorKind.ConnectionRefused) → IsOk result) }
+    ensures refused { IfErr answer (λ error. error_kind error ≢ ErrorKind.WouldBlock → error_kind error ≢ ErrorKind.ConnectionRefused → IsErr result) }
+{
+    match answer {
+        Err(error) if !is_loss(&error) => Err(DeviceFailed),
+        _ => Ok(()),
+    }
+}
+
 impl Listener {
     /// A socket that is bound so, to which nothing has come yet, and with which nobody was asked.
     pub fn bind<R: Net>(rt: &R, alloc: Global, binding: &Binding) -> Result<Listener, BindError>
@@ -112,14 +138,9 @@ impl Listener {
         ensures same { self.new ≡ with_came self.old self.new.came }
     {
         self.last = None;
-        match self.socket.recv_from(self.arrived.as_mut_slice()) {
-            Ok((length, from)) => {
-                self.last = Some(Arrival { from, length });
-                Ok(())
-            }
-            Err(error) if is_loss(&error) => Ok(()),
-            Err(_) => Err(DeviceFailed),
-        }
+        let answer = self.socket.recv_from(self.arrived.as_mut_slice());
+        self.last = arrival_in(answer)?;
+        Ok(())
     }
 
     /// The datagram that came when it was last asked for one, and who sent it.
@@ -143,9 +164,6 @@ impl Listener {
 
     /// Hands a datagram for somebody to the system. One that isn't ready loses it; the error comes where it refuses the call.
     pub(crate) fn send(&self, to: SocketAddr, datagram: &[u8]) -> Result<(), DeviceFailed> {
-        match self.socket.send_to(datagram, to) {
-            Err(error) if !is_loss(&error) => Err(DeviceFailed),
-            _ => Ok(()),
-        }
+        sent_by(self.socket.send_to(datagram, to))
     }
 }

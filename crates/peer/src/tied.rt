@@ -114,6 +114,20 @@ impl TiedDevice {
         DeviceFailed
     }
 
+    /// Counts a call of the socket, if it failed.
+    fn note(&mut self, answer: Result<(), DeviceFailed>) -> Result<(), DeviceFailed>
+        ensures same { result ≡ answer }
+        ensures worked { OnOk answer (self.new ≡ self.old) }
+        ensures failed { OnErr answer (self.new ≡ with_fault self.old) }
+        ensures grown { OnErr answer (HasGrown self.old.device.failures self.new.device.failures) }
+        ensures not_fallen { NeverFall self.old.device self.new.device }
+    {
+        match answer {
+            Ok(()) => Ok(()),
+            Err(_) => Err(self.fail()),
+        }
+    }
+
     /// Counts a receive that found nothing.
     fn find_none(&mut self)
         ensures counted { self.new ≡ with_nothing self.old }
@@ -136,10 +150,8 @@ impl Datagrams for TiedDevice {
         ensures sent { OnOk result (self.new ≡ self.old) }
         ensures failed { OnErr result (self.new ≡ with_fault self.old) }
     {
-        match self.listener.send(self.tie.peer, datagram) {
-            Ok(()) => Ok(()),
-            Err(_) => Err(self.fail()),
-        }
+        let answer = self.listener.send(self.tie.peer, datagram);
+        self.note(answer)
     }
 
     fn recv(&mut self, buffer: &mut [u8]) -> Result<Option<usize>, DeviceFailed>
@@ -147,9 +159,8 @@ impl Datagrams for TiedDevice {
         ensures receives { Receives ⊥ self.old.device buffer.old result buffer.new self.new.device }
         ensures takes { HandsOver self.old result buffer.new self.new }
     {
-        if self.listener.hear().is_err() {
-            return Err(self.fail());
-        }
+        let heard = self.listener.hear();
+        self.note(heard)?;
         let Some((from, datagram)) = self.listener.last() else {
             self.find_none();
             return Ok(None);
