@@ -11,14 +11,15 @@
 //! claimed anything. The reader of its sender comes back, too: what that knew of the log are frames that were committed to it.
 //!
 //! Its sender stands where the plan starts and sends from there, its core lives by datagrams and moments as a sender does
-//! (`send_all`, by `Lived`; what that gives out is honest for the stream: `sender_meaning`), cycles and offers keep what their
-//! crates ask for, each cycle goes through one of the conductor, by which the log is kept (`KeepsLog`), and each message is
-//! offered at a length that the log takes. Its device takes what fails for lost, loses by the plan's
-//! rates and seed, and screens and notes the plan's stream from the plan's start (`publisher_parts`, by
-//! `ArePublisherParts` and `device_of`); in each cycle it is told up to where the sender has sent. It ends by its
-//! device's attendance, by how the reading had ended, the plan's linger and wait, and a silence that is judged only where the
-//! socket was empty (`send_all`, by `Ends`; `Progress`). Reading stops only at a full stream or the input's fault, which is
-//! told before one of sending; the texts that are told are exact, and at its end so is how often the stream's end is told.
+//! (`send_all`, by `Lived`, and without a fault up to a moment that it was told last, by `LivedTo`; what that gives out is
+//! honest for the stream: `sender_meaning`), cycles and offers keep what their crates ask for, each cycle goes through one of
+//! the conductor, by which the log is kept (`KeepsLog`), and each message is offered at a length that the log takes. Its device
+//! takes what fails for lost, loses by the plan's rates and seed, and screens and notes the plan's stream from the plan's start
+//! (`publisher_parts`, by `ArePublisherParts` and `device_of`); in each cycle it is told up to where the sender has sent. It
+//! ends by its device's attendance, by how the reading had ended, the plan's linger and wait, and a silence that is judged only
+//! where the socket was empty (`send_all`, by `Ends`; `Progress`). Reading stops only at a full stream or the input's fault,
+//! which is told before one of sending; the texts that are told are exact, and at its end so is how often the stream's end is
+//! told.
 //!
 //! While the reading goes on its thread hides the pass, so of a publisher that ends before it no more is said; nor which
 //! datagrams went out, since its device tells nothing; nor that anything is read or sent: `tools/channels` shows it.
