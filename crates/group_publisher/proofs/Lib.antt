@@ -5,3 +5,4 @@ pub mod AllPublished
 pub mod One
 pub mod Along
 pub mod Ends
+pub mod Given

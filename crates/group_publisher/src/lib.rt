@@ -11,7 +11,8 @@
 //! Its reading and what is left of its input are as with one subscriber (`publish_group_over`, by `EndsInput`, over any reader
 //! and any devices); its log isn't closed. Where it ends whole, the reading has ended at the input's end, and what was accepted of it has
 //! arrived along as many ways as it began with (`AllHaveArrived`; `publish_group`, by `PublishesAllAlong`). The lines that name
-//! a way are exact. That ways keep their numbers while datagrams go along them isn't said, nor what a group's sender gives out.
+//! a way are exact, and so is how often the stream's end is told along each. That ways keep their numbers while datagrams go along
+//! them isn't said, nor what a group's sender gives out.
 #![tactic(auto)]
 
 mod ending;

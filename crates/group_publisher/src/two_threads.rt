@@ -1,7 +1,7 @@
 //! The two threads of a publisher to several subscribers: one reads messages and offers them, the other sends, keeps the log and
 //! decides the end.
 
-ghost use Rattle.std.specs.Prelude.{◌≡◌, ◌≤◌, [], IfOk, IfSome, Ok, Some, length, map, OnErr};
+ghost use Rattle.std.specs.Prelude.{◌≡◌, ◌≤◌, [], IfOk, IfSome, Ok, Some, length, map, OnErr, OnOk};
 ghost use Rattle.theory.specs.Position.{max_position};
 ghost use Rattle.shared_log.specs.Readers.{ReaderValue};
 ghost use Rattle.flow_control.specs.Stream.{flow_after};
@@ -12,6 +12,7 @@ ghost use Rattle.publisher.specs.Ended.{reading_left};
 ghost use Rattle.publisher.specs.Openings.{ArePasses};
 ghost use Rattle.group_publisher.specs.Ended.{AllHaveArrived, ending_with};
 ghost use Rattle.group_publisher.specs.Endings.{heard_along};
+ghost use Rattle.group_publisher.specs.Farewells.{AreGiven, given_along, given_with};
 
 use crate::sender_thread::{GroupDevice, GroupSender, send_all};
 use crate::telling::tell_refused_ways;
@@ -59,6 +60,29 @@ fn attendances_of<D: Datagrams>(
     Ok(all)
 }
 
+/// Gives the device of a way a datagram.
+fn give<D: Datagrams>(way: &mut Way<ChannelDevice<D>>, datagram: &[u8])
+    ensures { given_along way.new ≡ given_with 1 way.old }
+{
+    let _ = way.device.send(datagram);
+}
+
+/// Gives the device of each way a datagram, whatever becomes of it along the others.
+fn give_each<D: Datagrams>(ways: &mut [Way<ChannelDevice<D>>], datagram: &[u8])
+    ensures { AreGiven 1 ways.old ways.new }
+{
+    for way in ways.iter_mut() {
+        give(way, datagram);
+    }
+}
+
+/// The same over what it sends with.
+fn give_all<D: Datagrams>(duty: &mut Duty<GroupDevice<D>>, datagram: &[u8])
+    ensures { AreGiven 1 duty.old.device.ways duty.new.device.ways }
+{
+    give_each(duty.device_mut().each_mut(), datagram);
+}
+
 /// Tells the receivers along all ways where the stream ends: five times, 20 ms apart.
 fn tell_end<R: Clock, D: Datagrams>(
     context: &PublisherContext<'_, R>,
@@ -66,13 +90,13 @@ fn tell_end<R: Clock, D: Datagrams>(
     tail: u64,
 )
     requires { tail ≤ max_position context.now.plan.now.geometry }
+    ensures { AreGiven 5 duty.old.device.ways duty.new.device.ways }
 {
     let farewell = farewell_bytes(&sent_by(context.plan), tail);
-    for count in 0..FAREWELLS {
-        if count > 0 {
-            let _ = thread::sleep(context.rt, Duration::from_millis(FAREWELL_PAUSE));
-        }
-        let _ = duty.device_mut().send(&farewell);
+    give_all(duty, &farewell);
+    for _count in 1..FAREWELLS {
+        let _ = thread::sleep(context.rt, Duration::from_millis(FAREWELL_PAUSE));
+        give_all(duty, &farewell);
     }
 }
 
@@ -82,6 +106,7 @@ fn bid_farewell<R: Clock, D: Datagrams>(
     duty: &mut Duty<GroupDevice<D>>,
     ending: &Result<Ending, PublishFault>,
 )
+    ensures told { OnOk ending.now (AreGiven 5 duty.old.device.ways duty.new.device.ways) }
     ensures quiet { OnErr ending.now (duty.new ≡ duty.old) }
 {
     if ending.is_ok() {
