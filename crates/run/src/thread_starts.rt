@@ -3,7 +3,8 @@
 //! What a thread promises is known of a closure that holds plain references, and not of one that holds a struct of them: so
 //! the context is taken apart before such a closure, and put together in it.
 
-ghost use Rattle.std.specs.Prelude.{◌≡◌, ◌≤◌, ◌<◌, ◌^◌, IfOk, length};
+ghost use Rattle.std.specs.Prelude.{◌≡◌, ◌≤◌, ◌<◌, ◌^◌, IfErr, IfOk, length};
+ghost use Rattle.endpoint.specs.declared.device_error.DeviceError.TheVariants.{Device};
 ghost use Rattle.shared_log.specs.Books.{IsDone};
 ghost use Rattle.shared_log.specs.Parts.{IsNewReader};
 ghost use Rattle.run_parties.specs.Messages.{HasPublished};
@@ -81,7 +82,8 @@ pub fn start_publisher<'s, S, R: Clock + Sync, G: Gate + Sync>(
 ) -> Result<Publishing, DeviceError>
     requires done { IsDone agents.now.context.now.state.now.log publisher }
     requires set { IsSet agents.now.context.now.state.now.log agents.now.size }
-    ensures { IfOk result (λ h. (h.promise.log.value ≡ agents.now.context.now.state.now.log) × (h.promise.before.value ≡ publisher) × (h.promise.task ≡ agents.now.size.task)) }
+    ensures promises { IfOk result (λ h. (h.promise.log.value ≡ agents.now.context.now.state.now.log) × (h.promise.before.value ≡ publisher) × (h.promise.task ≡ agents.now.size.task)) }
+    ensures fault { IfErr result (λ f. f ≡ Device) }
 {
     let task = agents.size.task;
     let &Context {
@@ -123,6 +125,7 @@ pub fn start_sender<'s, S, R: Wait + Clock + Sync, D: Datagrams + Send + Drop + 
     requires reader { IsNewReader agents.now.context.now.state.now.log 0 reader }
     requires set { IsSet agents.now.context.now.state.now.log agents.now.size }
     requires queue { client.queue ≡ agents.now.context.now.state.now.conductor }
+    ensures { IfErr result (λ f. f ≡ Device) }
 {
     let Ok(handle) = scope.spawn(move || send(agents.context, device, reader, client)) else {
         return Err(agents.context.state.halt());
@@ -146,6 +149,7 @@ pub fn start_receiver<
     requires set { IsSet agents.now.context.now.state.now.log agents.now.size }
     ensures log { IfOk result (λ r. (r.handle.promise.log.value ≡ agents.now.context.now.state.now.log) × (r.handle.promise.size ≡ agents.now.size)) }
     ensures who { IfOk result (λ r. (r.handle.promise.number ≡ waiting.number) × (r.handle.promise.device.value ≡ waiting.device)) }
+    ensures fault { IfErr result (λ f. f ≡ Device) }
 {
     let size = agents.size;
     let number = waiting.number;
@@ -192,7 +196,8 @@ pub fn start_conductor<'s, S, R: Wait + Clock + Sync, G: Gate + Sync>(
 ) -> Result<Steering, DeviceError>
     requires keeper { IsKept agents.now.context.now.state.now.log keeper }
     requires taker { taker.queue ≡ agents.now.context.now.state.now.conductor }
-    ensures { IfOk result (λ h. h.promise.log.value ≡ agents.now.context.now.state.now.log) }
+    ensures promises { IfOk result (λ h. h.promise.log.value ≡ agents.now.context.now.state.now.log) }
+    ensures fault { IfErr result (λ f. f ≡ Device) }
 {
     let &Context {
         rt,

@@ -1,15 +1,15 @@
 //! What the starting thread does while the others run.
 
-ghost use Rattle.std.specs.Prelude.{◌≡◌};
+ghost use Rattle.std.specs.Prelude.{◌≡◌, Some};
 ghost use Rattle.std.specs.Arc.{arc_value};
-ghost use Rattle.run.specs.Doings.{done_since};
+ghost use Rattle.run.specs.Doings.{done_since, done_text, readings_text};
 
 use counters::{CounterReader, Counters, Readings};
 use run_parties::{Done, RunState};
 use std::io::Write;
 use std::sync::{Arc, Wait};
-use std::thread;
 use std::time::{Clock, Duration};
+use std::{fmt, thread};
 
 /// How often it looks whether all is to stop, in milliseconds, and after how many looks it tells what was done.
 const LOOK: u64 = 1;
@@ -51,24 +51,50 @@ fn done_since(before: Done, done: Done) -> Done
     }
 }
 
+/// A receiver's positions, as a line has them.
+#[derive(Clone, Copy)]
+struct ReadingsText(Readings);
+
+impl fmt::Display for ReadingsText {
+    ghost output = { λ text. Some (readings_text text.0) };
+
+    fn fmt<W: fmt::Write>(&self, f: &mut fmt::Formatter<W>) -> fmt::Result {
+        let Readings {
+            least,
+            rebuilt,
+            high_water,
+        } = self.0;
+        write!(f, "least {least} rebuilt {rebuilt} high-water {high_water}")
+    }
+}
+
+/// What was done, as a line has it.
+#[derive(Clone, Copy)]
+struct DoneText(Done);
+
+impl fmt::Display for DoneText {
+    ghost output = { λ text. Some (done_text text.0) };
+
+    fn fmt<W: fmt::Write>(&self, f: &mut fmt::Formatter<W>) -> fmt::Result {
+        let Done {
+            sent,
+            resent,
+            polled,
+        } = self.0;
+        write!(f, "sent {sent} resent {resent} polled {polled}")
+    }
+}
+
 impl<E: Write> Watch<E> {
     /// A line: the three positions of each receiver, and what was done since the line before.
     fn tell<R: Wait>(&mut self, rt: &R, state: &RunState, before: Done) -> Done {
         let done = state.done();
         for shown in self.shown.iter_mut() {
-            let readings = shown.read(rt);
-            let _ = write!(
-                self.errors,
-                "least {} rebuilt {} high-water {} ",
-                readings.least, readings.rebuilt, readings.high_water
-            );
+            let readings = ReadingsText(shown.read(rt));
+            let _ = write!(self.errors, "{readings} ");
         }
-        let since = done_since(before, done);
-        let _ = writeln!(
-            self.errors,
-            "sent {} resent {} polled {}",
-            since.sent, since.resent, since.polled
-        );
+        let since = DoneText(done_since(before, done));
+        let _ = writeln!(self.errors, "{since}");
         done
     }
 
