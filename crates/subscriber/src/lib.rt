@@ -7,7 +7,7 @@
 //! While the session isn't silent no SETUP changes anything; of a silent one a SETUP of its own ties the device to
 //! who sent it and changes nothing else, and another one that would open an image opens it, with the next number, in
 //! the old one's place (`attend`). A subscriber ends whole or short only as `IsEnding` says, by where its consumer
-//! stands (`follow`).
+//! stands (`follow`), and in all as `HasEnded` says: one that had no image has written nothing, and was quiet.
 //!
 //! A cycle that succeeds has polled up to 256 messages and as many as were asked for, all that were there if they are
 //! fewer, and a writer that tells what it holds has grown by exactly these, in order, each spelled by its form; then
