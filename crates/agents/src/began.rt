@@ -1,15 +1,23 @@
 //! The moment from which a run counts time.
 
-ghost use Rattle.std.specs.Prelude.{◌≡◌, IfErr};
+ghost use Rattle.std.specs.Prelude.{◌≡◌, ◌-◌, ◌^◌, min, IfErr};
+ghost use Rattle.std.specs.Duration.{as_nanos};
 ghost use Rattle.endpoint.specs.declared.device_error.DeviceError.TheVariants.{Device};
 
 use endpoint::DeviceError;
-use std::time::{Clock, Instant};
+use std::time::{Clock, Duration, Instant};
 
 /// The moment from which time is counted.
 #[derive(Clone, Copy)]
 pub struct Began {
     at: Instant,
+}
+
+/// A time in nanoseconds; the greatest `u64` where it is more.
+fn nanoseconds(time: Duration) -> u64
+    ensures { result ≡ min (as_nanos time) (2 ^ 64 - 1) }
+{
+    u64::try_from(time.as_nanos()).unwrap_or(u64::MAX)
 }
 
 impl Began {
@@ -29,7 +37,7 @@ impl Began {
         ensures { IfErr result (λ error. error ≡ Device) }
     {
         match self.at.elapsed(rt) {
-            Ok(time) => Ok(u64::try_from(time.as_nanos()).unwrap_or(u64::MAX)),
+            Ok(time) => Ok(nanoseconds(time)),
             Err(_) => Err(DeviceError::Device),
         }
     }
