@@ -9,10 +9,12 @@
 //! is how a publisher to one ends (`ends_as_one`).
 //!
 //! Its reading and what is left of its input are as with one subscriber (`publish_group_over`, by `EndsInput`, over any reader
-//! and any devices); its log isn't closed. Where it ends whole, the reading has ended at the input's end, and what was accepted of it has
-//! arrived along as many ways as it began with (`AllHaveArrived`; `publish_group`, by `PublishesAllAlong`). The lines that name
-//! a way are exact, and so is how often the stream's end is told along each. That ways keep their numbers while datagrams go along
-//! them isn't said, nor what a group's sender gives out.
+//! and any devices); its log isn't closed. Where it ends whole, the reading has ended at the input's end, and what was accepted
+//! of it has arrived along as many ways as it began with (`AllHaveArrived`; `publish_group`, by `PublishesAllAlong`). In a
+//! cycle it keeps the log (`KeepsLog`), and its core hears what came along the ways and is told the moment last (`CyclesAt`); a
+//! fault is the devices' or the reading's, and no other (`FailsBy`). The lines that name a way are exact, and so is how often
+//! the stream's end is told along each, one by one. That ways keep their numbers while datagrams go along them isn't said, nor
+//! that what a group's sender gives out is honest for its stream.
 #![tactic(auto)]
 
 mod ending;

@@ -7,6 +7,9 @@
 //! (`setups_are_honest`): each DATA frame and padding is
 //! a committed frame of it, in its place, and each SETUP names its shape. So a subscriber that was handed nothing but such
 //! datagrams, in any order and each any number of times, polls a run of the stream (`polls_what_is_sent`).
+//!
+//! A cycle without a fault ends with a moment that the core is told: to one receiver its life goes up to there (`LivedTo`), and
+//! to one or a group it has heard datagrams at that moment before (`CyclesAt`).
 #![tactic(auto)]
 
 ghost use Rattle.sender_meaning.specs.Lives.{GivesHonest, KeepsItsReader, PollsWhatIsSent, SetupsAreHonest};
