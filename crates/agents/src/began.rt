@@ -14,7 +14,7 @@ pub struct Began {
 }
 
 /// A time in nanoseconds; the greatest `u64` where it is more.
-fn nanoseconds(time: Duration) -> u64
+pub fn nanoseconds(time: Duration) -> u64
     ensures { result ≡ min (as_nanos time) (2 ^ 64 - 1) }
 {
     u64::try_from(time.as_nanos()).unwrap_or(u64::MAX)

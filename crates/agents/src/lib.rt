@@ -43,7 +43,7 @@ mod sender_agent;
 mod sender_party;
 mod sending;
 
-pub use began::Began;
+pub use began::{Began, nanoseconds};
 pub use conductor_agent::conduct;
 pub use duty::{CYCLE_DATAGRAMS, Denied, Duty, faults_are_explained};
 pub use idle_strategy::IdleStrategy;

@@ -34,11 +34,8 @@ fn open_with<'a, F: FlowControl + Drop>(
     ensures new { IfOk result (IsNewSenderBy flow log.now reader) }
     ensures sends { IfOk result (SendsLog log.now) }
 {
-    let (identity, start) = (log.identity(), log.start());
-    let geometry = identity.geometry();
-    let (session, stream) = (identity.session(), identity.stream());
     let reads = LogFrames { log, reader };
-    match SenderCore::new(alloc, geometry, session, stream, start, reads, flow) {
+    match SenderCore::new(alloc, log.identity(), log.start(), reads, flow) {
         Ok(core) => Ok(SenderAgent::new(core)),
         Err(_) => Err(AllocError),
     }

@@ -12,7 +12,7 @@ ghost use Rattle.claims.specs.Claimings.{AddsRange, ArmsFor, DeniesMessage, Goes
 use crate::claim::Claim;
 use crate::claimant::Claimant;
 use crate::denied::Denied;
-use publication::{Look, Refusal, add_range, look_at, rotate};
+use publication::{Look, Refusal, add_range, look_at};
 use shared_log::{Log, OnLog, Publisher};
 use std::marker::Model;
 
@@ -76,11 +76,7 @@ fn turn_from(words: &mut OnLog, publisher: &mut Publisher, count: u32) -> Refusa
     ensures turns { Takes (TurnsFrom (geometry_of publisher.old.pass) count) publisher.old.pass publisher.new.pass }
     ensures why { EndsTerm count result }
 {
-    if count == i32::MAX as u32 {
-        return Refusal::MaxPositionExceeded;
-    }
-    rotate(words, publisher, count);
-    Refusal::AdminAction
+    publication::turn_from(words, publisher, count)
 }
 
 impl Armed {

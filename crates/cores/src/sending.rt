@@ -72,8 +72,7 @@ impl SenderPass {
             return Err((Fault::Memory, reader));
         };
         let flow = StreamFlow::new(start, group_of(group));
-        let (session, stream) = (identity.session(), identity.stream());
-        match SenderCore::new(alloc, geometry, session, stream, start, reader, flow) {
+        match SenderCore::new(alloc, identity, start, reader, flow) {
             Ok(core) => Ok(SenderPass {
                 core,
                 outbox,

@@ -29,5 +29,5 @@ pub use device_error::DeviceError;
 pub use failing::FailingDatagrams;
 pub use fan::Fan;
 pub use memory::MemoryDevice;
-pub use udp::{Binding, Route, UdpDevice};
+pub use udp::{Binding, Route, UdpDevice, is_loss};
 pub use ways::Ways;

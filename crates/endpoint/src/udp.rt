@@ -73,8 +73,8 @@ fn open<R: Net>(rt: &R, binding: &Binding) -> io::Result<(UdpSocket, u16)> {
     Ok((socket, port))
 }
 
-/// The system isn't ready, or the peer's port is closed.
-fn is_loss(error: &io::Error) -> bool
+/// Whether a call that failed so has lost a datagram: the system isn't ready, or the peer's port is closed.
+pub fn is_loss(error: &io::Error) -> bool
     ensures { IsTrue result ↔ ((error_kind error.now ≡ ErrorKind.WouldBlock) ⊎ (error_kind error.now ≡ ErrorKind.ConnectionRefused)) }
 {
     let kind = error.kind();

@@ -22,7 +22,8 @@ use endpoint::{Datagrams, DeviceError};
 use offering::{InputEnd, Reader};
 use peer::{Attendance, farewell_bytes};
 use publisher::{
-    ChannelDevice, Ending, PublishFault, PublisherContext, ended, input_end, reading_left, sent_by,
+    ChannelDevice, Ending, PublishFault, PublisherContext, ended, input_end, planned_stream,
+    reading_left,
 };
 use std::alloc::{AllocError, Global};
 use std::io::{BufRead, Write};
@@ -92,7 +93,7 @@ fn tell_end<R: Clock, D: Datagrams>(
     requires { tail ≤ max_position context.now.plan.now.geometry }
     ensures { AreGiven 5 duty.old.device.ways duty.new.device.ways }
 {
-    let farewell = farewell_bytes(&sent_by(context.plan), tail);
+    let farewell = farewell_bytes(&planned_stream(context.plan), tail);
     give_all(duty, &farewell);
     for _count in 1..FAREWELLS {
         let _ = thread::sleep(context.rt, Duration::from_millis(FAREWELL_PAUSE));

@@ -3,14 +3,14 @@
 //!
 //! `every_run` is the headline: for every opened world and every list of events the stream is tiled and the shares
 //! add up, rebuilt bytes are the publisher's, consumers stay below the contiguous end, and what was polled is a
-//! prefix's messages. Beside it: there is room, nothing readable is cleaned, entries are published ones, each frame
-//! that was sent has a spelling, and the gap that an image tells is its first one.
+//! prefix's messages. Beside it: there is room, nothing readable is cleaned, entries are published ones, and each frame
+//! that was sent has a spelling.
 //!
 //! Each function stands for a law; it does nothing, and its contract is the law. `a_run`: there are such runs.
 //! `shares_follow_owners`: shares follow their owners, and a retired number is retired for good. `messages_between`:
 //! frames that follow each other are assembled to the messages between their ends, none of which is longer than the
-//! greatest. `computes_end_and_gap`: the computed contiguous end and gap are the defined ones, and a unit has one
-//! content. `cycle_sends`: a cycle and a resend send what a sender may send, and a cycle all of it. `steps_keep`: a
+//! greatest. `computes_end_and_gap`: the computed contiguous end and gap are the defined ones, a unit has one content, and
+//! the gap that an image tells is its first one. `cycle_sends`: a cycle and a resend send what a sender may send, and a cycle all of it. `steps_keep`: a
 //! limit never falls, and no clock does.
 //!
 //! No contract here says that anything happens, or that a message is what its publisher meant: `offer` and `commit`
@@ -49,11 +49,13 @@ pub fn messages_between()
     ensures short { Always AreShort }
 {}
 
-/// The contiguous end and the gap that are computed are the ones that are defined; a unit has one content.
+/// The contiguous end and the gap that are computed are the ones that are defined; a unit has one content. After every list
+/// of events the gap that an image tells is its first one.
 pub fn computes_end_and_gap()
     ensures end { ComputesContiguous }
     ensures gap { ComputesGap }
     ensures content { HasOneContent }
+    ensures told { Always AreGapsTold }
 {}
 
 /// What a cycle sends is what a sender may send, as much as may go, in datagrams of the grammar within the MTU; a resend
@@ -92,6 +94,4 @@ pub fn every_run()
     ensures entries { Always ArePublished }
     // Each frame that was ever sent has a spelling.
     ensures spelled { Always AreSpelled }
-    // The gap that an image tells is its first one.
-    ensures gaps { Always AreGapsTold }
 {}

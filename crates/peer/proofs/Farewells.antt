@@ -2,11 +2,11 @@
 use Rattle.std.proofs.Common.{◌≡◌, ◌∙◌, ◌≤◌, ℕ, ℤ, pos, Option, None, Some, refl, sym, ap, arith}
 use Rattle.std.specs.Prelude.{◌+ℤ◌, ◌*ℤ◌, IfSome, IfNone}
 use Rattle.std.specs.Int.{w32, int_wrapping_sub}
+use Rattle.theory.specs.Bytes.{Identity}
 use Rattle.theory.specs.Position.{Geometry, IsGeometry, max_position, position_of}
 use Rattle.theory.specs.Wire.{Setup}
 use Rattle.theory.proofs.Named.{names_place}
 use Rattle.theory.specs.Setup.{NamesGeometry}
-use Rattle.peer.specs.declared.attended.Sent.{Sent}
 use Rattle.peer.specs.Farewells.{EndsAt, FarewellsTellEnds, IsFarewell, farewell_fields}
 
 same_pos : (a b : ℕ) → pos a ≡ pos b → a ≡ b
@@ -26,7 +26,7 @@ pub ends_nowhere : (session stream : ℤ) (f : Setup) (shape : Geometry) (r : Op
 ends_nowhere session stream f shape None named not = λ end e. not end (one_place f shape e.shape named e.named ∙ e.here)
 ends_nowhere session stream f shape (Some end) named not = not
 
-only : (s : Sent) (tail end : ℕ) → IsGeometry s.geometry → tail ≤ max_position s.geometry → EndsAt s.session s.stream (farewell_fields s tail) end → end ≡ tail
+only : (s : Identity) (tail end : ℕ) → IsGeometry s.geometry → tail ≤ max_position s.geometry → EndsAt s.session s.stream (farewell_fields s tail) end → end ≡ tail
 only s tail end is low e =
     let same : position_of e.shape (farewell_fields s tail).active_term_id (farewell_fields s tail).term_offset ≡ position_of s.geometry (farewell_fields s tail).active_term_id (farewell_fields s tail).term_offset = one_place (farewell_fields s tail) e.shape s.geometry e.named (record { term_length = refl; mtu = refl; initial = refl; legal = is }) in
     same_pos end tail (sym e.here ∙ same ∙ names_place s.geometry tail is low)

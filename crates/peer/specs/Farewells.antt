@@ -5,14 +5,10 @@ use Rattle.theory.specs.Control.{setup_fields}
 use Rattle.theory.specs.Position.{Geometry, IsGeometry, max_position, position_of}
 use Rattle.theory.specs.Setup.{NamesGeometry}
 use Rattle.theory.specs.Wire.{Wire, DATA, PAD, HEARTBEAT, NAK, SM, SETUP, Setup}
-use Rattle.peer.specs.declared.attended.Sent.{Sent}
-
-abbrev pub identity_of : Sent → Identity
-identity_of s = record { geometry = s.geometry; session = s.session; stream = s.stream }
 
 -- the sender's SETUP at the position where the stream ends, but for the time to live
-abbrev pub farewell_fields : Sent → ℕ → Setup
-farewell_fields s tail = record (setup_fields (identity_of s) tail) { ttl = negsuc 0 }
+abbrev pub farewell_fields : Identity → ℕ → Setup
+farewell_fields s tail = record (setup_fields s tail) { ttl = negsuc 0 }
 
 -- it tells an end of this session's stream
 pub record IsFarewell (session stream : ℤ) (f : Setup) : Type 0 where
@@ -37,10 +33,10 @@ TellsEnd session stream (SM asks f) end = ⊥
 TellsEnd session stream (SETUP f) end = EndsAt session stream f end
 
 -- the farewell of a stream tells that stream's end, and no other
-pub record TellsItsEnd (s : Sent) (tail : ℕ) : Type 0 where
+pub record TellsItsEnd (s : Identity) (tail : ℕ) : Type 0 where
   pub told : TellsEnd s.session s.stream (SETUP (farewell_fields s tail)) tail
   pub only : (end : ℕ) → TellsEnd s.session s.stream (SETUP (farewell_fields s tail)) end → end ≡ tail
 
 -- that of any stream, at any position that it can come to
 abbrev pub FarewellsTellEnds : Type 0
-FarewellsTellEnds = (s : Sent) (tail : ℕ) → IsGeometry s.geometry → tail ≤ max_position s.geometry → TellsItsEnd s tail
+FarewellsTellEnds = (s : Identity) (tail : ℕ) → IsGeometry s.geometry → tail ≤ max_position s.geometry → TellsItsEnd s tail

@@ -1,6 +1,7 @@
 -- What a contract sees of a publisher's device, and what a datagram makes of it.
 use Rattle.std.specs.Prelude.{◌≡◌, ℕ, ◌+◌, ◌%◌, ◌^◌, ℤ, Bool, true, false, pos, negsuc, nat_lt, if◌then◌else◌, min, List, [], length, take, Option, None, Some, Result, Ok, Err}
 use Rattle.std.specs.Int.{cast_signed, w32}
+use Rattle.theory.specs.Bytes.{Identity}
 use Rattle.theory.specs.Position.{position_of}
 use Rattle.theory.specs.Wire.{Header, Nak, Wire, DATA, PAD, HEARTBEAT, NAK, SM, SETUP, SpellsDatagram, spelling}
 use Rattle.frames.specs.Datagrams.{IsDatagramFault}
@@ -13,7 +14,6 @@ use Rattle.endpoint.specs.declared.datagrams.DeviceFailed.{DeviceFailed}
 use Rattle.peer.specs.Attending.{after_status, nobody}
 use Rattle.peer.specs.Screening.{asked_bytes, is_handed, verdict_of}
 use Rattle.peer.specs.declared.attendance.Attendance.{Attendance}
-use Rattle.peer.specs.declared.attended.Sent.{Sent}
 use Rattle.peer.specs.declared.screen.Bounds.{Bounds}
 use Rattle.peer.specs.declared.screen.Verdict.{Verdict}
 use Rattle.peer.specs.declared.screen.Verdict.TheVariants.{Passes, Tells, Misses, Disbelieved, Held}
@@ -21,7 +21,7 @@ use Rattle.peer.specs.declared.watch.Tally.{Tally}
 
 -- the stream, what was heard of it, and what the next frame is judged by
 pub record Watched : Type 0 where
-  pub sent : Sent
+  pub sent : Identity
   pub attendance : Attendance
   pub bounds : Bounds
   -- a negative acknowledgement that is held back
@@ -35,7 +35,7 @@ pub record Watching (D : Type 0) : Type 0 where
   pub watch : Watched
 
 -- nothing of the stream was sent or heard yet
-abbrev pub new_watch : Sent → ℕ → Watched
+abbrev pub new_watch : Identity → ℕ → Watched
 new_watch sent start = record {
   sent = sent;
   attendance = nobody start;
@@ -45,7 +45,7 @@ new_watch sent start = record {
   nones = 0;
 }
 
-abbrev pub watching : {D : Type 0} → D → Sent → ℕ → Watching D
+abbrev pub watching : {D : Type 0} → D → Identity → ℕ → Watching D
 watching inner sent start = record { inner = inner; watch = new_watch sent start }
 
 -- as a device it fails where the inner one does, finds nothing where it screens, and doesn't tell what it carried

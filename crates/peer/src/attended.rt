@@ -11,19 +11,11 @@ use crate::attendance::Attendance;
 use crate::watch::{Tally, Watch};
 use endpoint::{Datagrams, DeviceFailed};
 use frames::{Frame, Nak, write_frame};
-use position::Geometry;
+use position::Identity;
 use std::marker::Model;
 
 /// The bytes of a negative acknowledgement.
 const NAK_BYTES: usize = 28;
-
-/// Which stream a publisher sends, and its shape.
-#[derive(Clone, Copy)]
-pub struct Sent {
-    pub geometry: Geometry,
-    pub session: i32,
-    pub stream: i32,
-}
 
 /// A device that screens what comes of a stream, notes which receivers it hears, and counts what it sends.
 ///
@@ -58,7 +50,7 @@ fn put_nak(nak: Nak, buffer: &mut [u8]) -> usize
 
 impl<D> Attended<D> {
     /// A device round this one that has heard nobody yet of a stream that begins here.
-    pub fn new(inner: D, sent: Sent, start: u64) -> Attended<D>
+    pub fn new(inner: D, sent: Identity, start: u64) -> Attended<D>
         ensures { result ≡ watching inner sent start }
     {
         Attended {

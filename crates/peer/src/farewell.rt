@@ -7,9 +7,8 @@ ghost use Rattle.theory.specs.Wire.{IsFrame, SETUP, spelling};
 ghost use Rattle.frames.specs.Frames.{setup_of, wire};
 ghost use Rattle.peer.specs.Farewells.{EndsAt, FarewellsTellEnds, IsFarewell, TellsEnd, farewell_fields};
 
-use crate::attended::Sent;
 use frames::{Frame, Setup, write_frame};
-use position::Geometry;
+use position::{Geometry, Identity};
 
 /// The time to live of a SETUP that tells an end. A sender writes 0.
 const FAREWELL: i32 = -1;
@@ -18,26 +17,26 @@ const FAREWELL: i32 = -1;
 const SETUP_BYTES: usize = 40;
 
 /// The SETUP that tells that a stream ends at this position.
-pub fn farewell_of(sent: &Sent, tail: u64) -> Setup
+pub fn farewell_of(sent: &Identity, tail: u64) -> Setup
     requires { tail ≤ max_position sent.now.geometry }
     ensures fields { setup_of result ≡ farewell_fields sent.now tail }
     ensures legal { IsFrame (SETUP (setup_of result)) }
 {
-    let place = sent.geometry.term_of(tail);
+    let place = sent.geometry().term_of(tail);
     Setup {
         term_offset: place.offset.cast_signed(),
-        session: sent.session,
-        stream: sent.stream,
-        initial_term_id: sent.geometry.initial_term_id(),
+        session: sent.session(),
+        stream: sent.stream(),
+        initial_term_id: sent.geometry().initial_term_id(),
         active_term_id: place.term_id,
-        term_length: sent.geometry.term_length().cast_signed(),
-        mtu: sent.geometry.mtu().cast_signed(),
+        term_length: sent.geometry().term_length().cast_signed(),
+        mtu: sent.geometry().mtu().cast_signed(),
         ttl: FAREWELL,
     }
 }
 
 /// Its bytes, which are a datagram.
-pub fn farewell_bytes(sent: &Sent, tail: u64) -> [u8; SETUP_BYTES]
+pub fn farewell_bytes(sent: &Identity, tail: u64) -> [u8; SETUP_BYTES]
     requires { tail ≤ max_position sent.now.geometry }
     ensures { result ≡ spelling (SETUP (farewell_fields sent.now tail)) }
 {

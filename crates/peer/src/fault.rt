@@ -1,10 +1,8 @@
-ghost use Rattle.std.specs.Prelude.{◌≡◌, ◌⊎◌, ◌↔◌, Some, IsTrue};
-ghost use Rattle.std.specs.IoError.{error_kind};
+ghost use Rattle.std.specs.Prelude.{◌≡◌, Some};
 ghost use Rattle.peer.specs.Texts.{text_of};
 
 use endpoint::DeviceError;
-use std::io::ErrorKind;
-use std::{fmt, io};
+use std::fmt;
 use thiserror::Error;
 
 /// Why a subscriber's end can't be had.
@@ -37,12 +35,4 @@ impl BindError {
             BindError::Failed(error) => error.text(),
         }
     }
-}
-
-/// The system isn't ready, or the peer's port is closed.
-pub(crate) fn is_loss(error: &io::Error) -> bool
-    ensures { IsTrue result ↔ ((error_kind error.now ≡ ErrorKind.WouldBlock) ⊎ (error_kind error.now ≡ ErrorKind.ConnectionRefused)) }
-{
-    let kind = error.kind();
-    kind == ErrorKind::WouldBlock || kind == ErrorKind::ConnectionRefused
 }

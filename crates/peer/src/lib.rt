@@ -40,7 +40,7 @@ mod tied;
 mod watch;
 
 pub use attendance::{Attendance, Heard};
-pub use attended::{Attended, Sent};
+pub use attended::Attended;
 pub use ending::{Ending, one_from_the_start};
 pub use farewell::{end_told, farewell_bytes, farewell_of, farewells_tell_ends};
 pub use fault::BindError;

@@ -7,9 +7,9 @@ ghost use Rattle.frames.specs.Frames.{status_of};
 ghost use Rattle.peer.specs.StatusSockets.{unused};
 ghost use Rattle.peer.specs.Ties.{asking, hearing_anybody, with_came};
 
-use crate::fault::{BindError, is_loss};
+use crate::fault::BindError;
 use crate::status_socket::{STATUS_BYTES, StatusSocket};
-use endpoint::{Binding, DeviceError, DeviceFailed, GREATEST_DATAGRAM};
+use endpoint::{Binding, DeviceError, DeviceFailed, GREATEST_DATAGRAM, is_loss};
 use frames::{Frame, Status, write_frame};
 use std::alloc::Global;
 use std::io;

@@ -5,8 +5,8 @@ ghost use Rattle.theory.specs.Wire.{Status as Told, Nak as Missed};
 ghost use Rattle.frames.specs.Frames.{asks_of, nak_of, status_of, wire};
 ghost use Rattle.peer.specs.Screening.{asked_bytes, believed_verdict, has_room, half_term, is_at_most, is_believed, is_handed, is_own, nak_verdict, status_verdict, told_at, told_position, verdict_of};
 
-use crate::attended::Sent;
 use frames::{Frame, Nak, Status};
+use position::Identity;
 
 /// What a publisher judges by in a cycle.
 #[derive(Clone, Copy, Debug, PartialEq, Eq)]
@@ -46,18 +46,18 @@ impl Verdict {
 }
 
 /// The greatest window of a receiver of the stream.
-fn half_term(sent: &Sent) -> u64
+fn half_term(sent: &Identity) -> u64
     ensures value { result ≡ half_term sent.now }
     ensures small { result < 2 ^ 32 }
 {
-    u64::from(sent.geometry.term_length() / 2)
+    u64::from(sent.geometry().term_length() / 2)
 }
 
 /// Whether these ids are the stream's.
-fn is_own(sent: &Sent, session: i32, stream: i32) -> bool
+fn is_own(sent: &Identity, session: i32, stream: i32) -> bool
     ensures { result ≡ is_own sent.now session stream }
 {
-    session == sent.session && stream == sent.stream
+    session == sent.session() && stream == sent.stream()
 }
 
 #[tactic(auto, using(crate::proofs::Screened::low_enough, crate::proofs::Screened::below_all))]
@@ -82,14 +82,14 @@ fn told_at(receiver: i64, position: i64) -> Verdict
 }
 
 /// The position that a status message tells.
-fn told_position(sent: &Sent, status: &Status) -> i64
+fn told_position(sent: &Identity, status: &Status) -> i64
     ensures { result ≡ told_position sent.now (status_of status.now) }
 {
-    sent.geometry.position(status.term_id, status.term_offset)
+    sent.geometry().position(status.term_id, status.term_offset)
 }
 
 /// Whether a receiver of what was sent can mean this.
-fn is_believed(sent: &Sent, sent_to: u64, status: &Status) -> bool
+fn is_believed(sent: &Identity, sent_to: u64, status: &Status) -> bool
     ensures { result ≡ is_believed sent.now sent_to (status_of status.now) }
 {
     is_at_most(told_position(sent, status), sent_to)
@@ -97,7 +97,7 @@ fn is_believed(sent: &Sent, sent_to: u64, status: &Status) -> bool
 }
 
 /// What a status message tells that is believed.
-fn believed_verdict(sent: &Sent, asks: bool, status: &Status) -> Verdict
+fn believed_verdict(sent: &Identity, asks: bool, status: &Status) -> Verdict
     ensures { result ≡ believed_verdict sent.now (asks_of asks) (status_of status.now) }
 {
     if asks {
@@ -106,7 +106,7 @@ fn believed_verdict(sent: &Sent, asks: bool, status: &Status) -> Verdict
     told_at(status.receiver, told_position(sent, status))
 }
 
-fn status_verdict(sent: &Sent, bounds: &Bounds, asks: bool, status: &Status) -> Verdict
+fn status_verdict(sent: &Identity, bounds: &Bounds, asks: bool, status: &Status) -> Verdict
     ensures { result ≡ status_verdict sent.now bounds.now (asks_of asks) (status_of status.now) }
 {
     if is_believed(sent, bounds.sent_to, status) {
@@ -139,7 +139,7 @@ fn has_room(asked: Option<u64>, bytes: u64, most: u64) -> bool
     }
 }
 
-fn nak_verdict(sent: &Sent, bounds: &Bounds, nak: &Nak) -> Verdict
+fn nak_verdict(sent: &Identity, bounds: &Bounds, nak: &Nak) -> Verdict
     ensures { result ≡ nak_verdict sent.now bounds.now (nak_of nak.now) }
 {
     let bytes = asked_bytes(nak.length);
@@ -155,7 +155,7 @@ fn nak_verdict(sent: &Sent, bounds: &Bounds, nak: &Nak) -> Verdict
 /// A status message of the stream is believed where its position isn't above what was sent and its window no more than half
 /// a term. A negative acknowledgement of the stream is handed over where it is the cycle's first, or those of the cycle
 /// together ask for half a term at the most; a negative length asks for nothing. Any other frame passes.
-pub fn judge(sent: &Sent, bounds: &Bounds, frame: &Frame<'_>) -> Verdict
+pub fn judge(sent: &Identity, bounds: &Bounds, frame: &Frame<'_>) -> Verdict
     ensures { result ≡ verdict_of sent.now bounds.now (wire frame.now) }
 {
     match *frame {

@@ -9,9 +9,9 @@ ghost use Rattle.peer.specs.Screening.{is_handed, verdict_of};
 ghost use Rattle.peer.specs.Watching.{CountsHanded, CountsRefused, Gives, Screens, after_frame, after_verdict, begins_below, disbelieving, given, header_in, held_after, is_again, is_below, missed, new_watch, plus_one, refusing, released, told, told_by, with_none};
 
 use crate::attendance::Attendance;
-use crate::attended::Sent;
 use crate::screen::{Bounds, Verdict, asked_bytes, judge};
 use frames::{FaultCounts, Frame, FrameError, Header, Nak, check_datagram, read_frame};
+use position::Identity;
 use std::marker::Model;
 
 /// What a publisher's device has counted, each modulo 2^64 but for the last.
@@ -34,7 +34,7 @@ pub struct Tally {
 /// The stream, what was heard of it, and what the next frame is judged by.
 #[derive(Drop)]
 pub(crate) struct Watch {
-    sent: Sent,
+    sent: Identity,
     attendance: Attendance,
     bounds: Bounds,
     held: Option<Nak>,
@@ -75,7 +75,7 @@ fn header_in(frame: &Frame<'_>) -> Option<Header>
 
 impl Watch {
     /// Nothing of this stream was sent or heard yet; it begins here.
-    pub(crate) fn new(sent: Sent, start: u64) -> Watch
+    pub(crate) fn new(sent: Identity, start: u64) -> Watch
         ensures { result ≡ new_watch sent start }
     {
         Watch {
@@ -266,7 +266,7 @@ impl Watch {
             return false;
         };
         let offset = header.term_offset.cast_signed();
-        let begin = self.sent.geometry.position(header.term_id, offset);
+        let begin = self.sent.geometry().position(header.term_id, offset);
         is_below(begin, self.bounds.sent_to)
     }
 

@@ -39,5 +39,5 @@ pub use pass::{ClaimRange, Controls, FrameWords, Keeping, Pass, Reading, Right, 
 pub use refusal::Refusal;
 pub use step::WordStep;
 pub use tail::{position_shown, taken, term_offset};
-pub use turn::rotate;
+pub use turn::{rotate, turn_from};
 pub use words::WordCalls;

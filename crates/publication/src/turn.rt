@@ -45,7 +45,7 @@ fn begin_next<W: WordCalls>(words: &mut W, pass: &mut W::Pass, count: u32) -> bo
 
 /// The refusal at the end of the term with this count; the log turns to the next one, if this isn't the last.
 #[inline(always)]
-pub(crate) fn turn_from<W: WordCalls>(words: &mut W, pass: &mut W::Pass, count: u32) -> Refusal
+pub fn turn_from<W: WordCalls>(words: &mut W, pass: &mut W::Pass, count: u32) -> Refusal
     requires fits { W.fits words.old pass.old }
     requires full { (W.pass_of words.old pass.old).seen.full ≡ suc count }
     requires last { count < 2 ^ 31 }

@@ -2,21 +2,16 @@
 use Rattle.loss_injector.specs.Losing.{Losing, begun}
 use Rattle.peer.specs.Patience.{Patient, patient}
 use Rattle.peer.specs.Watching.{Watching, watching}
-use Rattle.peer.specs.declared.attended.Sent.{Sent}
 use Rattle.shared_log.specs.Books.{IsDone}
 use Rattle.shared_log.specs.Handles.{IsNew}
 use Rattle.shared_log.specs.Parts.{IsNewReader}
 use Rattle.options.specs.declared.ends.plans.PublishPlan.{PublishPlan}
-use Rattle.publisher.specs.Openings.{AreOthers, ArePasses, IsPlanned}
+use Rattle.publisher.specs.Openings.{AreOthers, ArePasses, IsPlanned, identity_of}
 use Rattle.publisher.specs.declared.beginning.PublisherParts.{PublisherParts}
-
--- the stream of the plan
-abbrev pub sent_by : PublishPlan → Sent
-sent_by p = record { geometry = p.geometry; session = p.session; stream = p.end.stream }
 
 -- what fails is lost, datagrams get lost by the plan's rates and seed, and what comes of its stream is screened and noted, which starts where the plan says
 abbrev pub device_of : {D : Type 0} → PublishPlan → D → Watching (Losing (Patient D))
-device_of p device = watching (begun (patient device) p.end.rates p.end.seed) (sent_by p) p.start
+device_of p device = watching (begun (patient device) p.end.rates p.end.seed) (identity_of p) p.start
 
 -- a log of the plan with its passes, a queue and a device
 pub record ArePublisherParts {D : Type 0} (p : PublishPlan) (b : PublisherParts D) : Type 0 where

@@ -2,6 +2,7 @@
 use Rattle.std.specs.Prelude.{ℕ, List, [], ◌∷◌, ◌++◌, Option, None, Some, codes, decimal, nat_eq, nat_lt, if◌then◌else◌}
 use Rattle.std.specs.Fmt.{signed_decimal}
 use Rattle.std.specs.Net.Text.{socket_text}
+use Rattle.peer.specs.Texts.{joined}
 use Rattle.peer.specs.declared.attendance.Attendance.{Attendance}
 use Rattle.peer.specs.declared.attendance.Heard.{Heard}
 use Rattle.peer.specs.declared.ending.Ending.{Ending}
@@ -21,12 +22,6 @@ text_of (NoSocket route) = codes "the system gives no socket from " ++ socket_te
 text_of (Failed error) = devices.text_of error
 
 -- ---- lines
-
--- texts one after the other
-abbrev pub joined : List (List ℕ) → List ℕ
-joined [] = []
-joined (text ∷ []) = text
-joined (text ∷ next ∷ texts) = text ++ joined (next ∷ texts)
 
 -- the one that was heard before, and the one that is heard now
 abbrev pub left_text : Heard → List ℕ

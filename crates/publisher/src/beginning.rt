@@ -1,7 +1,7 @@
 //! What a publisher begins with.
 
 ghost use Rattle.std.specs.Prelude.{◌≡◌, IfErr, IfOk};
-ghost use Rattle.publisher.specs.Beginnings.{ArePublisherParts, device_of, sent_by};
+ghost use Rattle.publisher.specs.Beginnings.{ArePublisherParts, device_of};
 ghost use Rattle.publisher.specs.Openings.{identity_of};
 
 use crate::fault::PublishFault;
@@ -13,7 +13,7 @@ use endpoint::{Datagrams, DeviceError};
 use loss_injector::Lossy;
 use offering::OfferingState;
 use options::PublishPlan;
-use peer::{Attended, PatientDevice, Sent};
+use peer::{Attended, PatientDevice};
 use position::Identity;
 use shared_log::{LogReader, Publisher};
 use std::alloc::Global;
@@ -32,14 +32,10 @@ pub struct PublisherParts<D> {
 }
 
 /// Which stream a plan sends, and its shape.
-pub fn sent_by(plan: &PublishPlan) -> Sent
-    ensures { result ≡ sent_by plan.now }
+pub fn planned_stream(plan: &PublishPlan) -> Identity
+    ensures { result ≡ identity_of plan.now }
 {
-    Sent {
-        geometry: plan.geometry,
-        session: plan.session,
-        stream: plan.end.stream,
-    }
+    Identity::new(plan.geometry, plan.session, plan.end.stream)
 }
 
 /// What a publisher sends with over a device: what fails is lost, losses are made on purpose, and what comes is screened and
@@ -53,7 +49,7 @@ pub fn channel_device<D: Datagrams>(
 {
     let patient = PatientDevice::new(device);
     let lossy = Lossy::new(alloc, patient, plan.end.rates, plan.end.seed);
-    Attended::new(lossy, sent_by(plan), plan.start)
+    Attended::new(lossy, planned_stream(plan), plan.start)
 }
 
 /// The device with its room.
@@ -62,13 +58,6 @@ fn duty_over<D: Drop>(alloc: Global, plan: &PublishPlan, device: D) -> Result<Du
     ensures refused { IfErr result (λ error. error ≡ DeviceError.Memory) }
 {
     Ok(Duty::new(alloc, device, plan.geometry.mtu())?)
-}
-
-/// The stream of a plan.
-fn planned_stream(plan: &PublishPlan) -> Identity
-    ensures { result ≡ identity_of plan.now }
-{
-    Identity::new(plan.geometry, plan.session, plan.end.stream)
 }
 
 /// All that a publisher begins with, over what it sends with. It fails only where memory is refused.

@@ -38,7 +38,7 @@ mod sender_thread;
 mod telling;
 mod two_threads;
 
-pub use beginning::{PublisherParts, channel_device, parts_over, publisher_parts, sent_by};
+pub use beginning::{PublisherParts, channel_device, parts_over, planned_stream, publisher_parts};
 pub use channel_publisher::{
     Offering, buffered, connected, publish, publish_over, shared, started,
 };

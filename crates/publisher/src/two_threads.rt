@@ -11,7 +11,7 @@ ghost use Rattle.publisher.specs.Ended.{AllArrived, reading_left};
 ghost use Rattle.publisher.specs.Judging.{ended_by, is_read};
 ghost use Rattle.publisher.specs.Openings.{ArePasses, IsKept};
 
-use crate::beginning::sent_by;
+use crate::beginning::planned_stream;
 use crate::fault::PublishFault;
 use crate::judged::Judged;
 use crate::judging::fault_in;
@@ -109,7 +109,7 @@ fn tell_end<R: Clock, D: Datagrams>(
     requires { tail ≤ max_position context.now.plan.now.geometry }
     ensures { duty.new.device.watch.tally.datagrams ≡ (duty.old.device.watch.tally.datagrams + 5) % 2 ^ 64 }
 {
-    let farewell = farewell_bytes(&sent_by(context.plan), tail);
+    let farewell = farewell_bytes(&planned_stream(context.plan), tail);
     give(duty, &farewell);
     for _count in 1..FAREWELLS {
         let _ = thread::sleep(context.rt, Duration::from_millis(FAREWELL_PAUSE));

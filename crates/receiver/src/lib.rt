@@ -55,7 +55,7 @@ pub use opened::OpenImage;
 pub use poll_error::PollError;
 pub use positions::Positions;
 pub use readers::Readers;
-pub use receiver_core::{Outcome, ReceiverCore, Replies, STATUS_INTERVAL};
+pub use receiver_core::{Outcome, ReceiverCore, Replies, STATUS_INTERVAL, asking};
 pub use setup::fault::SetupError;
 pub use setup::judgement::judge;
 pub use subscriber::Subscriber;

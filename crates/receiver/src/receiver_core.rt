@@ -575,8 +575,8 @@ fn refused(alloc: Global, error: FrameError) -> Result<Vec<Outcome>, AllocError>
     Ok(outcomes)
 }
 
-/// The message that asks for a SETUP, with the place of the frame that met no image.
-fn asking(header: &Header, receiver: i64) -> Status
+/// The message by which a receiver asks for a SETUP, with the place of the frame that met no image.
+pub fn asking(header: &Header, receiver: i64) -> Status
     requires { IsHeader (header_of header.now) }
     ensures { SM 128 (status_of result) ≡ asking_at (header_of header.now) receiver }
 {

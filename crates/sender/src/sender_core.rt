@@ -23,7 +23,7 @@ use block::Block;
 use flow_control::FlowControl;
 use frame_source::FrameSource;
 use frames::{FrameError, Nak, Outbox, Status};
-use position::{Geometry, Identity};
+use position::Identity;
 use std::alloc::Global;
 use std::fmt;
 use std::marker::Model;
@@ -108,23 +108,22 @@ impl<R, F> Model for SenderCore<R, F> {
 impl<R, F: FlowControl + Drop> SenderCore<R, F> {
     ghost use Rattle.sender.specs.Sending.{BeginsAt, Cycles, GoesOn, HearsDatagram, SendsFrom, Steps, at_moment, asked, begun, named_once, told};
 
-    /// A sender of a log with this geometry, these ids and this start, a multiple of 32, which it reads by these reads.
-    /// Where memory was refused, the reads and the flow control come back as they were.
+    /// A sender of a log with this stream and this start, a multiple of 32, which it reads by these reads. Where memory was
+    /// refused, the reads and the flow control come back as they were.
     pub fn new(
         alloc: Global,
-        geometry: Geometry,
-        session: i32,
-        stream: i32,
+        identity: Identity,
         start: u64,
         reads: R,
         flow: F,
     ) -> Result<SenderCore<R, F>, Denied<R, F>>
-        requires start { start ≤ max_position geometry }
+        requires start { start ≤ max_position identity.geometry }
         requires unit { start % 32 ≡ 0 }
         requires begins { BeginsAt start (F.reached flow) (F.allowed flow) }
-        ensures made { IfOk result (λ s. s ≡ begun (record { geometry = geometry; session = session; stream = stream }) start reads flow) }
+        ensures made { IfOk result (λ s. s ≡ begun identity start reads flow) }
         ensures denied { IfErr result (λ d. d ≡ record { reads = reads; flow = flow }) }
     {
+        let geometry = identity.geometry();
         let Ok(block) = Block::new(alloc, geometry.mtu() as usize) else {
             return Err(Denied { reads, flow });
         };
@@ -132,7 +131,7 @@ impl<R, F: FlowControl + Drop> SenderCore<R, F> {
             return Err(Denied { reads, flow });
         };
         Ok(SenderCore {
-            identity: Identity::new(geometry, session, stream),
+            identity,
             reads,
             flow,
             setup: SenderSetup::new(),

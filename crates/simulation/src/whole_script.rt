@@ -17,7 +17,7 @@ use crate::{Line, Packets, RECEIVERS, Simulation, add_line};
 use block::Block;
 use flow_control::StreamFlow;
 use one_hand::{HandReader, LogHand, OneHandLog};
-use position::Geometry;
+use position::{Geometry, Identity};
 use receiver::{ReceiverCore, Subscriber};
 use script::{Command, LogLine, Script};
 use script_meaning::{images_stay_in_bounds, polls_a_prefix, shares_are_counted};
@@ -178,15 +178,8 @@ fn simulation<L: OneHandLog>(
 {
     let flow = StreamFlow::new(line.start, group);
     let reads = HandReader { number: 0 };
-    match SenderCore::new(
-        alloc,
-        geometry,
-        line.session,
-        line.stream,
-        line.start,
-        reads,
-        flow,
-    ) {
+    let identity = Identity::new(geometry, line.session, line.stream);
+    match SenderCore::new(alloc, identity, line.start, reads, flow) {
         Ok(sender) => Ok(Simulation {
             log,
             block: parts.block,

@@ -6,14 +6,9 @@ use Rattle.std.specs.declared.net.SocketAddr.{SocketAddr}
 use Rattle.frames.specs.FaultCounts.{counts_text, uncounted}
 use Rattle.frames.specs.declared.fault_counts.FaultCounts.{FaultCounts}
 use Rattle.receiver.specs.declared.positions.Positions.{Positions}
+use Rattle.peer.specs.Texts.{joined}
 use Rattle.subscription.specs.Watches.{Seen}
 use Rattle.subscription.specs.declared.telling.Counts.{Counts}
-
--- texts one after the other
-abbrev pub joined : List (List ℕ) → List ℕ
-joined [] = []
-joined (text ∷ []) = text
-joined (text ∷ next ∷ texts) = text ++ joined (next ∷ texts)
 
 abbrev pub joined_line : ℤ → ℕ → List ℕ
 joined_line session position = joined (codes "joined session " ∷ signed_decimal session ∷ codes " at position " ∷ decimal position ∷ (10 ∷ []) ∷ [])

@@ -3,11 +3,11 @@
 ghost use Rattle.std.specs.Prelude.{◌≡◌, None, IfNone, IfOk, IfSome, OnOk};
 ghost use Rattle.std.specs.Io.KnownBytes.{Appends};
 ghost use Rattle.theory.specs.Control.{asking_at};
+ghost use Rattle.theory.specs.Wire.{IsHeader, SM};
 ghost use Rattle.loss_injector.specs.Losing.{begun};
 ghost use Rattle.peer.specs.Patience.{patient};
 ghost use Rattle.peer.specs.Ties.{tied_to};
 ghost use Rattle.subscription.specs.Hearings.{following};
-ghost use Rattle.theory.specs.Wire.{IsHeader, SM};
 ghost use Rattle.frames.specs.Frames.{header_of, setup_of, status_of};
 ghost use Rattle.subscription.specs.Calls.{Heeds, IsCall, IsCallWith, IsJoined, IsJoinedBy};
 ghost use Rattle.subscription.specs.Meetings.{Opens, id_of};
@@ -26,6 +26,7 @@ use frames::{FaultCounts, Header, Status};
 use loss_injector::Lossy;
 use options::SubscribePlan;
 use peer::{Listener, PatientDevice, TiedDevice};
+use receiver::asking;
 use std::alloc::{AllocError, Global};
 use std::io;
 use std::io::Write;
@@ -79,19 +80,12 @@ fn note_call(answer: Result<(), DeviceFailed>, watch: &mut Watch)
     }
 }
 
-/// The message that asks for a SETUP, with the place of a frame: that of the first image's receiver.
-fn asking(plan: &SubscribePlan, header: &Header) -> Status
+/// The message by which the first image's receiver asks for a SETUP, with the place of a frame.
+fn first_asking(plan: &SubscribePlan, header: &Header) -> Status
     requires { IsHeader (header_of header.now) }
     ensures { SM 128 (status_of result) ≡ asking_at (header_of header.now) (id_of plan.now 0) }
 {
-    Status {
-        session: header.session,
-        stream: header.stream,
-        term_id: header.term_id,
-        term_offset: header.term_offset.cast_signed(),
-        window: 0,
-        receiver: id_of(plan, 0),
-    }
+    asking(header, id_of(plan, 0))
 }
 
 /// Heeds what came. The answer is the SETUP that opens an image, if it was one. The sender of a frame is asked for a SETUP.
@@ -108,7 +102,7 @@ fn heed(plan: &SubscribePlan, listener: &mut Listener, watch: &mut Watch) -> Opt
         }
         Call::Asks(header) => {
             watch.call();
-            listener.ask(from, asking(plan, &header));
+            listener.ask(from, first_asking(plan, &header));
             None
         }
         Call::Stranger => {

@@ -4,6 +4,7 @@ ghost use Rattle.std.specs.Prelude.{◌≡◌, ◌≤◌, ◌-◌, ◌↔◌, is
 ghost use Rattle.endpoint.specs.declared.device_error.DeviceError.TheVariants.{Device};
 ghost use Rattle.subscription.specs.Watches.{IsBroken, IsDue, IsQuiet, IsSilent, begun, called, hearing, later_by, looking, losing, told_if, with_stranger, working};
 
+use agents::nanoseconds;
 use endpoint::DeviceError;
 use options::SubscribePlan;
 use std::marker::Model;
@@ -70,9 +71,7 @@ impl Watch {
         let Ok(time) = self.began.elapsed(rt) else {
             return Err(DeviceError::Device);
         };
-        let now = u64::try_from(time.as_nanos())
-            .unwrap_or(u64::MAX)
-            .max(self.moment);
+        let now = nanoseconds(time).max(self.moment);
         self.heard = self.later_by(now, self.heard);
         self.worked = self.later_by(now, self.worked);
         self.moment = now;

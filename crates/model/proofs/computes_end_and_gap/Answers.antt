@@ -1,5 +1,5 @@
 use Rattle.model.proofs.Contents.{has_one_content}
-use Rattle.model.proofs.WorldGaps.{first_gap}
+use Rattle.model.proofs.WorldGaps.{first_gap, gaps_told}
 use Rattle.theory.proofs.Contiguous.{contiguous_is, contiguous_only}
 use Rattle.model.proofs.computes_end_and_gap.Goals as goal
 
@@ -11,3 +11,6 @@ returns-clause-gap c = first_gap
 
 pub returns-clause-content : goal.returns-clause-content
 returns-clause-content c = has_one_content
+
+pub returns-clause-told : goal.returns-clause-told
+returns-clause-told c = gaps_told

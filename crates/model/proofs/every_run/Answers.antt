@@ -4,7 +4,6 @@ use Rattle.model.proofs.WorldSteps.{opened, every, tiled, in_bounds, rebuilt, po
 use Rattle.model.proofs.Behind.{readable}
 use Rattle.model.proofs.Room.{has_room}
 use Rattle.model.proofs.Wired.{published, sent_spelled}
-use Rattle.model.proofs.WorldGaps.{gaps_told}
 use Rattle.model.proofs.every_run.Goals as goal
 
 pub returns-clause-tiles : goal.returns-clause-tiles
@@ -30,6 +29,3 @@ returns-clause-entries c = published
 
 pub returns-clause-spelled : goal.returns-clause-spelled
 returns-clause-spelled c = sent_spelled
-
-pub returns-clause-gaps : goal.returns-clause-gaps
-returns-clause-gaps c = gaps_told

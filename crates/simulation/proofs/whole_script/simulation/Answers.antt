@@ -19,7 +19,7 @@ returns-in-Ok g c =
     opened_shown i c.args.group line.start line.readers _ c.requires.small
     (record {
       log = c.requires.opened;
-      sender = c.in-Ok.ensures.made ∙ ap (λ (j : Identity). begun j line.start first c.new-flow.result) (sym same) ∙ ap (λ (f : StreamFlow). begun i line.start first f) c.new-flow.ensures.made;
+      sender = c.in-Ok.ensures.made ∙ ap (λ (j : Identity). begun j line.start first c.new-flow.result) (c.new-identity.ensures ∙ sym same) ∙ ap (λ (f : StreamFlow). begun i line.start first f) c.new-flow.ensures.made;
       packets = c.new-in-Ok.ensures;
     })
     c.requires.ready.listening
