@@ -1,4 +1,4 @@
-/* Each code, from a call that has it; and that nothing changes then. */
+/* Most codes, each from a call that has it; and that nothing changes then. */
 #include "pechvang.h"
 #include <stdio.h>
 #include <string.h>
