@@ -2,11 +2,11 @@
 use Rattle.std.proofs.Common.{◌≡◌, ◌∙◌, ℕ, ◌+◌, List, [], ◌∷◌, ◌++◌, map, inl, inr, refl, sym, ap, subst, append-nil, arith}
 use Rattle.std.specs.List.{AllByRecursion, flat_map}
 use Rattle.theory.specs.Bytes.{Identity, wire_at}
-use Rattle.theory.specs.Entry.{Entry, committed}
+use Rattle.theory.specs.Entry.{committed}
 use Rattle.theory.specs.Placed.{AllAmong, Among, Data, Frame, Pad, Placed, frame_length, place_all}
 use Rattle.theory.specs.Position.{aligned}
 use Rattle.theory.specs.Wire.{IsFrame}
-use Rattle.theory.proofs.Lists.{all_at, all_behind, all_from, all_front}
+use Rattle.theory.proofs.Lists.{all_behind, all_front}
 use Rattle.frame_words.specs.Contents.{frame_of}
 use Rattle.frame_words.specs.Words.{frame_words}
 use Rattle.frame_words.proofs.Contents.{bytes_small, data_said, flags_low, pad_said}

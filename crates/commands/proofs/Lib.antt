@@ -1,4 +1,5 @@
 pub mod Ran
+pub mod Ended
 pub mod Taken
 pub mod WrittenLines
 pub mod LineStatuses

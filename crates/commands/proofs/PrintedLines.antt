@@ -1,6 +1,5 @@
 -- The lines of a datagram's frames, one after the other.
 use Rattle.std.proofs.Common.{◌≡◌, ◌∙◌, ◌≤◌, ℕ, List, [], ◌∷◌, ◌++◌, zero, suc, length, take, refl, sym, ap, arith, append-nil}
-use Rattle.std.specs.List.{flat_map}
 use Rattle.std.proofs.lemmas.Grind.{flat_map-append}
 use Rattle.theory.specs.Wire.{Wire}
 use Rattle.frames.proofs.FrameSteps.{FrameAt}

@@ -5,3 +5,4 @@ pub mod Scripting
 pub mod Routes
 pub mod Decoding
 pub mod FrameLines
+pub mod Done

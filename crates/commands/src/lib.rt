@@ -23,8 +23,10 @@
 //! A command line whose words the parser refuses ends with 2, one that asks for help or the version with 0; or either
 //! with 1, for want of memory or where the help can't be written. 2 comes only of such words, and of an end's channel
 //! and rates that make no plan; 3 only of words that the parser takes, and no status is greater (`command`, by
-//! `IsStatusOf` and `RefusesLine`). The functions behind it pin the status of each fault and ending (`done_status`,
-//! `ran_status`, `published_status`).
+//! `IsStatusOf` and `RefusesLine`). Of words that the parser takes, 0 says that all they ask for is done, as far as input and
+//! output tell their bytes (`IsDone`): `sim` and `decode` have written their lines, a run was whole, all of the input was
+//! published to each endpoint, a subscriber ended whole; 3, that a run or a subscriber was short (`IsShort`). That a line
+//! ends with anything but 1 isn't said.
 #![tactic(auto)]
 
 mod decoding;

@@ -1,11 +1,13 @@
 //! One command line, carried out.
 
-ghost use Rattle.std.specs.Prelude.{◌≡◌, ◌≢◌, ◌≤◌, map};
+ghost use Rattle.std.specs.Prelude.{◌≡◌, ◌≢◌, ◌≤◌, [], map};
 ghost use Rattle.clap.specs.Words.{fault_of};
 ghost use Rattle.command_line.specs.CommandLines.{driver_app};
 ghost use Rattle.command_line.specs.Readers.{faults_of};
 ghost use Rattle.command_line.specs.Refusals.{HoldRefusal};
+ghost use Rattle.commands.specs.Done.{DecodesWord, DrivesBy, DrivesShortBy, IsDone, IsDriven, IsDrivenShort, IsShort};
 ghost use Rattle.commands.specs.Running.{IsLeftBy};
+ghost use Rattle.commands.specs.Scripting.{PlaysInput};
 ghost use Rattle.commands.specs.Statuses.{IsStatusOf, RefusesLine, ran_status};
 
 use crate::decode;
@@ -40,8 +42,8 @@ const SUBSCRIBE_HELP: [&str; 2] = ["subscribe", "--help"];
 /// `--once` wasn't told the end. The first word is the program's name. The input is taken over, since the thread that reads it
 /// may outlive the command.
 ///
-/// What is written isn't promised here: `options`, `sim`, `decode` and `run_driver` say what they make of the words and of the
-/// input; the texts of help and refusals are the parser's, of which no contract speaks.
+/// At 0 all that the words ask for is done, and at 3 less, as far as the input and the output tell their bytes. The texts of
+/// help, the version and refusals are the parser's, of which no contract speaks.
 pub fn command<
     'a,
     C: Threads + Wait + Clock + Net + RandomSource + Sync + Send + Copy + 'static,
@@ -53,6 +55,10 @@ pub fn command<
     ensures status { IsStatusOf (faults_of (map (λ s. s.now) words.entry.now)) result }
     // Only such words, and an end's channel and rates, end with 2.
     ensures refused { result ≡ 2 → RefusesLine (map (λ s. s.now) words.entry.now) }
+    // Of words that the parser takes, 0 says that what they ask for is done.
+    ensures done { faults_of (map (λ s. s.now) words.entry.now) ≡ [] → result ≡ 0
+        → IsDone (map (λ s. s.now) words.entry.now) (R.remaining input) (W.contents output.old) (W.contents output.new) }
+    ensures short { result ≡ 3 → IsShort (map (λ s. s.now) words.entry.now) (W.contents output.old) (W.contents output.new) }
 {
     let line = line_words(words);
     match line_reader(line) {
@@ -76,6 +82,9 @@ fn driver_command<'a, C: Threads + Wait + Clock + Net + Sync, R: Read, W: Write,
 ) -> u8
     ensures status { IsStatusOf (fault_of driver_app (map (λ s. s.now) words.entry.now)) result }
     ensures refused { result ≡ 2 → HoldRefusal (fault_of driver_app (map (λ s. s.now) words.entry.now)) }
+    ensures done { fault_of driver_app (map (λ s. s.now) words.entry.now) ≡ [] → result ≡ 0
+        → DrivesBy (map (λ s. s.now) words.entry.now) (R.remaining input.old) (W.contents output.old) (W.contents output.new) }
+    ensures short { result ≡ 3 → DrivesShortBy (map (λ s. s.now) words.entry.now) (W.contents output.old) (W.contents output.new) }
 {
     match options(alloc, words) {
         Ok(options) => driver_status(rt, alloc, &options, input, output, errors),
@@ -94,12 +103,40 @@ fn driver_status<C: Threads + Wait + Clock + Net + Sync, R: Read, W: Write, E: W
 ) -> u8
     ensures most { result ≤ 3 }
     ensures accepted { result ≢ 2 }
+    ensures done { result ≡ 0 → IsDriven options.now (R.remaining input.old) (W.contents output.old) (W.contents output.new) }
+    ensures short { result ≡ 3 → IsDrivenShort options.now (W.contents output.old) (W.contents output.new) }
 {
     match *options {
-        Options::Sim => done(&sim(alloc, input, output), errors),
-        Options::Decode(word) => done(&decode(alloc, word, output).map_err(Fault::from), errors),
+        Options::Sim => sim_status(alloc, input, output, errors),
+        Options::Decode(word) => decode_status(alloc, word, output, errors),
         Options::Run(options) => run_status(rt, alloc, &options, output, errors),
     }
+}
+
+/// Plays the script that the input holds, and gives the status.
+fn sim_status<R: Read, W: Write, E: Write>(
+    alloc: Global,
+    input: &mut R,
+    output: &mut W,
+    errors: &mut E,
+) -> u8
+    ensures most { result ≤ 1 }
+    ensures played { result ≡ 0 → PlaysInput (R.remaining input.old) (W.contents output.old) (W.contents output.new) }
+{
+    done(&sim(alloc, input, output), errors)
+}
+
+/// Prints the frames of the datagram that a word spells, and gives the status.
+fn decode_status<W: Write, E: Write>(
+    alloc: Global,
+    word: &str,
+    output: &mut W,
+    errors: &mut E,
+) -> u8
+    ensures most { result ≤ 1 }
+    ensures decoded { result ≡ 0 → DecodesWord word.now (W.contents output.old) (W.contents output.new) }
+{
+    done(&decode(alloc, word, output).map_err(Fault::from), errors)
 }
 
 /// Runs the driver, and gives the status. At 0 the run was whole, and at 3 short, as the lines that were written tell.

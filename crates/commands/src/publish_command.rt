@@ -1,8 +1,11 @@
 //! The command `publish`.
 
-ghost use Rattle.std.specs.Prelude.{◌≡◌, ◌≢◌, ◌≤◌, ◌<◌, ◌^◌, length, map};
+ghost use Rattle.std.specs.Prelude.{◌≡◌, ◌≢◌, ◌≤◌, ◌<◌, ◌^◌, [], length, map};
 ghost use Rattle.clap.specs.Words.{fault_of};
 ghost use Rattle.command_line.specs.Lines.{publish_app};
+ghost use Rattle.publisher.specs.Ended.{PublishesAll};
+ghost use Rattle.group_publisher.specs.Ended.{PublishesAllAlong};
+ghost use Rattle.commands.specs.Done.{HasPlanBy, PublishesBy, PublishesTo, PublishesTold};
 ghost use Rattle.commands.specs.Statuses.{HasPublishPlan, IsStatusOf, NoPublishPlan, NoWays, RefusesPublish, published_status};
 
 use crate::drawn_ids::drawn_ids;
@@ -30,6 +33,7 @@ fn publish_planned<
 >(rt: &C, alloc: Global, plan: &PublishPlan, input: R, errors: &mut E) -> u8
     ensures most { result ≤ 3 }
     ensures accepted { result ≢ 2 }
+    ensures whole { result ≡ 0 → PublishesAll plan.now (R.remaining input) }
 {
     let transport = &plan.end.transport;
     match peer_of(rt, transport) {
@@ -52,6 +56,7 @@ fn publish_along<
     requires few { length ways.now ≤ 8 }
     ensures most { result ≤ 3 }
     ensures accepted { result ≢ 2 }
+    ensures whole { result ≡ 0 → PublishesAllAlong plan.now (length ways.now) (R.remaining input) }
 {
     match routes_of(rt, alloc, ways) {
         Ok(routes) => {
@@ -70,6 +75,7 @@ fn publish_to<
 >(rt: &C, alloc: Global, plan: &PublishPlan, to: &[&str], input: R, errors: &mut E) -> u8
     ensures most { result ≤ 3 }
     ensures refused { result ≡ 2 → NoWays plan.now to.now }
+    ensures whole { result ≡ 0 → PublishesTo plan.now to.now (R.remaining input) }
 {
     if to.is_empty() {
         return publish_planned(rt, alloc, plan, input, errors);
@@ -92,6 +98,7 @@ fn publish_told<
     ensures most { result ≤ 3 }
     ensures refused { result ≡ 2 → NoPublishPlan options.now }
     ensures planned { result ≢ 2 → HasPublishPlan options.now }
+    ensures whole { result ≡ 0 → PublishesTold options.now (R.remaining input) }
 {
     let (drawn, given) = drawn_ids(rt);
     match publish_plan(options, drawn) {
@@ -124,6 +131,9 @@ pub(crate) fn publish_command<
 >(rt: &C, alloc: Global, words: &'a [&'a str], input: R, output: &mut W, errors: &mut E) -> u8
     ensures status { IsStatusOf (fault_of publish_app (map (λ s. s.now) words.entry.now)) result }
     ensures refused { result ≡ 2 → RefusesPublish (map (λ s. s.now) words.entry.now) }
+    ensures done { fault_of publish_app (map (λ s. s.now) words.entry.now) ≡ [] → result ≡ 0
+        → PublishesBy (map (λ s. s.now) words.entry.now) (R.remaining input) }
+    ensures short { result ≡ 3 → HasPlanBy (map (λ s. s.now) words.entry.now) }
 {
     match publish_options(alloc, words) {
         Ok(options) => publish_told(rt, alloc, &options, input, errors),

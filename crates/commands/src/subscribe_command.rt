@@ -1,9 +1,12 @@
 //! The command `subscribe`.
 
-ghost use Rattle.std.specs.Prelude.{◌≡◌, ◌≢◌, ◌≤◌, ◌<◌, ◌^◌, map, IsTrue};
+ghost use Rattle.std.specs.Prelude.{◌≡◌, ◌≢◌, ◌≤◌, ◌<◌, ◌^◌, [], map, IsTrue};
 ghost use Rattle.clap.specs.Words.{fault_of};
 ghost use Rattle.command_line.specs.Lines.{subscribe_app};
-ghost use Rattle.commands.specs.Statuses.{HasSubscribePlan, IsStatusOf, NoSubscribePlan, RefusesSubscribe, subscribed_status};
+ghost use Rattle.subscriber.specs.declared.ended.Ending.{Ending as EndedAs};
+ghost use Rattle.subscriber.specs.declared.ended.Ending.TheVariants.{Short, Whole};
+ghost use Rattle.commands.specs.Done.{IsSubscribed, IsSubscribedTold, SubscribesBy};
+ghost use Rattle.commands.specs.Statuses.{HasSubscribePlan, IsStatusOf, NoSubscribePlan, RefusesSubscribe, subscribed_as, subscribed_status};
 
 use crate::drawn_ids::drawn_ids;
 use crate::fault::Fault;
@@ -32,6 +35,7 @@ fn subscribe_planned<C: Threads + Wait + Clock + Net + Copy + Send + 'static, W:
     ensures most { result ≤ 3 }
     ensures accepted { result ≢ 2 }
     ensures short { result ≡ 3 → IsTrue plan.now.once }
+    ensures ended { (e : EndedAs) → result ≡ subscribed_as e → IsSubscribed plan.now (W.contents output.old) (W.contents output.new) e }
 {
     let transport = &plan.end.transport;
     match peer_of(rt, transport) {
@@ -55,6 +59,7 @@ fn subscribe_told<
     ensures refused { result ≡ 2 → NoSubscribePlan options.now }
     ensures planned { result ≢ 2 → HasSubscribePlan options.now }
     ensures told { result ≡ 3 → IsTrue options.now.once }
+    ensures ended { (e : EndedAs) → result ≡ subscribed_as e → IsSubscribedTold options.now (W.contents output.old) (W.contents output.new) e }
 {
     let (drawn, given) = drawn_ids(rt);
     match subscribe_plan(options, drawn) {
@@ -88,6 +93,9 @@ pub(crate) fn subscribe_command<
 >(rt: &C, alloc: Global, words: &'a [&'a str], output: &mut W, errors: &mut E) -> u8
     ensures status { IsStatusOf (fault_of subscribe_app (map (λ s. s.now) words.entry.now)) result }
     ensures refused { result ≡ 2 → RefusesSubscribe (map (λ s. s.now) words.entry.now) }
+    ensures done { fault_of subscribe_app (map (λ s. s.now) words.entry.now) ≡ [] → result ≡ 0
+        → SubscribesBy (map (λ s. s.now) words.entry.now) (W.contents output.old) (W.contents output.new) Whole }
+    ensures short { result ≡ 3 → SubscribesBy (map (λ s. s.now) words.entry.now) (W.contents output.old) (W.contents output.new) Short }
 {
     match subscribe_options(alloc, words) {
         Ok(options) => subscribe_told(rt, alloc, &options, output, errors),

@@ -1,6 +1,5 @@
 use Rattle.std.proofs.Common.{ap, Err}
-use Rattle.clap.specs.Words.{Kinds}
-use Rattle.command_line.specs.Refusals.{IsFaultOf}
+use Rattle.commands.proofs.Ended.{none_held, none_short}
 use Rattle.commands.proofs.LineStatuses.{refused_line, taken, told_fault, untaken}
 use Rattle.commands.proofs.line.driver_command.Goals as goal
 
@@ -8,6 +7,8 @@ pub returns-in-Ok : goal.returns-in-Ok
 returns-in-Ok g c = record {
   status = taken _ c.driver_status.result c.in-Ok.ensures.passed c.driver_status.ensures.most;
   refused = λ two. absurd (c.driver_status.ensures.accepted two);
+  done = λ none is. (c.in-Ok.options, c.in-Ok.ensures.only, c.driver_status.ensures.done is);
+  short = λ is. (c.in-Ok.options, c.in-Ok.ensures.only, c.driver_status.ensures.short is);
 }
 
 pub returns-in-Err : goal.returns-in-Err
@@ -16,4 +17,6 @@ returns-in-Err g c =
     record {
       status = untaken _ c.in-Err.fault c.line_status.result is c.line_status.ensures;
       refused = refused_line _ c.in-Err.fault c.line_status.result is c.line_status.ensures;
+      done = λ none zero. absurd (none_held _ c.in-Err.fault c.line_status.result is c.line_status.ensures none zero);
+      short = λ three. absurd (none_short c.in-Err.fault c.line_status.result c.line_status.ensures three);
     }

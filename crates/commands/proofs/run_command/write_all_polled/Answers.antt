@@ -1,4 +1,4 @@
-use Rattle.std.proofs.Common.{false, get_or, rules, subst, take}
+use Rattle.std.proofs.Common.{false, get_or, rules, subst}
 use Rattle.std.specs.Prelude.{flat_map}
 use Rattle.std.specs.Io.KnownBytes.{Appends}
 use Rattle.std.proofs.KnownBytes.{Appends-nil, Appends-trans}

@@ -1,4 +1,6 @@
 use Rattle.std.proofs.Common.{arith, inl, inr}
+use Rattle.subscriber.specs.declared.ended.Ending.TheVariants.{Short, Whole}
+use Rattle.commands.proofs.Ended.{none_held, none_short}
 use Rattle.commands.proofs.LineStatuses.{refused_line, taken, untaken}
 use Rattle.commands.proofs.subscribe_command.subscribe_command.Goals as goal
 
@@ -13,3 +15,15 @@ returns-in-Err-clause-status g c = untaken _ c.in-Err.fault c.line_status.result
 
 pub returns-in-Err-clause-refused : goal.returns-in-Err-clause-refused
 returns-in-Err-clause-refused g c = λ two. inl (refused_line _ c.in-Err.fault c.line_status.result c.in-Err.ensures.fault c.line_status.ensures two)
+
+pub returns-in-Ok-clause-done : goal.returns-in-Ok-clause-done
+returns-in-Ok-clause-done g c = λ none is. (c.in-Ok.options, c.in-Ok.ensures.told, c.subscribe_told.ensures.ended Whole is)
+
+pub returns-in-Ok-clause-short : goal.returns-in-Ok-clause-short
+returns-in-Ok-clause-short g c = λ is. (c.in-Ok.options, c.in-Ok.ensures.told, c.subscribe_told.ensures.ended Short is)
+
+pub returns-in-Err-clause-done : goal.returns-in-Err-clause-done
+returns-in-Err-clause-done g c = λ none is. absurd (none_held _ c.in-Err.fault c.line_status.result c.in-Err.ensures.fault c.line_status.ensures none is)
+
+pub returns-in-Err-clause-short : goal.returns-in-Err-clause-short
+returns-in-Err-clause-short g c = λ three. absurd (none_short c.in-Err.fault c.line_status.result c.line_status.ensures three)
