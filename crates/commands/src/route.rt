@@ -1,8 +1,9 @@
 //! Where an end's socket is bound, and to whom it sends.
 
-ghost use Rattle.std.specs.Prelude.{◌≡◌, Some, IfErr, IfOk, IfSome, codes, length, ◌++◌};
+ghost use Rattle.std.specs.Prelude.{◌≡◌, ◌≢◌, Some, IfErr, IfOk, IfSome, codes, length, ◌++◌};
 ghost use Rattle.channel.specs.declared.host.Host.TheVariants.{Name as Named};
 ghost use Rattle.channel.specs.declared.host.Name.{Name as AnyName};
+ghost use Rattle.commands.specs.declared.route.RouteFault.TheVariants.{Memory as Refused};
 ghost use Rattle.commands.specs.Routes.{AreRoutesAlong, IsAnyAddress, IsBindingOf, IsFound, IsPeer, IsRouteAlong, IsRouteOf, route_text};
 
 use channel::{Host, Name, Transport};
@@ -113,7 +114,8 @@ impl Error for RouteFault<'_> {}
 
 /// The route of a publisher along one of its ways.
 fn route_along<'a, R: Net>(rt: &R, way: &'a Transport) -> Result<Route, RouteFault<'a>>
-    ensures { IfOk result (IsRouteAlong way.now) }
+    ensures route { IfOk result (IsRouteAlong way.now) }
+    ensures unknown { IfErr result (λ fault. fault ≢ Refused) }
 {
     match peer_of(rt, way) {
         Ok(peer) => Ok(route_of(way, peer)),

@@ -1,7 +1,9 @@
 //! A run, and the lines that tell what it left.
 
-ghost use Rattle.std.specs.Prelude.{◌≡◌, IfErr, IfOk, OnOk, flat_map};
+ghost use Rattle.std.specs.Prelude.{◌≡◌, Err, IfErr, IfOk, OnOk, flat_map};
 ghost use Rattle.std.specs.Io.KnownBytes.{Appends};
+ghost use Rattle.options.specs.Run.Plans.{IsFirstFault};
+ghost use Rattle.options.specs.declared.run.fault.PlanFault.{PlanFault};
 ghost use Rattle.run.specs.Outcomes.{ending_of};
 ghost use Rattle.commands.specs.Running.{IsLeftBy, outcome_text, polled_text};
 
@@ -29,7 +31,9 @@ pub fn run_driver<R: Threads + Wait + Clock + Net + Sync, W: Write, E: Write + D
     output: &mut W,
     errors: E,
 ) -> Result<Ending, Fault>
-    ensures { IfOk result (λ ending. IsLeftBy options.now (W.contents output.old) (W.contents output.new) ending) }
+    ensures done { IfOk result (λ ending. IsLeftBy options.now (W.contents output.old) (W.contents output.new) ending) }
+    // What makes no plan is told by its first fault.
+    ensures refused { (fault : PlanFault) → IsFirstFault options.now fault → result ≡ Err (Fault.Plan fault) }
 {
     let plan = plan(options)?;
     let outcome = run(rt, alloc, &plan, &Open, errors)?;

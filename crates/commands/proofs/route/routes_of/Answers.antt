@@ -8,6 +8,6 @@ loop-way-preserved g c =
     let routes : List Route = c.loop-way.routes.items in let route = c.in_ok-route.route in
     let pushed : c.push.new.self.items ≡ routes ++ route ∷ [] = c.push.ensures.items ∙ ap (λ (b : Bool). if b then routes ++ route ∷ [] else routes) c.if-is_err.ensures.negation in
     record {
-      routes = next_route c.args.ways.now routes c.push.new.self.items c.loop-way.way-index none route c.loop-way-test.true c.loop-way.invariant.routes c.in_ok-route.ensures pushed;
+      routes = next_route c.args.ways.now routes c.push.new.self.items c.loop-way.way-index none route c.loop-way-test.true c.loop-way.invariant.routes c.in_ok-route.ensures.route pushed;
       many = (let a = length-append routes (route ∷ []) in let m = c.loop-way.invariant.many in let l = ap length pushed in omega (arith, a, m, l));
     }

@@ -1,7 +1,7 @@
 use Rattle.commands.proofs.run_command.run_driver.Goals as goal
 
-pub returns : goal.returns
-returns g c = record {
+pub returns-clause-done : goal.returns-clause-done
+returns-clause-done g c = record {
   plan = c.in_ok-plan.plan;
   planned = c.in_ok-plan.ensures.made;
   outcome = c.in_ok-outcome.outcome;
