@@ -1,9 +1,14 @@
--- How a run ended that has this status.
+-- How a run ended that has this status, and why it didn't.
 use Rattle.std.proofs.Common.{◌≡◌, Result, Ok, Err, arith}
 use Rattle.std.specs.Prelude.{IfOk}
 use Rattle.run.specs.declared.outcome.Ending.{Ending}
 use Rattle.run.specs.declared.outcome.Ending.TheVariants.{Broken, Short, Whole}
 use Rattle.commands.specs.declared.fault.Fault.{Fault}
+use Rattle.endpoint.specs.declared.device_error.DeviceError.{DeviceError}
+use Rattle.endpoint.specs.declared.device_error.DeviceError.TheVariants as devices
+use Rattle.options.specs.declared.run.options.RunOptions.{RunOptions}
+use Rattle.commands.specs.Faults.{of_device}
+use Rattle.commands.specs.Running.{ExplainsRun}
 use Rattle.commands.specs.Statuses.{ran_status}
 
 pub ran_whole : (ended : Result Ending Fault) (P : Ending → Type 0) → IfOk ended P → ran_status ended ≡ 0 → P Whole
@@ -17,3 +22,7 @@ ran_short (Ok Whole) P h e = absurd (omega (arith, e))
 ran_short (Ok Short) P h e = h
 ran_short (Ok Broken) P h e = absurd (omega (arith, e))
 ran_short (Err fault) P h e = absurd (omega (arith, e))
+
+pub device_explains : (o : RunOptions) (e : DeviceError) → ExplainsRun o (of_device e)
+device_explains o devices.Device = tt
+device_explains o devices.Memory = tt

@@ -1,14 +1,16 @@
 -- What a run's command writes.
-use Rattle.std.specs.Prelude.{◌≡◌, ℕ, List, [], ◌∷◌, ◌++◌, Option, codes, decimal, flat_map, if◌then◌else◌}
+use Rattle.std.specs.Prelude.{◌≡◌, ⊤, ℕ, List, [], ◌∷◌, ◌++◌, Option, codes, decimal, flat_map, if◌then◌else◌}
 use Rattle.std.specs.Io.KnownBytes.{Appends}
 use Rattle.simulation.specs.LineTexts.{shares_text}
-use Rattle.options.specs.Run.Plans.{IsPlanOf}
+use Rattle.options.specs.Run.Plans.{IsFirstFault, IsPlanOf}
 use Rattle.options.specs.declared.run.made.Plan.{Plan}
 use Rattle.options.specs.declared.run.options.RunOptions.{RunOptions}
 use Rattle.run.specs.Outcomes.{IsOutcome, PublishersPublish, ReceiversLiveLossily, ending_of}
 use Rattle.run.specs.declared.outcome.Ending.{Ending}
 use Rattle.run.specs.declared.outcome.Outcome.{Outcome}
 use Rattle.run.specs.declared.outcome.Polled.{Polled}
+use Rattle.commands.specs.declared.fault.Fault.{Fault}
+use Rattle.commands.specs.declared.fault.Fault.TheVariants.{Line, Input, Memory, Hex, Frame, Read, Write, Plan as Unplanned, Order, Device}
 
 -- the two lines of a receiver, of so many messages that were to be polled
 abbrev pub polled_text : ℕ → Polled → List ℕ
@@ -33,3 +35,16 @@ pub record IsLeftBy (options : RunOptions) (before after : Option (List ℕ)) (e
   pub published : PublishersPublish plan outcome
   pub ended : ending ≡ ending_of outcome
   pub written : Appends before after (outcome_text outcome)
+
+-- why it isn't: what was told makes no plan, for this first fault; or the system or memory refused, or the lines couldn't be written
+abbrev pub ExplainsRun : RunOptions → Fault → Type 0
+ExplainsRun options (Line n) = ⊥
+ExplainsRun options Input = ⊥
+ExplainsRun options Memory = ⊤
+ExplainsRun options Hex = ⊥
+ExplainsRun options (Frame fault) = ⊥
+ExplainsRun options Read = ⊥
+ExplainsRun options Write = ⊤
+ExplainsRun options (Unplanned fault) = IsFirstFault options fault
+ExplainsRun options Order = ⊥
+ExplainsRun options Device = ⊤

@@ -25,8 +25,8 @@
 //! and rates that make no plan; 3 only of words that the parser takes, and no status is greater (`command`, by
 //! `IsStatusOf` and `RefusesLine`). Of words that the parser takes, 0 says that all they ask for is done, as far as input and
 //! output tell their bytes (`IsDone`): `sim` and `decode` have written their lines, a run was whole, all of the input was
-//! published to each endpoint, a subscriber ended whole; 3, that a run or a subscriber was short (`IsShort`). That a line
-//! ends with anything but 1 isn't said.
+//! published to each endpoint, a subscriber ended whole; 3, that a run or a subscriber was short, or that a publisher had a
+//! plan (`IsShort`). That a line ends with anything but 1 isn't said.
 #![tactic(auto)]
 
 mod decoding;

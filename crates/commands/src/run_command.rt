@@ -1,11 +1,11 @@
 //! A run, and the lines that tell what it left.
 
-ghost use Rattle.std.specs.Prelude.{◌≡◌, Err, IfErr, IfOk, OnOk, flat_map};
-ghost use Rattle.std.specs.Io.KnownBytes.{Appends};
+ghost use Rattle.std.specs.Prelude.{◌≡◌, ◌⊎◌, Err, IfErr, IfOk, OnOk, flat_map};
+ghost use Rattle.std.specs.Io.KnownBytes.{Appends, Keeps};
 ghost use Rattle.options.specs.Run.Plans.{IsFirstFault};
 ghost use Rattle.options.specs.declared.run.fault.PlanFault.{PlanFault};
 ghost use Rattle.run.specs.Outcomes.{ending_of};
-ghost use Rattle.commands.specs.Running.{IsLeftBy, outcome_text, polled_text};
+ghost use Rattle.commands.specs.Running.{ExplainsRun, IsLeftBy, outcome_text, polled_text};
 
 use crate::fault::Fault;
 use options::{RunOptions, plan};
@@ -24,6 +24,7 @@ use std::time::Clock;
 ///
 /// The fault is that of the plan, `Device` where a socket, a thread or the clock failed, or `Memory`, and then nothing was
 /// written; or `Write`.
+#[tactic(auto, using(crate::proofs::Ran::device_explains))]
 pub fn run_driver<R: Threads + Wait + Clock + Net + Sync, W: Write, E: Write + Drop>(
     rt: &R,
     alloc: Global,
@@ -34,6 +35,9 @@ pub fn run_driver<R: Threads + Wait + Clock + Net + Sync, W: Write, E: Write + D
     ensures done { IfOk result (λ ending. IsLeftBy options.now (W.contents output.old) (W.contents output.new) ending) }
     // What makes no plan is told by its first fault.
     ensures refused { (fault : PlanFault) → IsFirstFault options.now fault → result ≡ Err (Fault.Plan fault) }
+    ensures fault { IfErr result (ExplainsRun options.now) }
+    ensures kept { IfErr result (λ fault. (fault ≡ Fault.Write)
+        ⊎ Keeps (W.contents output.old) (W.contents output.new)) }
 {
     let plan = plan(options)?;
     let outcome = run(rt, alloc, &plan, &Open, errors)?;
