@@ -3,3 +3,5 @@ pub mod Blocks
 pub mod Inputs
 pub mod Texts
 pub mod Shown
+pub mod Fused
+pub mod Readings

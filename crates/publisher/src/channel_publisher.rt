@@ -4,6 +4,7 @@ ghost use Rattle.std.specs.Prelude.{◌≡◌, ◌<◌, IfErr, IfOk, IfSome, Ok}
 ghost use Rattle.std.specs.Arc.{arc_value};
 ghost use Rattle.std.specs.Io.Buffered.{reader_remaining};
 ghost use Rattle.position.specs.Openings.{IsStart};
+ghost use Rattle.messages.specs.Fused.{fused_remaining};
 ghost use Rattle.shared_log.specs.Books.{IsDone};
 ghost use Rattle.shared_log.specs.Parts.{IsNewReader};
 ghost use Rattle.shared_log.specs.Readers.{IsReaderOf};
@@ -25,6 +26,7 @@ use crate::sender_thread::{ChannelSender, SenderPasses};
 use crate::two_threads::{Published, run};
 use agents::{Began, open_sender};
 use endpoint::{Datagrams, DeviceError, Route, UdpDevice};
+use messages::FusedReader;
 use offering::{OfferingState, Reader, start_reader};
 use options::PublishPlan;
 use peer::Ending;
@@ -238,12 +240,15 @@ fn prepared<R: Net + Clock>(
     publisher_parts(alloc, plan, began, device)
 }
 
-/// The input with a buffer.
+/// The input with a buffer, its end read once.
 #[tactic(auto, using(crate::proofs::Beginnings::unbuffered))]
-pub fn buffered<I: Read + Drop>(alloc: Global, input: I) -> Result<BufReader<I>, PublishFault>
-    ensures { IfOk result (λ r. reader_remaining I.remaining r ≡ I.remaining input) }
+pub fn buffered<I: Read + Drop>(
+    alloc: Global,
+    input: I,
+) -> Result<BufReader<FusedReader<I>>, PublishFault>
+    ensures { IfOk result (λ r. reader_remaining (fused_remaining I.remaining) r ≡ I.remaining input) }
 {
-    match BufReader::new(alloc, input) {
+    match BufReader::new(alloc, FusedReader::new(input)) {
         Ok(input) => Ok(input),
         Err(_) => Err(PublishFault::Failed(DeviceError::Memory)),
     }
