@@ -2,7 +2,7 @@
 
 ghost use Rattle.std.specs.Prelude.{◌≡◌, ◌≤◌, false};
 ghost use Rattle.endpoint.specs.Devices.{NeverFall};
-ghost use Rattle.sender.specs.Sending.{SendsFrom};
+ghost use Rattle.sender.specs.Sending.{BeginsAt, SendsFrom};
 ghost use Rattle.agents.specs.Asking.{AsksOnce};
 ghost use Rattle.agents.specs.Duties.{AgentCycle, AgentWays, Hears, Ticks};
 
@@ -54,6 +54,14 @@ impl<R, F: FlowControl + Drop> SenderAgent<R, F> {
         ensures { result ≡ self.now.core.handler.at }
     {
         self.core.position()
+    }
+
+    /// Goes on by another flow control, which allows no more than what was sent.
+    pub fn set_flow(&mut self, flow: F)
+        requires begins { BeginsAt self.old.core.handler.at (F.reached flow) (F.allowed flow) }
+        ensures { self.new ≡ record self.old { core = record self.old.core { flow = flow } } }
+    {
+        self.core.set_flow(flow);
     }
 
     /// Asks for Connect, where a status message was heard and the queue hasn't taken the command yet.

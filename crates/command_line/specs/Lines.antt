@@ -23,7 +23,7 @@ pub record IsSharedOf (rows : List Row) (o : EndOptions) : Type 0 where
 pub record IsPublishOf (rows : List Row) (o : PublishOptions) : Type 0 where
   pub shared : IsSharedOf rows o.end
   pub to : AreTold rows (codes "to") o.to.items
-  pub linger : IsNumber rows (codes "linger") 1 1000000 5 o.linger
+  pub linger : IsNumber rows (codes "linger") 1 1000000 15 o.linger
   pub wait : IsNumber rows (codes "wait") 1 4294967295 4294967295 o.wait
 
 pub record IsSubscribeOf (rows : List Row) (o : SubscribeOptions) : Type 0 where

@@ -18,8 +18,8 @@ const LINGER: Number = Number {
     name: "linger",
     least: 1,
     most: 1_000_000,
-    otherwise: 5,
-    help: "Give up after so many seconds without word of a subscriber that was heard, 1 to 1000000 [default: 5]",
+    otherwise: 15,
+    help: "Give up after so many seconds without word of a subscriber that was heard, 1 to 1000000 [default: 15]",
 };
 
 const WAIT: Number = Number {
@@ -27,7 +27,7 @@ const WAIT: Number = Number {
     least: 1,
     most: 4_294_967_295,
     otherwise: 4_294_967_295,
-    help: "Give up after so many seconds in which no subscriber was ever heard, from 1 on [default: none]",
+    help: "Give up after so many seconds in which no subscriber was ever heard; with --to begin then without those that weren't, from 1 on [default: none]",
 };
 
 /// The option that names endpoints besides the channel's.

@@ -1,12 +1,15 @@
 -- Routes one after the other, and ways that there are.
-use Rattle.std.proofs.Common.{◌≡◌, ◌≤◌, ◌<◌, ◌+◌, ℕ, List, [], ◌∷◌, ◌++◌, Bor, get_or, length, length-append, None, take, ap, subst, sym, arith}
+use Rattle.std.proofs.Common.{◌≡◌, ◌≢◌, ◌∙◌, ◌≤◌, ◌<◌, ◌+◌, ⊎_elim, ℕ, List, [], ◌∷◌, ◌++◌, Bor, get_or, length, length-append, None, take, ap, subst, sym, arith}
+use Rattle.std.proofs.Math.ListN.{get_or-append}
+use Rattle.std.proofs.Math.Seq.{get_or-append_seam}
+use Rattle.std.proofs.lemmas.Bool.{cases_lt}
 use Rattle.std.proofs.lemmas.List.{take_more}
 use Rattle.std.specs.declared.net.IpAddr.TheVariants.{V4}
 use Rattle.channel.specs.declared.host.Host.TheVariants.{Address}
 use Rattle.channel.specs.declared.channel.Transport.{Transport}
 use Rattle.endpoint.specs.declared.udp.Route.{Route}
 use Rattle.options.specs.Ends.Ways.{AreWays, LeadsOn}
-use Rattle.commands.specs.Routes.{AreRoutesAlong, IsRouteAlong}
+use Rattle.commands.specs.Routes.{ArePeersApart, AreRoutesAlong, IsRouteAlong, LeadElsewhere}
 
 -- the way that a proof names where none stands
 abbrev pub none : Transport
@@ -33,3 +36,19 @@ longer c before ways (t ∷ ts) (w, is, other, h) =
 
 pub some_ways : (c : Transport) (texts : List (Bor (List ℕ))) (ways : List Transport) → AreWays c texts ways → 0 < length ways
 some_ways c texts ways h = let more : length (c ∷ []) ≤ length ways = longer c (c ∷ []) ways texts h in omega (arith, more)
+
+-- one more that leads elsewhere than those before
+pub one_apart : (routes after : List Route) (r : Route) → ArePeersApart routes → LeadElsewhere routes r.peer → after ≡ routes ++ r ∷ [] → ArePeersApart after
+one_apart routes after r apart elsewhere pushed i j d low within =
+    let more : length after ≡ length routes + 1 = ap length pushed ∙ length-append routes (r ∷ []) in
+    let below : i < length routes = omega (arith, low, within, more) in
+    let first : get_or after i d ≡ get_or routes i d = ap (λ (xs : List Route). get_or xs i d) pushed ∙ get_or-append routes (r ∷ []) d i below in
+    ⊎_elim
+    (λ (inside : j < length routes).
+    let second : get_or after j d ≡ get_or routes j d = ap (λ (xs : List Route). get_or xs j d) pushed ∙ get_or-append routes (r ∷ []) d j inside in
+    λ same. apart i j d low inside (ap (λ (x : Route). x.peer) (sym first) ∙ same ∙ ap (λ (x : Route). x.peer) second))
+    (λ (behind : length routes ≤ j).
+    let last : j ≡ length routes = omega (arith, behind, within, more) in
+    let there : get_or after j d ≡ r = ap (λ (xs : List Route). get_or xs j d) pushed ∙ ap (λ n. get_or (routes ++ r ∷ []) n d) last ∙ get_or-append_seam routes r [] d in
+    λ same. elsewhere i d below (ap (λ (x : Route). x.peer) (sym first) ∙ same ∙ ap (λ (x : Route). x.peer) there))
+    (cases_lt j (length routes))

@@ -1,5 +1,5 @@
 -- Where an end's socket is bound, and to whom it sends.
-use Rattle.std.specs.Prelude.{◌≡◌, ◌++◌, ⊤, ℕ, List, [], ◌∷◌, codes, Option, None, Some}
+use Rattle.std.specs.Prelude.{◌≡◌, ◌≢◌, ◌<◌, length, slice_index_or, ◌++◌, ⊤, ℕ, List, [], ◌∷◌, codes, Option, None, Some}
 use Rattle.std.specs.Net.Addr.{IsUnspecifiedV4, IsUnspecifiedV6, IsV4And, IsV6And, MatchIp}
 use Rattle.std.specs.Net.Socket.{IsPlainSocket, socket_ip, socket_port}
 use Rattle.std.specs.declared.net.IpAddr.{IpAddr}
@@ -11,7 +11,9 @@ use Rattle.channel.specs.declared.host.Host.TheVariants.{Address, Name}
 use Rattle.endpoint.specs.declared.udp.Binding.{Binding}
 use Rattle.endpoint.specs.declared.udp.Route.{Route}
 use Rattle.commands.specs.declared.route.RouteFault.{RouteFault}
-use Rattle.commands.specs.declared.route.RouteFault.TheVariants.{Unknown, Memory}
+use Rattle.commands.specs.declared.route.RouteFault.TheVariants.{Unknown, Twice, Memory}
+use Rattle.std.specs.Net.Text.{socket_text}
+use Rattle.peer.specs.Texts.{joined}
 
 -- this address and port, and nothing else
 pub record IsAt (a : IpAddr) (port : ℕ) (s : SocketAddr) : Type 0 where
@@ -60,7 +62,20 @@ AreRoutesAlong (t ∷ ts) (r ∷ rs) = IsRouteAlong t r × AreRoutesAlong ts rs
 -- what a user reads where there are none
 abbrev pub route_text : RouteFault → List ℕ
 route_text (Unknown unknown) = codes "no address of " ++ unknown.0.now ++ codes " was found"
+route_text (Twice peer) = joined (codes "to: " ∷ socket_text peer ∷ codes " stands twice" ∷ [])
 route_text Memory = codes "memory"
+
+-- one of these leads to this peer
+abbrev pub LeadsThere : List Route → SocketAddr → Type 0
+LeadsThere routes peer = (k : ℕ) × (k < length routes) × ((d : Route) → (slice_index_or routes k d).peer ≡ peer)
+
+-- none does
+abbrev pub LeadElsewhere : List Route → SocketAddr → Type 0
+LeadElsewhere routes peer = (k : ℕ) (d : Route) → k < length routes → (slice_index_or routes k d).peer ≢ peer
+
+-- no two lead to one peer
+abbrev pub ArePeersApart : List Route → Type 0
+ArePeersApart routes = (i j : ℕ) (d : Route) → i < j → j < length routes → (slice_index_or routes i d).peer ≢ (slice_index_or routes j d).peer
 
 -- at the interface and the endpoint's port, or at the endpoint's own address
 abbrev pub IsHearing : Option IpAddr → SocketAddr → SocketAddr → Type 0

@@ -1,10 +1,10 @@
 //! Where an end's socket is bound, and to whom it sends.
 
-ghost use Rattle.std.specs.Prelude.{◌≡◌, ◌≢◌, Some, IfErr, IfOk, IfSome, codes, length, ◌++◌};
+ghost use Rattle.std.specs.Prelude.{◌≡◌, ◌≢◌, Some, IfErr, IfOk, IfSome, codes, length, true, false, ◌++◌};
 ghost use Rattle.channel.specs.declared.host.Host.TheVariants.{Name as Named};
 ghost use Rattle.channel.specs.declared.host.Name.{Name as AnyName};
 ghost use Rattle.commands.specs.declared.route.RouteFault.TheVariants.{Memory as Refused};
-ghost use Rattle.commands.specs.Routes.{AreRoutesAlong, IsAnyAddress, IsBindingOf, IsFound, IsPeer, IsRouteAlong, IsRouteOf, route_text};
+ghost use Rattle.commands.specs.Routes.{ArePeersApart, AreRoutesAlong, IsAnyAddress, IsBindingOf, IsFound, IsPeer, IsRouteAlong, IsRouteOf, LeadElsewhere, LeadsThere, route_text};
 
 use channel::{Host, Name, Transport};
 use endpoint::{Binding, Route};
@@ -95,6 +95,8 @@ pub(crate) fn route_of(transport: &Transport, peer: SocketAddr) -> Route
 pub enum RouteFault<'a> {
     /// No address of a host of this name was found.
     Unknown(NoAddress<'a>),
+    /// Two endpoints lead to this address: one of them by a name.
+    Twice(SocketAddr),
     /// Memory was refused.
     Memory,
 }
@@ -105,6 +107,7 @@ impl fmt::Display for RouteFault<'_> {
     fn fmt<W: fmt::Write>(&self, f: &mut fmt::Formatter<W>) -> fmt::Result {
         match *self {
             RouteFault::Unknown(unknown) => write!(f, "{unknown}"),
+            RouteFault::Twice(peer) => write!(f, "to: {peer} stands twice"),
             RouteFault::Memory => write!(f, "memory"),
         }
     }
@@ -123,7 +126,20 @@ fn route_along<'a, R: Net>(rt: &R, way: &'a Transport) -> Result<Route, RouteFau
     }
 }
 
-/// The routes of a publisher along its ways, in order.
+/// Whether one of the routes leads to this peer.
+fn is_led(routes: &[Route], peer: SocketAddr) -> bool
+    ensures led { result ≡ true → LeadsThere routes.now peer }
+    ensures elsewhere { result ≡ false → LeadElsewhere routes.now peer }
+{
+    for route in routes {
+        if route.peer == peer {
+            return true;
+        }
+    }
+    false
+}
+
+/// The routes of a publisher along its ways, in order, to a peer each.
 pub(crate) fn routes_of<'a, R: Net>(
     rt: &R,
     alloc: Global,
@@ -131,10 +147,14 @@ pub(crate) fn routes_of<'a, R: Net>(
 ) -> Result<Vec<Route>, RouteFault<'a>>
     ensures routes { IfOk result (λ routes. AreRoutesAlong ways.now routes.items) }
     ensures many { IfOk result (λ routes. length routes.items ≡ length ways.now) }
+    ensures apart { IfOk result (λ routes. ArePeersApart routes.items) }
 {
     let mut routes = Vec::new(alloc);
     for way in ways {
         let route = route_along(rt, way)?;
+        if is_led(&routes, route.peer) {
+            return Err(RouteFault::Twice(route.peer));
+        }
         if routes.push(route).is_err() {
             return Err(RouteFault::Memory);
         }

@@ -9,7 +9,7 @@ use std::marker::Model;
 const MEMBERS: usize = 8;
 
 /// How many nanoseconds after its last status message a receiver counts.
-const LIVE: u64 = 5_000_000_000;
+pub const LIVE: u64 = 5_000_000_000;
 
 /// What a receiver of the group has said.
 #[derive(Clone, Copy, Debug)]

@@ -4,10 +4,11 @@
 //! The limit never falls and is never above what status messages have allowed (`FlowControl`, a trait with these
 //! laws). For one receiver it is exactly the greatest of the start and of what each allowed, for any numbers
 //! (`UnicastFlow`). For a group it is exactly the group's limit by the definition, for any ids, numbers and moments
-//! (`LeastFlow`); that each keeps enough for that is `keeps_enough`. `StreamFlow` is either.
+//! (`LeastFlow`); that each keeps enough for that is `keeps_enough`, and that one that is silent holds the others up no longer
+//! `silent_ones_dont_count`. `StreamFlow` is either.
 #![tactic(auto)]
 
-ghost use Rattle.flow_control.specs.Laws.{GroupKeepsEnough, OneKeepsEnough};
+ghost use Rattle.flow_control.specs.Laws.{GroupKeepsEnough, OneKeepsEnough, SilentOnesDontCount};
 
 mod flow;
 mod least;
@@ -16,7 +17,7 @@ mod stream;
 mod unicast;
 
 pub use flow::FlowControl;
-pub use least::LeastFlow;
+pub use least::{LIVE, LeastFlow};
 pub use stream::StreamFlow;
 pub use unicast::UnicastFlow;
 
@@ -24,4 +25,9 @@ pub use unicast::UnicastFlow;
 pub fn keeps_enough()
     ensures one { OneKeepsEnough }
     ensures group { GroupKeepsEnough }
+{}
+
+/// A receiver of a group that was silent for 5 s doesn't count: what the others are let go is the least over them alone.
+pub fn silent_ones_dont_count()
+    ensures { SilentOnesDontCount }
 {}

@@ -1,12 +1,15 @@
 -- What was published in all, where a publisher to several subscribers has ended whole.
-use Rattle.std.proofs.Common.{◌≡◌, ◌<◌, List, [], ◌∷◌, ℕ, Option, None, Some, IfOk, IfSome, Result, Ok, Err, subst, arith}
+use Rattle.std.proofs.Common.{◌≡◌, ◌<◌, List, [], ◌∷◌, ℕ, true, Option, None, Some, IfOk, IfSome, Result, Ok, Err, subst, arith}
 use Rattle.log_rule.specs.Claims.Handles.{PublisherValue}
 use Rattle.shared_log.specs.Handles.{IsNew, LogValue}
 use Rattle.options.specs.declared.ends.plans.PublishPlan.{PublishPlan}
 use Rattle.peer.specs.declared.attendance.Attendance.{Attendance}
 use Rattle.offering.specs.Ended.{EndsInput}
 use Rattle.offering.specs.declared.reader.InputEnd.{InputEnd}
+use Rattle.peer.specs.declared.watch.ToldEnds.{ToldEnds}
 use Rattle.publisher.specs.Ended.{reading_left}
+use Rattle.publisher.specs.Judging.{end_in}
+use Rattle.group_publisher.specs.Farewells.{are_told_alone}
 use Rattle.publisher.specs.Openings.{IsPlanned}
 use Rattle.publisher.specs.declared.fault.PublishFault.{PublishFault}
 use Rattle.messages.specs.declared.form.Form.{Form}
@@ -19,10 +22,10 @@ none_left : (ways : ℕ) (heard : List Attendance) → 0 < ways → AllHaveArriv
 none_left ways [] some all = let e : 0 ≡ ways = all.many in omega (arith, e, some)
 none_left ways (a ∷ rest) some all = all.arrived.0
 
-pub all_published : {I : Type 0} (remaining : I → Option (List ℕ)) (p : PublishPlan) (log : LogValue) (first : PublisherValue) (old given : Option (List ℕ)) (left : Option (InputEnd I)) (ways : ℕ) (heard : List Attendance)
-    → IsPlanned p log → IsNew log 0 first → IfSome left (λ l. EndsInput p.end.form log old (remaining l.input) first.pass l.publisher l.reading) → 0 < ways → AllHaveArrived (reading_left left) ways heard → old ≡ given → PublishesAllAlong p ways given
-all_published {I} remaining p log first old given None ways heard planned new ends some arrived same = absurd (none_left ways heard some arrived)
-all_published {I} remaining p log first old given (Some left) ways heard planned new ends some arrived same = subst (PublishesAllAlong p ways) same (record {
+pub all_published : {I : Type 0} (remaining : I → Option (List ℕ)) (p : PublishPlan) (log : LogValue) (first : PublisherValue) (old given : Option (List ℕ)) (left : Option (InputEnd I)) (ways : ℕ) (heard : List Attendance) (told : List (Option ToldEnds))
+    → IsPlanned p log → IsNew log 0 first → IfSome left (λ l. EndsInput p.end.form log old (remaining l.input) first.pass l.publisher l.reading) → 0 < ways → AllHaveArrived (reading_left left) ways heard → are_told_alone p.geometry (end_in (reading_left left)) told ≡ true → old ≡ given → PublishesAllAlong p ways given
+all_published {I} remaining p log first old given None ways heard told planned new ends some arrived alone same = absurd (none_left ways heard some arrived)
+all_published {I} remaining p log first old given (Some left) ways heard told planned new ends some arrived alone same = subst (PublishesAllAlong p ways) same (record {
   log = log;
   log_is = planned;
   first = first;
@@ -33,6 +36,8 @@ all_published {I} remaining p log first old given (Some left) ways heard planned
   ends = ends;
   heard = heard;
   arrived = arrived;
+  told = told;
+  alone = alone;
 })
 
 -- what a thread has promised, by what it was given

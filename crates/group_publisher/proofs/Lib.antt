@@ -6,3 +6,4 @@ pub mod One
 pub mod Along
 pub mod Ends
 pub mod Given
+pub mod Begun

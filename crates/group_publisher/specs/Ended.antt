@@ -1,5 +1,5 @@
 -- What a publisher to several subscribers that has ended whole has read and published, and what was heard of that.
-use Rattle.std.specs.Prelude.{◌≡◌, ℕ, nat_eq, List, length, Option, Some, Result, Ok, Err, if◌then◌else◌}
+use Rattle.std.specs.Prelude.{◌≡◌, ℕ, true, nat_eq, List, length, Option, Some, Result, Ok, Err, if◌then◌else◌}
 use Rattle.std.specs.List.{AllByRecursion}
 use Rattle.log_rule.specs.Claims.Handles.{PublisherValue}
 use Rattle.shared_log.specs.Handles.{IsNew, LogValue}
@@ -9,7 +9,10 @@ use Rattle.peer.specs.declared.ending.Ending.{Ending}
 use Rattle.peer.specs.declared.ending.Ending.TheVariants.{Short}
 use Rattle.offering.specs.Ended.{EndsInput}
 use Rattle.offering.specs.declared.reading.Reading.{Reading}
+use Rattle.peer.specs.declared.watch.ToldEnds.{ToldEnds}
 use Rattle.publisher.specs.Ended.{AllArrived}
+use Rattle.publisher.specs.Judging.{end_in}
+use Rattle.group_publisher.specs.Farewells.{are_told_alone}
 use Rattle.publisher.specs.Openings.{IsPlanned}
 use Rattle.publisher.specs.declared.fault.PublishFault.{PublishFault}
 
@@ -36,3 +39,6 @@ pub record PublishesAllAlong (p : PublishPlan) (ways : ℕ) (old : Option (List 
   pub ends : EndsInput p.end.form log old new first.pass last reading
   pub heard : List Attendance
   pub arrived : AllHaveArrived (Some reading) ways heard
+  -- of the ends that each way's device was given to tell each is where the reading's messages end
+  pub told : List (Option ToldEnds)
+  pub alone : are_told_alone p.geometry (end_in (Some reading)) told ≡ true

@@ -1,9 +1,10 @@
 -- What a cycle shows along a way.
-use Rattle.std.specs.Prelude.{ℕ, Bool, not, ◌&&◌, ◌||◌, nat_eq, nat_lt, is_some, Option, None, Some}
+use Rattle.std.specs.Prelude.{ℕ, Bool, true, false, not, ◌&&◌, ◌||◌, nat_eq, nat_lt, is_some, Option, None, Some}
 use Rattle.loss_injector.specs.Losing.{Losing}
 use Rattle.peer.specs.Patience.{Patient}
 use Rattle.peer.specs.Silences.{judged}
-use Rattle.peer.specs.Watching.{Watching, told}
+use Rattle.peer.specs.Watching.{Watching, behind_of, told}
+use Rattle.peer.specs.declared.watch.Behind.{Behind}
 use Rattle.peer.specs.declared.attendance.Attendance.{Attendance}
 use Rattle.publisher.specs.Looking.{calls_of, seen_of}
 use Rattle.publisher.specs.Progress.{is_alone, is_broken, seen, with_work}
@@ -43,7 +44,12 @@ quiet_after now w = is_quiet (shown w).attendance (silence_after now w) w.quiet
 
 -- what was seen up to this moment
 abbrev pub seen_along : {D : Type 0} → ℕ → ℕ → ChannelWay D → ChannelWay D
-seen_along linger now w = record w { progress = progress_after now w; silence = silence_after now w; quiet = quiet_after now w; broken = is_broken w.progress (shown w).worked linger now }
+seen_along linger now w = record w { progress = progress_after now w; silence = silence_after now w; quiet = quiet_after now w; behind = is_some (behind_of w.device.watch); broken = is_broken w.progress (shown w).worked linger now }
+
+-- one that is left behind is news where it wasn't before
+abbrev pub behind_now : Option Behind → Bool → Option Behind
+behind_now behind true = None
+behind_now behind false = behind
 
 -- what is to be told of that
 abbrev pub news_along : {D : Type 0} → ℕ → ℕ → ChannelWay D → News
@@ -51,4 +57,5 @@ news_along linger now w = record {
   changed = not (nat_eq (shown w).attendance.changes w.progress.changes);
   alone = is_alone (after_work now w) (shown w).attendance now;
   quiet = quiet_after now w && not w.quiet;
+  behind = behind_now (behind_of w.device.watch) w.behind;
 }

@@ -1,8 +1,9 @@
 -- What a publisher to several subscribers tells on its error output.
-use Rattle.std.specs.Prelude.{ℕ, List, [], ◌∷◌, ◌++◌, codes, nat_lt, if◌then◌else◌}
+use Rattle.std.specs.Prelude.{ℕ, List, [], ◌∷◌, ◌++◌, codes, decimal}
 use Rattle.std.specs.Net.Text.{socket_text}
 use Rattle.std.specs.declared.net.SocketAddr.{SocketAddr}
-use Rattle.publisher.specs.Texts.{short_text}
+use Rattle.peer.specs.Texts.{joined}
+use Rattle.peer.specs.declared.watch.Behind.{Behind}
 
 -- whom a line is about
 abbrev pub at_text : SocketAddr → List ℕ
@@ -11,10 +12,12 @@ at_text peer = socket_text peer ++ codes ": "
 abbrev pub quiet_line : List ℕ
 quiet_line = codes "nothing was heard for 5 s: the others go on without it" ++ 10 ∷ []
 
--- the tail was told, but not by one alone
-abbrev pub several_line : List ℕ
-several_line = codes "not all was written by one subscriber that was there from the start on" ++ 10 ∷ []
+-- one that is left behind, so far
+abbrev pub behind_line : SocketAddr → Behind → List ℕ
+behind_line peer b = joined (
+    socket_text peer ∷ codes " came back " ∷ decimal b.missing ∷ codes " bytes behind, of which " ∷ decimal b.reach ∷ codes " can be sent again: left behind" ∷ [])
+    ++ 10 ∷ []
 
--- less was told, as a publisher to one tells it, or the tail was
-abbrev pub unwritten_line : ℕ → ℕ → List ℕ
-unwritten_line told tail = if nat_lt told tail then short_text told tail else several_line
+-- the others begin without the one that is to be there
+abbrev pub left_out_line : SocketAddr → ℕ → List ℕ
+left_out_line peer seconds = joined (codes "nobody was heard at " ∷ socket_text peer ∷ codes " for " ∷ decimal seconds ∷ codes " s: the others begin without it" ∷ []) ++ 10 ∷ []

@@ -1,8 +1,8 @@
 //! How a publisher to several subscribers ends.
 
 ghost use Rattle.std.specs.Prelude.{◌≡◌};
-ghost use Rattle.std.specs.List.{list_all, list_any};
-ghost use Rattle.group_publisher.specs.Endings.{EndsAsOne, group_ending, is_broken_along, is_missed_along, is_over_along, is_whole_along};
+ghost use Rattle.std.specs.List.{list_all};
+ghost use Rattle.group_publisher.specs.Endings.{EndsAsOne, group_ending, is_broken_along, is_over_along, is_whole_along};
 
 use crate::way::Way;
 use endpoint::Datagrams;
@@ -17,23 +17,12 @@ impl<D: Datagrams> Way<ChannelDevice<D>> {
         self.device.attendance().is_whole(end)
     }
 
-    /// Whether nothing more is waited for along it.
+    /// Whether nothing more is waited for along it: one that is left behind can't come to the stream's end any more.
     fn is_over(&self, end: Option<u64>, linger: u64, wait: u64) -> bool
         ensures { result ≡ is_over_along end linger wait self.now }
     {
         let attendance = self.device.attendance();
-        attendance.ending(end, self.silence, linger, wait).is_some()
-    }
-
-    /// Whether nobody was ever heard along it, and is waited for no longer.
-    fn is_missed(&self, wait: u64) -> bool
-        ensures { result ≡ is_missed_along wait self.now }
-    {
-        let attendance = self.device.attendance();
-        match self.silence {
-            None => false,
-            Some(silence) => attendance.present.is_none() && wait <= silence,
-        }
+        self.behind || attendance.ending(end, self.silence, linger, wait).is_some()
     }
 }
 
@@ -62,16 +51,6 @@ fn are_over<D: Datagrams>(
     all
 }
 
-fn is_one_missed<D: Datagrams>(ways: &[Way<ChannelDevice<D>>], wait: u64) -> bool
-    ensures { result ≡ list_any (is_missed_along wait) ways.now }
-{
-    let mut any = false;
-    for way in ways {
-        any = any || way.is_missed(wait);
-    }
-    any
-}
-
 /// Whether each call of each way's device has failed for too long.
 pub(crate) fn are_broken<D>(ways: &[Way<D>]) -> bool
     ensures { result ≡ list_all is_broken_along ways.now }
@@ -84,9 +63,9 @@ pub(crate) fn are_broken<D>(ways: &[Way<D>]) -> bool
 }
 
 /// Whether a publisher ends, and how, by what was seen along its ways. Its stream ends at `end`, if its input has ended. It
-/// ends whole where each of its receivers has received all. It gives up where nobody was ever heard along one of the ways for
-/// `wait` nanoseconds, or nothing more is waited for along any: the tail was told, or no status message has come for `linger`
-/// nanoseconds.
+/// ends whole where each of its receivers has received all. It gives up where nothing more is waited for along any way: the
+/// tail was told; or no status message has come for `linger` nanoseconds, or none at all for `wait`; or its receiver is left
+/// behind.
 pub fn group_ending<D: Datagrams>(
     ways: &[Way<ChannelDevice<D>>],
     end: Option<u64>,
@@ -98,13 +77,13 @@ pub fn group_ending<D: Datagrams>(
     if are_whole(ways, end) {
         return Some(Ending::Whole);
     }
-    if is_one_missed(ways, wait) || are_over(ways, end, linger, wait) {
+    if are_over(ways, end, linger, wait) {
         return Some(Ending::Short);
     }
     None
 }
 
-/// A law: along one way a group ends as its one receiver does.
+/// A law: along one way a group ends as its one receiver does, where that isn't left behind.
 pub fn ends_as_one()
     ensures { EndsAsOne }
 {}

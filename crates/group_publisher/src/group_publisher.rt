@@ -1,6 +1,6 @@
 //! A publisher to several subscribers from its begin to its end.
 
-ghost use Rattle.std.specs.Prelude.{◌≡◌, [], Some, ◌≤◌, ◌<◌, IfOk, IfSome, Ok, length};
+ghost use Rattle.std.specs.Prelude.{◌≡◌, [], Some, ◌≤◌, ◌<◌, Err, IfOk, IfSome, Ok, length, true};
 ghost use Rattle.std.specs.Arc.{arc_value};
 ghost use Rattle.position.specs.Openings.{IsStart};
 ghost use Rattle.shared_log.specs.Books.{IsDone};
@@ -11,9 +11,11 @@ ghost use Rattle.peer.specs.declared.ending.Ending.TheVariants.{Whole};
 ghost use Rattle.offering.specs.Ended.{EndsInput};
 ghost use Rattle.publisher.specs.Beginnings.{ArePublisherParts, device_of};
 ghost use Rattle.publisher.specs.Ended.{reading_left};
+ghost use Rattle.publisher.specs.Judging.{end_in, fault_in};
 ghost use Rattle.publisher.specs.Openings.{ArePasses};
 ghost use Rattle.group_publisher.specs.Beginnings.{AreWaysAlong, IsWayOf};
 ghost use Rattle.group_publisher.specs.Ended.{AllHaveArrived, PublishesAllAlong};
+ghost use Rattle.group_publisher.specs.Farewells.{are_told_alone};
 
 use crate::sender_thread::{GroupDevice, GroupSender};
 use crate::two_threads::{GroupPublished, run};
@@ -45,7 +47,7 @@ fn way_over<D: Datagrams>(
     requires { number < 8 }
     ensures { IsWayOf plan.now number peer device result }
 {
-    let device = channel_device(alloc, plan, device);
+    let device = channel_device(alloc, plan, Some(number as u8), device);
     Way {
         device,
         number: number as i64,
@@ -54,6 +56,7 @@ fn way_over<D: Datagrams>(
         progress: Progress::new(),
         silence: None,
         quiet: false,
+        behind: false,
         broken: false,
     }
 }
@@ -127,6 +130,8 @@ fn publish_shared<
     requires offering { ((arc_value offering.state).log ≡ context.now.state.now.log) × IsDone context.now.state.now.log offering.publisher }
     ensures input { IfOk result (λ e. IfSome e.input (λ left. EndsInput context.now.plan.now.end.form context.now.state.now.log (I.remaining offering.input) (I.remaining left.input) offering.publisher.pass left.publisher left.reading)) }
     ensures whole { IfOk result (λ e. e.ending ≡ Ok Whole → AllHaveArrived (reading_left e.input) sending.ways e.attendances.items) }
+    ensures faulted { IfOk result (λ e. IfSome (fault_in (reading_left e.input)) (λ fault. e.ending ≡ Err fault)) }
+    ensures told { IfOk result (λ e. e.ending ≡ Ok Whole → are_told_alone context.now.plan.now.geometry (end_in (reading_left e.input)) e.ends.items ≡ true) }
 {
     let Sending {
         reader,
@@ -163,9 +168,14 @@ pub fn publish_group_over<
     requires few { length parts.passes.duty.device.ways ≤ 8 }
     ensures input { IfOk result (λ e. IfSome e.input (λ left. EndsInput plan.now.end.form parts.state.log (I.remaining input) (I.remaining left.input) parts.publisher.pass left.publisher left.reading)) }
     ensures whole { IfOk result (λ e. e.ending ≡ Ok Whole → AllHaveArrived (reading_left e.input) (length parts.passes.duty.device.ways) e.attendances.items) }
+    // A message that couldn't be read is a fault, however the sending went.
+    ensures faulted { IfOk result (λ e. IfSome (fault_in (reading_left e.input)) (λ fault. e.ending ≡ Err fault)) }
+    // Where it ends whole no way's device was given an end to tell but the reading's.
+    ensures told { IfOk result (λ e. e.ending ≡ Ok Whole → are_told_alone plan.now.geometry (end_in (reading_left e.input)) e.ends.items ≡ true) }
 {
     let PublisherParts {
         began,
+        peer: _,
         state,
         conductor,
         publisher,
@@ -198,13 +208,15 @@ fn prepared<R: Net + Clock>(
     plan: &PublishPlan,
     routes: &[Route],
 ) -> Result<PublisherParts<GroupDevice<UdpDevice>>, PublishFault>
-    requires { length routes.now ≤ 8 }
+    requires some { 0 < length routes.now }
+    requires few { length routes.now ≤ 8 }
     ensures parts { IfOk result (λ p. ArePublisherParts plan.now p) }
     ensures ways { IfOk result (λ p. AreWaysAlong plan.now routes.now p.passes.duty.device.ways) }
 {
     let began = Began::now(rt)?;
     let ways = ways_along(rt, alloc, plan, routes)?;
-    parts_over(alloc, plan, began, Fan::new(ways))
+    let first = routes[0].peer;
+    parts_over(alloc, plan, began, first, Fan::new(ways))
 }
 
 /// How it ended; what is left is let go.

@@ -3,15 +3,13 @@
 ghost use Rattle.std.specs.Prelude.{◌≡◌};
 ghost use Rattle.std.specs.Prelude.{map};
 ghost use Rattle.peer.specs.Watching.{told};
-ghost use Rattle.group_publisher.specs.Seeing.{begun, is_quiet, news_along, seen_along};
+ghost use Rattle.group_publisher.specs.Seeing.{begun, behind_now, is_quiet, news_along, seen_along};
 
 use crate::way::Way;
 use endpoint::Datagrams;
-use peer::{Attendance, Attended};
+use flow_control::LIVE;
+use peer::{Attendance, Attended, Behind};
 use publisher::{ChannelDevice, calls_of, look};
-
-/// Nanoseconds of silence behind which the others go on without a receiver.
-const QUIET: u64 = 5_000_000_000;
 
 /// What is to be told of a way.
 #[derive(Clone, Copy, Debug, PartialEq, Eq)]
@@ -22,6 +20,15 @@ pub struct News {
     pub alone: bool,
     /// The one that was heard is silent now.
     pub quiet: bool,
+    /// The one that was heard last is left behind now, so far.
+    pub behind: Option<Behind>,
+}
+
+/// What is news of one that is left behind so far, if it is: it wasn't before.
+fn behind_now(behind: Option<Behind>, before: bool) -> Option<Behind>
+    ensures { result ≡ behind_now behind before }
+{
+    if before { None } else { behind }
 }
 
 /// Whether one that was heard is silent for so long that the others go on without it; as before where that isn't judged.
@@ -30,7 +37,7 @@ fn is_quiet(attendance: &Attendance, silence: Option<u64>, before: bool) -> bool
 {
     match silence {
         None => before,
-        Some(silence) => attendance.present.is_some() && silence > QUIET,
+        Some(silence) => attendance.present.is_some() && silence > LIVE,
     }
 }
 
@@ -58,16 +65,19 @@ impl<D: Datagrams> Way<ChannelDevice<D>> {
         ensures news { result ≡ news_along linger now self.old }
     {
         let seen = look(self.before, &self.device);
-        let was_quiet = self.quiet;
+        let (was_quiet, was_behind) = (self.quiet, self.behind);
+        let behind = self.device.behind();
         self.broken = self.progress.is_broken(seen.worked, linger, now);
         let changed = self.progress.see(&seen, now);
         let alone = self.progress.is_alone(&seen.attendance, now);
         self.silence = self.progress.statuses.judged(seen.at_rest, now);
         self.quiet = is_quiet(&seen.attendance, self.silence, was_quiet);
+        self.behind = behind.is_some();
         News {
             changed,
             alone,
             quiet: self.quiet && !was_quiet,
+            behind: behind_now(behind, was_behind),
         }
     }
 }

@@ -1,6 +1,6 @@
 //! The thread that sends along all ways, keeps the log, and decides the end.
 
-ghost use Rattle.std.specs.Prelude.{◌≡◌, Err, IfErr, IfOk, IsTrue, map};
+ghost use Rattle.std.specs.Prelude.{◌≡◌, ◌≤◌, Err, IfErr, IfOk, IsTrue, is_some, length, map};
 ghost use Rattle.std.specs.List.{list_all};
 ghost use Rattle.agents.specs.LogSenders.{SendsLog};
 ghost use Rattle.sender_meaning.specs.Moments.{CyclesAt};
@@ -8,24 +8,38 @@ ghost use Rattle.endpoint.specs.declared.device_error.DeviceError.TheVariants.{D
 ghost use Rattle.publisher.specs.Judging.{FailsBy};
 ghost use Rattle.publisher.specs.Keeping.{KeepsLog};
 ghost use Rattle.publisher.specs.Openings.{ArePasses};
+ghost use Rattle.publisher.specs.Progress.{end_to_tell, with_end_told};
 ghost use Rattle.publisher.specs.declared.fault.PublishFault.TheVariants.{Failed};
-ghost use Rattle.group_publisher.specs.Endings.{is_broken_along};
+ghost use Rattle.group_publisher.specs.Beginnings.{unnumbered, with_flow};
+ghost use Rattle.group_publisher.specs.Endings.{heard_along, is_broken_along};
+ghost use Rattle.group_publisher.specs.Farewells.{TellsWhereDue};
 ghost use Rattle.group_publisher.specs.Judging.{Ends, Judges};
 ghost use Rattle.group_publisher.specs.Seeing.{begun, seen_along};
 
 use crate::ending::{are_broken, group_ending};
 use crate::seeing::begin_all;
-use crate::telling::{tell_counts, tell_news, tell_unwritten_ways};
+use crate::telling::{tell_counts, tell_left_out, tell_news, tell_unwritten_ways};
+use crate::two_threads::tell_all;
 use crate::way::Way;
 use agents::{Duty, IdleStrategy, StreamSender};
 use endpoint::{Datagrams, DeviceError, Fan};
+use flow_control::StreamFlow;
 use publisher::{
     ChannelDevice, Ending, Judged, Progress, PublishFault, PublisherContext, SenderPasses,
-    check_reading, end_in, keep, tell_ending,
+    check_reading, end_in, end_unless_judged, keep, messages_in, tail_in, tell_whole,
 };
 use std::io::Write;
 use std::sync::Wait;
 use std::time::Clock;
+
+/// The number of a way that is of no group.
+const OUTSIDE: i64 = -1;
+
+/// How many ways there are at the most.
+const MOST_WAYS: usize = 8;
+
+/// The nanoseconds of a second.
+const NANOSECONDS_PER_SECOND: u64 = 1_000_000_000;
 
 /// What a publisher to several subscribers sends with: a way to each.
 pub type GroupDevice<D> = Fan<Way<ChannelDevice<D>>>;
@@ -126,6 +140,24 @@ fn cycle<R: Wait + Clock, D: Datagrams, E: Write>(
     Ok(busy)
 }
 
+/// Tells the receivers along all ways where the stream ends, where the input has ended, all was sent, and it wasn't told for
+/// 100 ms.
+fn tell_end_where_due<D: Datagrams>(
+    sender: &mut GroupSender<'_, D>,
+    progress: &mut Progress,
+    end: Option<u64>,
+    now: u64,
+)
+    ensures told { TellsWhereDue (end_to_tell progress.old end sender.old.agent.core.handler.at now) sender.old.passes.duty.device.ways sender.new.passes.duty.device.ways }
+    ensures progress { progress.new ≡ with_end_told progress.old (end_to_tell progress.old end sender.old.agent.core.handler.at now) now }
+    ensures agent { sender.new.agent ≡ sender.old.agent }
+    ensures passes { sender.new.passes ≡ record sender.old.passes { duty = record sender.old.passes.duty { device = sender.new.passes.duty.device } } }
+{
+    if let Some(tail) = progress.end_to_tell(end, sender.agent.position(), now) {
+        tell_all(&mut sender.passes.duty, tail);
+    }
+}
+
 /// Tells what is due. The answer is how the publisher ends, if it does, and how the reading had ended then.
 ///
 /// The fault is `Device` where each call of each way's device failed for the plan's linger, and the input's where no message
@@ -144,7 +176,8 @@ fn judge<R, D: Datagrams, E: Write>(
 {
     let (plan, state) = (context.plan, context.state);
     let reading = state.reading();
-    let (messages, tail) = (state.messages(), state.tail());
+    let messages = messages_in(&reading, state.messages());
+    let tail = tail_in(&reading, state.tail());
     if are_broken(ways) {
         return Err(PublishFault::Failed(DeviceError::Device));
     }
@@ -156,15 +189,91 @@ fn judge<R, D: Datagrams, E: Write>(
     };
     match ending {
         Ending::Whole => {
-            let _ = tell_ending(errors, ending, plan.start, tail, tail);
+            let _ = tell_whole(errors, plan.start, tail);
         }
         Ending::Short => tell_unwritten_ways(errors, ways, end, tail),
     }
     Ok(Some(Judged { ending, reading }))
 }
 
+/// Whether somebody was heard along a way.
+fn is_heard<D>(way: &Way<ChannelDevice<D>>) -> bool
+    ensures { result ≡ is_some (heard_along way.now).present }
+{
+    way.device.attendance().present.is_some()
+}
+
+/// Along how many ways somebody was heard.
+fn count_heard<D>(ways: &[Way<ChannelDevice<D>>]) -> usize
+    ensures { result ≤ length ways.now }
+{
+    let mut count = 0;
+    for way in ways {
+        if is_heard(way) {
+            count += 1;
+        }
+    }
+    count
+}
+
+/// Gives a way this number, if somebody was heard along it; else a number that is of no group, and that is told.
+fn number<D, E: Write>(way: &mut Way<ChannelDevice<D>>, errors: &mut E, number: i64, wait: u64)
+    ensures { way.new ≡ record way.old { number = way.new.number } }
+{
+    way.number = number;
+    if !is_heard(way) {
+        way.number = OUTSIDE;
+        let _ = tell_left_out(errors, way.peer, wait / NANOSECONDS_PER_SECOND);
+    }
+}
+
+/// Numbers the ways along which somebody was heard from 0 on; the others are told.
+fn number_heard<D, E: Write>(ways: &mut [Way<ChannelDevice<D>>], errors: &mut E, wait: u64)
+    ensures { map unnumbered ways.new ≡ map unnumbered ways.old }
+{
+    let mut next: i64 = 0;
+    for way in ways.iter_mut() {
+        number(way, errors, next, wait);
+        if is_heard(way) {
+            next = next.wrapping_add(1);
+        }
+    }
+}
+
+/// Begins with those that were heard, once the others weren't for as long as the plan waits: these are told, and hold nobody up
+/// when they come. Nothing but SETUPs was sent before. Whether it has begun.
+fn begin_with_heard<D: Datagrams, E: Write>(
+    sender: &mut GroupSender<'_, D>,
+    errors: &mut E,
+    begun: bool,
+    wait: u64,
+    now: u64,
+) -> bool
+    ensures agent { sender.new.agent ≡ with_flow sender.old.agent sender.new.agent.core.flow }
+    ensures passes { sender.new.passes ≡ record sender.old.passes { duty = record sender.old.passes.duty { device = sender.new.passes.duty.device } } }
+    ensures kept { map unnumbered sender.new.passes.duty.device.ways ≡ map unnumbered sender.old.passes.duty.device.ways }
+{
+    if begun || now < wait {
+        return begun;
+    }
+    let ways = sender.passes.duty.device().each();
+    let (heard, all) = (count_heard(ways), ways.len());
+    let position = sender.agent.position();
+    if heard == 0 || heard > MOST_WAYS || position > i64::MAX as u64 {
+        return false;
+    }
+    if heard < all {
+        number_heard(sender.passes.duty.device_mut().each_mut(), errors, wait);
+        sender
+            .agent
+            .set_flow(StreamFlow::new(position, Some(heard)));
+    }
+    true
+}
+
 /// Sends and keeps until the publisher ends. The answer is how, by the receivers that its ways have heard, and by how the
 /// reading had ended then.
+#[tactic(auto, using(crate::proofs::Begun::sends_still))]
 pub(crate) fn send_all<R: Wait + Clock, D: Datagrams, E: Write>(
     context: &PublisherContext<'_, R>,
     sender: &mut GroupSender<'_, D>,
@@ -175,14 +284,19 @@ pub(crate) fn send_all<R: Wait + Clock, D: Datagrams, E: Write>(
     ensures { IfOk result (λ judged. Ends sender.new.passes.duty.device.ways context.now.plan.now.linger context.now.plan.now.wait judged) }
 {
     let mut progress = Progress::new();
+    let mut begun = false;
     let mut idle = IdleStrategy::new();
     for _ in context.rt.forever() {
         let now = context.began.moment(context.rt)?;
         let busy = cycle(context, sender, errors, now)?;
         let ways = sender.passes.duty.device().each();
-        if let Some(judged) = judge(context, ways, &mut progress, errors, now)? {
+        let judged = judge(context, ways, &mut progress, errors, now)?;
+        if let Some(judged) = judged {
             return Ok(judged);
         }
+        begun = begin_with_heard(sender, errors, begun, context.plan.wait, now);
+        let end = end_unless_judged(&judged, &context.state.reading());
+        tell_end_where_due(sender, &mut progress, end, now);
         idle.after(context.rt, busy);
     }
     unreachable!()

@@ -4,15 +4,15 @@
 ghost use Rattle.std.specs.Prelude.{◌≡◌, ◌++◌, OnOk};
 ghost use Rattle.std.specs.Io.KnownBytes.{Appends};
 ghost use Rattle.publisher.specs.Texts.{alone_line, change_text, counters_line};
-ghost use Rattle.group_publisher.specs.Texts.{at_text, quiet_line, several_line, unwritten_line};
+ghost use Rattle.group_publisher.specs.Texts.{at_text, behind_line, left_out_line, quiet_line};
 
 use crate::seeing::News;
 use crate::way::Way;
 use endpoint::Datagrams;
-use peer::{Attendance, Ending};
+use peer::{Attendance, Behind};
 use publisher::{
-    ChannelDevice, Counts, Progress, PublisherContext, look, tell_alone, tell_change,
-    tell_counters, tell_ending, tell_refused, told_in,
+    ChannelDevice, Counts, Progress, PublisherContext, look, shortfall_of, tell_alone, tell_change,
+    tell_counters, tell_refused, tell_shortfall, told_in,
 };
 use std::io;
 use std::io::Write;
@@ -68,38 +68,29 @@ fn tell_traffic<E: Write>(errors: &mut E, peer: SocketAddr, counts: Counts) -> i
     tell_counters(errors, counts)
 }
 
-/// The tail was told, but not by one that was alone and there from the start on.
-fn tell_several<E: Write>(errors: &mut E) -> io::Result<()>
-    ensures { OnOk result (Appends (E.contents errors.old) (E.contents errors.new) several_line) }
+/// The one that was heard there last is left behind, so far.
+fn tell_behind<E: Write>(errors: &mut E, peer: SocketAddr, behind: Behind) -> io::Result<()>
+    ensures { OnOk result (Appends (E.contents errors.old) (E.contents errors.new) (behind_line peer behind)) }
 {
+    let (missing, reach) = (behind.missing, behind.reach);
     writeln!(
         errors,
-        "not all was written by one subscriber that was there from the start on"
+        "{peer} came back {missing} bytes behind, of which {reach} can be sent again: left behind"
     )
 }
 
-/// Not all was written by one subscriber: of a stream up to `tail` this was told.
-fn tell_rest<E: Write>(errors: &mut E, told: u64, tail: u64) -> io::Result<()>
-    ensures { OnOk result (Appends (E.contents errors.old) (E.contents errors.new) (unwritten_line told tail)) }
-{
-    if told < tail {
-        return tell_ending(errors, Ending::Short, tail, told, tail);
-    }
-    tell_several(errors)
-}
-
-/// The same of the one that is there.
-#[tactic(auto, using(crate::proofs::Lines::behind))]
-fn tell_unwritten<E: Write>(
+/// Nobody was heard there for so many seconds, and the others begin.
+pub(crate) fn tell_left_out<E: Write>(
     errors: &mut E,
     peer: SocketAddr,
-    told: u64,
-    tail: u64,
+    seconds: u64,
 ) -> io::Result<()>
-    ensures { OnOk result (Appends (E.contents errors.old) (E.contents errors.new) (at_text peer ++ unwritten_line told tail)) }
+    ensures { OnOk result (Appends (E.contents errors.old) (E.contents errors.new) (left_out_line peer seconds)) }
 {
-    tell_at(errors, peer)?;
-    tell_rest(errors, told, tail)
+    writeln!(
+        errors,
+        "nobody was heard at {peer} for {seconds} s: the others begin without it"
+    )
 }
 
 /// Tells what is new along a way.
@@ -117,6 +108,9 @@ pub(crate) fn tell_news<D: Datagrams, E: Write>(
     if news.quiet {
         let _ = tell_quiet(errors, way.peer);
     }
+    if let Some(behind) = news.behind {
+        let _ = tell_behind(errors, way.peer, behind);
+    }
 }
 
 /// Tells along which ways not all was written of a stream that ends at `end`, if its input has ended, and else has come to `tail`.
@@ -129,7 +123,8 @@ pub(crate) fn tell_unwritten_ways<D: Datagrams, E: Write>(
     for way in ways {
         let attendance = way.device.attendance();
         if !attendance.is_whole(end) {
-            let _ = tell_unwritten(errors, way.peer, told_in(&attendance), tail);
+            let shortfall = shortfall_of(&attendance, end, tail, way.silence);
+            let _ = tell_shortfall(errors, way.peer, shortfall);
         }
     }
 }

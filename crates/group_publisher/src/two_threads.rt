@@ -1,18 +1,18 @@
 //! The two threads of a publisher to several subscribers: one reads messages and offers them, the other sends, keeps the log and
 //! decides the end.
 
-ghost use Rattle.std.specs.Prelude.{◌≡◌, ◌≤◌, [], IfOk, IfSome, Ok, Some, length, map, OnErr, OnOk};
-ghost use Rattle.theory.specs.Position.{max_position};
+ghost use Rattle.std.specs.Prelude.{◌≡◌, [], Err, IfOk, IfSome, Ok, Some, length, map, true};
 ghost use Rattle.shared_log.specs.Readers.{ReaderValue};
 ghost use Rattle.flow_control.specs.Stream.{flow_after};
 ghost use Rattle.agents.specs.LogSenders.{IsNewSenderBy, SendsLog};
 ghost use Rattle.peer.specs.declared.ending.Ending.TheVariants.{Whole};
 ghost use Rattle.offering.specs.Ended.{EndsInput};
 ghost use Rattle.publisher.specs.Ended.{reading_left};
+ghost use Rattle.publisher.specs.Judging.{end_in, fault_in};
 ghost use Rattle.publisher.specs.Openings.{ArePasses};
 ghost use Rattle.group_publisher.specs.Ended.{AllHaveArrived, ending_with};
 ghost use Rattle.group_publisher.specs.Endings.{heard_along};
-ghost use Rattle.group_publisher.specs.Farewells.{AreGiven, given_along, given_with};
+ghost use Rattle.group_publisher.specs.Farewells.{AreGiven, AreTold, TellsFarewell, are_told_alone, ends_along, ends_with, given_along, given_with};
 
 use crate::sender_thread::{GroupDevice, GroupSender, send_all};
 use crate::telling::tell_refused_ways;
@@ -20,10 +20,11 @@ use crate::way::Way;
 use agents::Duty;
 use endpoint::{Datagrams, DeviceError};
 use offering::{InputEnd, Reader};
-use peer::{Attendance, farewell_bytes};
+use peer::{Attendance, ToldEnds};
+use position::Geometry;
 use publisher::{
-    ChannelDevice, Ending, PublishFault, PublisherContext, ended, input_end, planned_stream,
-    reading_left,
+    ChannelDevice, Ending, FAREWELL_PAUSE, FAREWELLS, PublishFault, PublisherContext, end_in,
+    ended, ending_told, farewell_in, has_told_alone, input_end, reading_left,
 };
 use std::alloc::{AllocError, Global};
 use std::io::{BufRead, Write};
@@ -32,18 +33,14 @@ use std::thread;
 use std::thread::Threads;
 use std::time::{Clock, Duration};
 
-/// How many times the stream's end is told.
-const FAREWELLS: u32 = 5;
-
-/// Milliseconds from one time to the next.
-const FAREWELL_PAUSE: u64 = 20;
-
 /// How a publisher to several subscribers ended: whom it had heard then along each way, and where its reading had ended too,
 /// what is left of that.
 #[derive(Drop)]
 pub struct GroupPublished<I> {
     pub ending: Result<Ending, PublishFault>,
     pub attendances: Vec<Attendance>,
+    /// The ends of its stream that the device of each way was given to tell.
+    pub ends: Vec<Option<ToldEnds>>,
     pub input: Option<InputEnd<I>>,
 }
 
@@ -61,59 +58,69 @@ fn attendances_of<D: Datagrams>(
     Ok(all)
 }
 
-/// Gives the device of a way a datagram.
-fn give<D: Datagrams>(way: &mut Way<ChannelDevice<D>>, datagram: &[u8])
-    ensures { given_along way.new ≡ given_with 1 way.old }
+/// The ends of the stream that the device of each way was given to tell.
+fn ends_of<D: Datagrams>(
+    alloc: Global,
+    ways: &[Way<ChannelDevice<D>>],
+) -> Result<Vec<Option<ToldEnds>>, AllocError>
+    ensures { IfOk result (λ all. all.items ≡ map ends_along ways.now) }
 {
-    let _ = way.device.send(datagram);
+    let mut all = Vec::new(alloc);
+    for way in ways {
+        all.push(way.device.ends())?;
+    }
+    Ok(all)
 }
 
-/// Gives the device of each way a datagram, whatever becomes of it along the others.
-fn give_each<D: Datagrams>(ways: &mut [Way<ChannelDevice<D>>], datagram: &[u8])
-    ensures { AreGiven 1 ways.old ways.new }
+/// Whether each device told this end alone.
+fn are_told_alone(ends: &[Option<ToldEnds>], geometry: &Geometry, end: Option<u64>) -> bool
+    ensures { result ≡ are_told_alone geometry.now end ends.now }
+{
+    let mut all = true;
+    for told in ends {
+        all = all && has_told_alone(*told, geometry, end);
+    }
+    all
+}
+
+/// Tells the receiver along a way where the stream ends.
+fn tell<D: Datagrams>(way: &mut Way<ChannelDevice<D>>, tail: u64)
+    ensures given { given_along way.new ≡ given_with 1 way.old }
+    ensures told { ends_along way.new ≡ ends_with tail way.old }
+{
+    way.device.tell_end(tail);
+}
+
+/// Tells the receivers along all ways where the stream ends, whatever becomes of it along the others.
+pub(crate) fn tell_each<D: Datagrams>(ways: &mut [Way<ChannelDevice<D>>], tail: u64)
+    ensures given { AreGiven 1 ways.old ways.new }
+    ensures told { AreTold tail ways.old ways.new }
 {
     for way in ways.iter_mut() {
-        give(way, datagram);
+        tell(way, tail);
     }
 }
 
 /// The same over what it sends with.
-fn give_all<D: Datagrams>(duty: &mut Duty<GroupDevice<D>>, datagram: &[u8])
-    ensures { AreGiven 1 duty.old.device.ways duty.new.device.ways }
+pub(crate) fn tell_all<D: Datagrams>(duty: &mut Duty<GroupDevice<D>>, tail: u64)
+    ensures same { duty.new ≡ record duty.old { device = duty.new.device } }
+    ensures given { AreGiven 1 duty.old.device.ways duty.new.device.ways }
+    ensures told { AreTold tail duty.old.device.ways duty.new.device.ways }
 {
-    give_each(duty.device_mut().each_mut(), datagram);
+    tell_each(duty.device_mut().each_mut(), tail);
 }
 
 /// Tells the receivers along all ways where the stream ends: five times, 20 ms apart.
-fn tell_end<R: Clock, D: Datagrams>(
-    context: &PublisherContext<'_, R>,
-    duty: &mut Duty<GroupDevice<D>>,
-    tail: u64,
-)
-    requires { tail ≤ max_position context.now.plan.now.geometry }
-    ensures { AreGiven 5 duty.old.device.ways duty.new.device.ways }
+fn bid_farewell<R: Clock, D: Datagrams>(rt: &R, duty: &mut Duty<GroupDevice<D>>, end: Option<u64>)
+    ensures { TellsFarewell end duty.old.device.ways duty.new.device.ways }
 {
-    let farewell = farewell_bytes(&planned_stream(context.plan), tail);
-    give_all(duty, &farewell);
+    let Some(tail) = end else {
+        return;
+    };
+    tell_all(duty, tail);
     for _count in 1..FAREWELLS {
-        let _ = thread::sleep(context.rt, Duration::from_millis(FAREWELL_PAUSE));
-        give_all(duty, &farewell);
-    }
-}
-
-/// Tells the receivers along all ways where the stream ends, unless the publisher ends by a fault.
-fn bid_farewell<R: Clock, D: Datagrams>(
-    context: &PublisherContext<'_, R>,
-    duty: &mut Duty<GroupDevice<D>>,
-    ending: &Result<Ending, PublishFault>,
-)
-    ensures told { OnOk ending.now (AreGiven 5 duty.old.device.ways duty.new.device.ways) }
-    ensures quiet { OnErr ending.now (duty.new ≡ duty.old) }
-{
-    if ending.is_ok() {
-        let greatest = context.plan.geometry.max_position();
-        let tail = context.state.tail().min(greatest);
-        tell_end(context, duty, tail);
+        let _ = thread::sleep(rt, Duration::from_millis(FAREWELL_PAUSE));
+        tell_all(duty, tail);
     }
 }
 
@@ -147,21 +154,29 @@ pub(crate) fn run<R: Threads + Wait + Clock, I: BufRead + Drop, D: Datagrams, E:
     requires passes { ArePasses context.now.state.now.log context.now.conductor.now sender.old.passes }
     ensures input { IfOk result (λ p. IfSome p.input (λ e. EndsInput reader.handle.promise.form reader.handle.promise.log.value (I.remaining reader.handle.promise.input.value) (I.remaining e.input) reader.handle.promise.publisher.value.pass e.publisher e.reading)) }
     ensures whole { IfOk result (λ p. p.ending ≡ Ok Whole → AllHaveArrived (reading_left p.input) ways p.attendances.items) }
+    ensures faulted { IfOk result (λ p. IfSome (fault_in (reading_left p.input)) (λ fault. p.ending ≡ Err fault)) }
+    ensures told { IfOk result (λ p. p.ending ≡ Ok Whole → are_told_alone context.now.plan.now.geometry (end_in (reading_left p.input)) p.ends.items ≡ true) }
 {
     let sent = send_all(context, sender, errors);
     context.state.stop();
     tell_refused_ways(errors, sender.passes.duty.device().each());
     let heard = attendances_of(alloc, sender.passes.duty.device().each());
     let input = input_end(context.rt, context, reader);
-    let ending = ended(&reading_left(&input), sent);
-    bid_farewell(context, &mut sender.passes.duty, &ending);
-    let Ok(attendances) = heard else {
+    let reading = reading_left(&input);
+    let ending = ended(&reading, sent);
+    let end = farewell_in(&reading, &ending);
+    bid_farewell(context.rt, &mut sender.passes.duty, end);
+    let told = ends_of(alloc, sender.passes.duty.device().each());
+    let (Ok(attendances), Ok(ends)) = (heard, told) else {
         return Err(PublishFault::Failed(DeviceError::Memory));
     };
+    let geometry = &context.plan.geometry;
+    let told_alone = are_told_alone(ends.as_slice(), geometry, end_in(&reading));
     let ending = ending_with(ending, attendances.as_slice().len(), ways);
     Ok(GroupPublished {
-        ending,
+        ending: ending_told(ending, told_alone),
         attendances,
+        ends,
         input,
     })
 }

@@ -26,6 +26,8 @@ pub struct Way<D> {
     pub silence: Option<u64>,
     /// Whether one that was heard is silent, by what was seen last.
     pub quiet: bool,
+    /// Whether it was told that the one that was heard last is left behind.
+    pub behind: bool,
     /// Whether each call of its device has failed for too long.
     pub broken: bool,
 }

@@ -1,6 +1,13 @@
 -- Messages that aren't of one receiver from the start to the tail.
-use Rattle.std.proofs.Common.{◌≡◌, ◌⊎◌, pos, ◌≤◌, [], ◌∷◌, refl, inl, inr, sym, ◌∙◌, ⊎_elim, arith}
-use Rattle.peer.specs.Endings.{IsOneFromStart}
+use Rattle.std.proofs.Common.{◌≡◌, ◌⊎◌, pos, ◌≤◌, [], ◌∷◌, None, Some, ℕ, ℤ, true, false, refl, inl, inr, sym, ◌∙◌, ⊎_elim, arith}
+use Rattle.theory.specs.Bytes.{Identity}
+use Rattle.theory.specs.Wire.{SM, Status}
+use Rattle.peer.specs.Endings.{IsOneFromStart, is_silent, patience}
+use Rattle.peer.specs.Attending.{after_all, newcomer, nobody}
+use Rattle.peer.specs.Screening.{verdict_of}
+use Rattle.peer.specs.Watching.{Watched, behind_of, new_watch, screened, told, told_by, with_told}
+use Rattle.peer.specs.declared.screen.Bounds.{Bounds}
+use Rattle.peer.specs.declared.screen.Verdict.TheVariants.{Passes, Tells, Disbelieved, Misses, LeftBehind, Unanswered}
 
 -- one that told 0 and then 64
 whole : IsOneFromStart 0 64 ((pos 1, 0) ∷ (pos 1, 64) ∷ [])
@@ -17,3 +24,89 @@ two_came h = let other : pos 1 ≡ pos 2 = h.one.0 ∙ sym h.one.1.0 in absurd (
 
 nobody_came : IsOneFromStart 0 0 [] → ⊥
 nobody_came h = h.start_told
+
+-- ---- for how long is waited: for the first status message, and for a further one
+
+waits_for_the_first : patience None 15 60 ≡ 60
+waits_for_the_first = refl
+
+lingers_for_more : patience (Some (newcomer (pos 1) 0)) 15 60 ≡ 15
+lingers_for_more = refl
+
+waits_still : is_silent (nobody 0) (Some 59) 15 60 ≡ false
+waits_still = refl
+
+gives_up_waiting : is_silent (nobody 0) (Some 60) 15 60 ≡ true
+gives_up_waiting = refl
+
+lingers_still : is_silent (after_all (nobody 0) ((pos 1, 0) ∷ [])) (Some 14) 15 60 ≡ false
+lingers_still = refl
+
+gives_up_lingering : is_silent (after_all (nobody 0) ((pos 1, 0) ∷ [])) (Some 15) 15 60 ≡ true
+gives_up_lingering = refl
+
+-- ---- what is believed of a stream of which 64 bytes were sent
+
+abbrev stream : Identity
+stream = record { geometry = record { term_length = 65536; mtu = 1408; initial_term_id = pos 7 }; session = pos 1; stream = pos 1001 }
+
+abbrev sent : Bounds
+sent = record { sent_to = 64; asked = None }
+
+abbrev telling : ℤ → ℤ → ℤ → ℤ → Status
+telling session number offset window = record { session = session; stream = number; term_id = pos 7; term_offset = offset; window = window; receiver = pos 9 }
+
+what_was_sent_tells : verdict_of stream sent (SM 0 (telling (pos 1) (pos 1001) (pos 64) (pos 128))) ≡ Tells (pos 9) 64
+what_was_sent_tells = refl
+
+more_is_disbelieved : verdict_of stream sent (SM 0 (telling (pos 1) (pos 1001) (pos 96) (pos 128))) ≡ Disbelieved
+more_is_disbelieved = refl
+
+half_a_term_tells : verdict_of stream sent (SM 0 (telling (pos 1) (pos 1001) (pos 64) (pos 32768))) ≡ Tells (pos 9) 64
+half_a_term_tells = refl
+
+one_byte_more_is_disbelieved : verdict_of stream sent (SM 0 (telling (pos 1) (pos 1001) (pos 64) (pos 32769))) ≡ Disbelieved
+one_byte_more_is_disbelieved = refl
+
+another_session_passes : verdict_of stream sent (SM 0 (telling (pos 2) (pos 1001) (pos 96) (pos 32769))) ≡ Passes
+another_session_passes = refl
+
+another_stream_passes : verdict_of stream sent (SM 0 (telling (pos 1) (pos 1002) (pos 96) (pos 32769))) ≡ Passes
+another_stream_passes = refl
+
+-- ---- the ends that were told
+
+first_end : with_told None 64 ≡ record { least = 64; greatest = 64 }
+first_end = refl
+
+end_behind : with_told (Some (with_told None 64)) 96 ≡ record { least = 64; greatest = 96 }
+end_behind = refl
+
+end_before : with_told (Some (with_told None 64)) 32 ≡ record { least = 32; greatest = 64 }
+end_before = refl
+
+-- ---- who is left behind: one that stands at 64 of a stream that was sent up to 49,280, of which 49,152 bytes can be sent again
+
+abbrev stands : ℕ → Watched
+stands sent_to = told (told_by (new_watch stream 0 (Some 49152)) (pos 9) 64) sent_to
+
+within_reach_is_heard : screened (stands 49216) (Tells (pos 9) 64) ≡ Tells (pos 9) 64
+within_reach_is_heard = refl
+
+out_of_reach_is_left_behind : screened (stands 49248) (Tells (pos 9) 64) ≡ LeftBehind (pos 9) 64
+out_of_reach_is_left_behind = refl
+
+nothing_is_sent_again : screened (stands 49248) (Misses 1408) ≡ Unanswered
+nothing_is_sent_again = refl
+
+another_id_is_heard : screened (stands 49248) (Tells (pos 8) 49248) ≡ Tells (pos 8) 49248
+another_id_is_heard = refl
+
+an_old_message_leaves_nobody_behind : screened (told (told_by (stands 0) (pos 9) 1024) 49248) (Tells (pos 9) 64) ≡ Tells (pos 9) 64
+an_old_message_leaves_nobody_behind = refl
+
+one_receiver_is_never_left_behind : screened (told (told_by (new_watch stream 0 None) (pos 9) 64) 49248) (Tells (pos 9) 64) ≡ Tells (pos 9) 64
+one_receiver_is_never_left_behind = refl
+
+lies_so_far_behind : behind_of (stands 49248) ≡ Some (record { missing = 49184; reach = 49152 })
+lies_so_far_behind = refl

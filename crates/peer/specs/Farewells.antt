@@ -1,14 +1,24 @@
 -- How a publisher tells where its stream ends: by a SETUP of that position whose time to live is -1, which no sender writes.
-use Rattle.std.specs.Prelude.{◌≡◌, ◌≤◌, ℕ, ℤ, pos, negsuc}
+use Rattle.std.specs.Prelude.{◌≡◌, ◌≤◌, ℕ, ℤ, List, pos, negsuc, min}
 use Rattle.theory.specs.Bytes.{Identity}
 use Rattle.theory.specs.Control.{setup_fields}
 use Rattle.theory.specs.Position.{Geometry, IsGeometry, max_position, position_of}
 use Rattle.theory.specs.Setup.{NamesGeometry}
-use Rattle.theory.specs.Wire.{Wire, DATA, PAD, HEARTBEAT, NAK, SM, SETUP, Setup}
+use Rattle.theory.specs.Wire.{Wire, DATA, PAD, HEARTBEAT, NAK, SM, SETUP, Setup, Spells}
 
 -- the sender's SETUP at the position where the stream ends, but for the time to live
 abbrev pub farewell_fields : Identity → ℕ → Setup
 farewell_fields s tail = record (setup_fields s tail) { ttl = negsuc 0 }
+
+-- where a stream ends that was accepted up to here: no stream goes further than its last position
+abbrev pub end_of : Identity → ℕ → ℕ
+end_of s tail = min tail (max_position s.geometry)
+
+-- the datagram that tells that a stream ends here
+pub record SpellsFarewell (s : Identity) (end : ℕ) (bytes : List ℕ) : Type 0 where
+  pub shape : IsGeometry s.geometry
+  pub within : end ≤ max_position s.geometry
+  pub spells : Spells (SETUP (farewell_fields s end)) bytes
 
 -- it tells an end of this session's stream
 pub record IsFarewell (session stream : ℤ) (f : Setup) : Type 0 where

@@ -6,7 +6,7 @@ use Rattle.theory.specs.Position.{position_of}
 use Rattle.theory.specs.Wire.{Wire, DATA, PAD, HEARTBEAT, NAK, SM, SETUP, Nak, Status}
 use Rattle.peer.specs.declared.screen.Bounds.{Bounds}
 use Rattle.peer.specs.declared.screen.Verdict.{Verdict}
-use Rattle.peer.specs.declared.screen.Verdict.TheVariants.{Passes, Tells, Misses, Disbelieved, Held}
+use Rattle.peer.specs.declared.screen.Verdict.TheVariants.{Passes, Tells, Misses, Disbelieved, Held, LeftBehind, Unanswered}
 
 -- the greatest window that a receiver of the stream can have
 abbrev pub half_term : Identity → ℕ
@@ -66,3 +66,5 @@ is_handed (Tells receiver position) = true
 is_handed (Misses bytes) = true
 is_handed Disbelieved = false
 is_handed Held = false
+is_handed (LeftBehind receiver position) = false
+is_handed Unanswered = false

@@ -1,5 +1,5 @@
 -- What a contract sees of a publisher's device, and what a datagram makes of it.
-use Rattle.std.specs.Prelude.{◌≡◌, ℕ, ◌+◌, ◌%◌, ◌^◌, ℤ, Bool, true, false, pos, negsuc, nat_lt, if◌then◌else◌, min, List, [], length, take, Option, None, Some, Result, Ok, Err}
+use Rattle.std.specs.Prelude.{◌≡◌, ℕ, ◌+◌, ◌-◌, ◌%◌, ◌^◌, ℤ, Bool, true, false, pos, negsuc, nat_lt, if◌then◌else◌, max, min, List, [], length, take, Option, None, Some, Result, Ok, Err}
 use Rattle.std.specs.Int.{cast_signed, w32}
 use Rattle.theory.specs.Bytes.{Identity}
 use Rattle.theory.specs.Position.{position_of}
@@ -16,8 +16,13 @@ use Rattle.peer.specs.Screening.{asked_bytes, is_handed, verdict_of}
 use Rattle.peer.specs.declared.attendance.Attendance.{Attendance}
 use Rattle.peer.specs.declared.screen.Bounds.{Bounds}
 use Rattle.peer.specs.declared.screen.Verdict.{Verdict}
-use Rattle.peer.specs.declared.screen.Verdict.TheVariants.{Passes, Tells, Misses, Disbelieved, Held}
+use Rattle.peer.specs.declared.screen.Verdict.TheVariants.{Passes, Tells, Misses, Disbelieved, Held, LeftBehind, Unanswered}
 use Rattle.peer.specs.declared.watch.Tally.{Tally}
+use Rattle.peer.specs.declared.watch.ToldEnds.{ToldEnds}
+use Rattle.peer.specs.declared.watch.Behind.{Behind}
+use Rattle.peer.specs.declared.attendance.Heard.{Heard}
+use Rattle.std.specs.Ordering.{int_eq}
+use Rattle.peer.specs.Farewells.{TellsEnd}
 
 -- the stream, what was heard of it, and what the next frame is judged by
 pub record Watched : Type 0 where
@@ -29,24 +34,30 @@ pub record Watched : Type 0 where
   pub tally : Tally
   -- how many receives found nothing
   pub nones : ℕ
+  -- the ends of the stream that it was given to tell
+  pub ends : Option ToldEnds
+  -- how many bytes behind the sender's position a frame can be sent again, where a receiver that lacks more is left behind
+  pub reach : Option ℕ
 
 pub record Watching (D : Type 0) : Type 0 where
   pub inner : D
   pub watch : Watched
 
 -- nothing of the stream was sent or heard yet
-abbrev pub new_watch : Identity → ℕ → Watched
-new_watch sent start = record {
+abbrev pub new_watch : Identity → ℕ → Option ℕ → Watched
+new_watch sent start reach = record {
   sent = sent;
   attendance = nobody start;
   bounds = record { sent_to = start; asked = None };
   held = None;
   tally = record { datagrams = 0; resends = 0; statuses = 0; naks = 0; disbelieved = 0; refused = uncounted };
   nones = 0;
+  ends = None;
+  reach = reach;
 }
 
-abbrev pub watching : {D : Type 0} → D → Identity → ℕ → Watching D
-watching inner sent start = record { inner = inner; watch = new_watch sent start }
+abbrev pub watching : {D : Type 0} → D → Identity → ℕ → Option ℕ → Watching D
+watching inner sent start reach = record { inner = inner; watch = new_watch sent start reach }
 
 -- as a device it fails where the inner one does, finds nothing where it screens, and doesn't tell what it carried
 abbrev pub watching_device : Device → ℕ → Device
@@ -94,6 +105,8 @@ after_verdict w (Tells receiver position) = told_by w receiver position
 after_verdict w (Misses bytes) = missed w bytes
 after_verdict w Disbelieved = disbelieving w
 after_verdict w Held = with_none w
+after_verdict w (LeftBehind receiver position) = with_none (told_by w receiver position)
+after_verdict w Unanswered = with_none w
 
 -- what is held back: it is a negative acknowledgement
 abbrev pub held_of : Wire → Option Nak
@@ -110,13 +123,55 @@ held_after held (Tells receiver position) f = held
 held_after held (Misses bytes) f = held
 held_after held Disbelieved f = held
 held_after held Held f = held_of f
+held_after held (LeftBehind receiver position) f = held
+held_after held Unanswered f = held
 
 abbrev pub after_judged : Watched → Verdict → Wire → Watched
 after_judged w v f = record (after_verdict w v) { held = held_after w.held v f }
 
+-- what a receiver has told last, with this position, if it is the one that was heard last
+abbrev pub told_last : Option Heard → ℤ → ℕ → ℕ
+told_last None receiver position = position
+told_last (Some h) receiver position = if int_eq h.receiver receiver then max h.last position else position
+
+-- one that stands here is left behind: what comes next can't be sent again any more
+abbrev pub is_behind : Option ℕ → ℕ → ℕ → Bool
+is_behind None sent_to last = false
+is_behind (Some reach) sent_to last = nat_lt (last + reach) sent_to
+
+abbrev pub is_left : Option ℕ → ℕ → Option Heard → Bool
+is_left reach sent_to None = false
+is_left reach sent_to (Some h) = is_behind reach sent_to h.last
+
+-- the one that was heard last is left behind
+abbrev pub is_left_behind : Watched → Bool
+is_left_behind w = is_left w.reach w.bounds.sent_to w.attendance.present
+
+-- of one that is left behind neither status messages nor negative acknowledgements are handed over
+abbrev pub screened : Watched → Verdict → Verdict
+screened w Passes = Passes
+screened w (Tells receiver position) = if is_behind w.reach w.bounds.sent_to (told_last w.attendance.present receiver position) then LeftBehind receiver position else Tells receiver position
+screened w (Misses bytes) = if is_left_behind w then Unanswered else Misses bytes
+screened w Disbelieved = Disbelieved
+screened w Held = if is_left_behind w then Unanswered else Held
+screened w (LeftBehind receiver position) = LeftBehind receiver position
+screened w Unanswered = Unanswered
+
+abbrev pub screened_of : Watched → Wire → Verdict
+screened_of w f = screened w (verdict_of w.sent w.bounds f)
+
 -- a frame came, alone in a datagram
 abbrev pub after_frame : Watched → Wire → Watched
-after_frame w f = after_judged w (verdict_of w.sent w.bounds f) f
+after_frame w f = after_judged w (screened_of w f) f
+
+-- how far the one that was heard last is behind the sender, and how much of that can be sent again, where it is left behind
+abbrev pub behind_by : Option ℕ → ℕ → Option Heard → Option Behind
+behind_by None sent_to heard = None
+behind_by (Some reach) sent_to None = None
+behind_by (Some reach) sent_to (Some h) = if nat_lt (h.last + reach) sent_to then Some (record { missing = sent_to - h.last; reach = reach }) else None
+
+abbrev pub behind_of : Watched → Option Behind
+behind_of w = behind_by w.reach w.bounds.sent_to w.attendance.present
 
 -- a receive that hands something over isn't one that found nothing
 abbrev pub CountsHanded : Bool → ℕ → ℕ → Type 0
@@ -137,7 +192,7 @@ pub record CountsRefused (old : Watched) (bytes : List ℕ) (new : Watched) : Ty
 
 -- a datagram that is one frame is judged, and any other bytes are handed over as they came
 pub record Screens (old : Watched) (bytes : List ℕ) (found : Option ℕ) (new : Watched) : Type 0 where
-  pub frame : (f : Wire) → FrontSpells bytes f (length bytes) → (found ≡ found_of (is_handed (verdict_of old.sent old.bounds f)) (length bytes)) × (new ≡ after_frame old f)
+  pub frame : (f : Wire) → FrontSpells bytes f (length bytes) → (found ≡ found_of (is_handed (screened_of old f)) (length bytes)) × (new ≡ after_frame old f)
   pub others : ((f : Wire) → FrontSpells bytes f (length bytes) → ⊥) → (found ≡ Some (length bytes)) × CountsRefused old bytes new
 
 -- by what the inner device answered
@@ -195,7 +250,22 @@ is_again w f = begins_below w (header_in f)
 abbrev pub given : Watched → Bool → Watched
 given w again = record w { tally = record w.tally { datagrams = plus_one w.tally.datagrams; resends = if again then plus_one w.tally.resends else w.tally.resends } }
 
--- a datagram counts by its first frame
+-- the least and the greatest end, with this one
+abbrev pub with_told : Option ToldEnds → ℕ → ToldEnds
+with_told None end = record { least = end; greatest = end }
+with_told (Some told) end = record { least = min told.least end; greatest = max told.greatest end }
+
+-- the end that a frame tells of the stream is noted, if it tells one
+pub record NotesTold (s : Identity) (f : Wire) (old new : Option ToldEnds) : Type 0 where
+  pub told : (end : ℕ) → TellsEnd s.session s.stream f end → new ≡ Some (with_told old end)
+  pub untold : ((end : ℕ) → TellsEnd s.session s.stream f end → ⊥) → new ≡ old
+
+-- a frame at a datagram's front: it counts, and the end that it tells is noted
+pub record GivesFrame (old : Watched) (f : Wire) (new : Watched) : Type 0 where
+  pub counted : new ≡ record (given old (is_again old f)) { ends = new.ends }
+  pub noted : NotesTold old.sent f old.ends new.ends
+
+-- a datagram counts by its first frame, and tells what that tells
 pub record Gives (old : Watched) (bytes : List ℕ) (new : Watched) : Type 0 where
-  pub frame : (f : Wire) (n : ℕ) → FrontSpells bytes f n → new ≡ given old (is_again old f)
+  pub frame : (f : Wire) (n : ℕ) → FrontSpells bytes f n → GivesFrame old f new
   pub others : ((f : Wire) (n : ℕ) → FrontSpells bytes f n → ⊥) → new ≡ given old false

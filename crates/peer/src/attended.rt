@@ -1,14 +1,16 @@
 //! A publisher's end.
 
-ghost use Rattle.std.specs.Prelude.{◌≡◌, min, length, take, drop};
+ghost use Rattle.std.specs.Prelude.{◌≡◌, Some, min, length, take, drop};
 ghost use Rattle.endpoint.specs.Calls.{Receives, Sends};
 ghost use Rattle.endpoint.specs.Devices.{NeverFall};
 ghost use Rattle.theory.specs.Wire.{NAK, spelling};
 ghost use Rattle.frames.specs.Frames.{nak_of};
-ghost use Rattle.peer.specs.Watching.{Gives, Takes, plus_one, told, watching, watching_device};
+ghost use Rattle.peer.specs.Watching.{Gives, Takes, behind_of, plus_one, told, watching, watching_device, with_told};
+ghost use Rattle.peer.specs.Farewells.{end_of};
 
 use crate::attendance::Attendance;
-use crate::watch::{Tally, Watch};
+use crate::farewell::farewell_bytes;
+use crate::watch::{Behind, Tally, ToldEnds, Watch};
 use endpoint::{Datagrams, DeviceFailed};
 use frames::{Frame, Nak, write_frame};
 use position::Identity;
@@ -49,13 +51,14 @@ fn put_nak(nak: Nak, buffer: &mut [u8]) -> usize
 }
 
 impl<D> Attended<D> {
-    /// A device round this one that has heard nobody yet of a stream that begins here.
-    pub fn new(inner: D, sent: Identity, start: u64) -> Attended<D>
-        ensures { result ≡ watching inner sent start }
+    /// A device round this one that has heard nobody yet of a stream that begins here. Where others are to go on without a
+    /// receiver that lacks more than can be sent again, `reach` says how many bytes behind the sender's position that is.
+    pub fn new(inner: D, sent: Identity, start: u64, reach: Option<u64>) -> Attended<D>
+        ensures { result ≡ watching inner sent start reach }
     {
         Attended {
             inner,
-            watch: Watch::new(sent, start),
+            watch: Watch::new(sent, start, reach),
         }
     }
 
@@ -80,11 +83,41 @@ impl<D> Attended<D> {
         self.watch.tally()
     }
 
+    /// How far the receiver that was heard last is behind the sender, where it is left behind: none of its status messages
+    /// and negative acknowledgements is handed over, but one that asks for a SETUP is, and so are those of another id.
+    pub fn behind(&self) -> Option<Behind>
+        ensures { result ≡ behind_of self.now.watch }
+    {
+        self.watch.behind()
+    }
+
+    /// The ends of its stream that it was given to tell.
+    pub fn ends(&self) -> Option<ToldEnds>
+        ensures { result ≡ self.now.watch.ends }
+    {
+        self.watch.ends()
+    }
+
     /// A cycle begins. The stream was sent up to this position, so no status message of a greater one is believed.
     pub fn believe(&mut self, position: u64)
         ensures { self.new ≡ record self.old { watch = told self.old.watch position } }
     {
         self.watch.tell(position);
+    }
+}
+
+impl<D: Datagrams> Attended<D> {
+    /// Tells where its stream ends, once, by a farewell (`farewell_of`): there, or at the last position that the stream can
+    /// have, if that is below. Whether the device fails isn't told.
+    #[tactic(auto, using(crate::proofs::Farewells::gives_end, crate::proofs::Farewells::keeps_heard, crate::proofs::Farewells::keeps_stream))]
+    pub fn tell_end(&mut self, tail: u64)
+        ensures told { self.new.watch.ends ≡ Some (with_told self.old.watch.ends (end_of self.old.watch.sent tail)) }
+        ensures counted { self.new.watch.tally.datagrams ≡ plus_one self.old.watch.tally.datagrams }
+        ensures heard { self.new.watch.attendance ≡ self.old.watch.attendance }
+        ensures stream { self.new.watch.sent ≡ self.old.watch.sent }
+    {
+        let farewell = farewell_bytes(self.watch.sent(), tail);
+        let _ = self.send(&farewell);
     }
 }
 

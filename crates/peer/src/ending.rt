@@ -67,7 +67,7 @@ impl Attendance {
     }
 
     /// Whether the one that was heard last has told the tail.
-    fn is_told(&self, end: Option<u64>) -> bool
+    pub fn is_told(&self, end: Option<u64>) -> bool
         ensures { result ≡ is_told self.now end }
     {
         match end {

@@ -3,9 +3,9 @@
 ghost use Rattle.std.specs.Prelude.{◌≡◌, ◌≤◌, ◌↔◌, ℕ, pos, IfSome, IfNone, IsTrue};
 ghost use Rattle.theory.specs.Position.{Geometry as Shape, max_position, position_of};
 ghost use Rattle.theory.specs.Setup.{NamesGeometry};
-ghost use Rattle.theory.specs.Wire.{IsFrame, SETUP, spelling};
+ghost use Rattle.theory.specs.Wire.{IsFrame, SETUP};
 ghost use Rattle.frames.specs.Frames.{setup_of, wire};
-ghost use Rattle.peer.specs.Farewells.{EndsAt, FarewellsTellEnds, IsFarewell, TellsEnd, farewell_fields};
+ghost use Rattle.peer.specs.Farewells.{EndsAt, FarewellsTellEnds, IsFarewell, SpellsFarewell, TellsEnd, end_of, farewell_fields};
 
 use frames::{Frame, Setup, write_frame};
 use position::{Geometry, Identity};
@@ -35,13 +35,13 @@ pub fn farewell_of(sent: &Identity, tail: u64) -> Setup
     }
 }
 
-/// Its bytes, which are a datagram.
-pub fn farewell_bytes(sent: &Identity, tail: u64) -> [u8; SETUP_BYTES]
-    requires { tail ≤ max_position sent.now.geometry }
-    ensures { result ≡ spelling (SETUP (farewell_fields sent.now tail)) }
+/// The datagram that tells that a stream ends here, or at the last position that it can have, if that is below.
+pub(crate) fn farewell_bytes(sent: &Identity, tail: u64) -> [u8; SETUP_BYTES]
+    ensures { SpellsFarewell sent.now (end_of sent.now tail) result }
 {
+    let end = tail.min(sent.geometry().max_position());
     let mut bytes = [0; SETUP_BYTES];
-    let farewell = farewell_of(sent, tail);
+    let farewell = farewell_of(sent, end);
     write_frame(&Frame::Setup(farewell), &mut bytes);
     bytes
 }

@@ -31,6 +31,10 @@ pub enum Verdict {
     Disbelieved,
     /// A negative acknowledgement, where those of the cycle would ask for more than a window: it is held back.
     Held,
+    /// A status message of a receiver that is left behind: this receiver has told this position, and it isn't handed over.
+    LeftBehind { receiver: i64, position: u64 },
+    /// A negative acknowledgement of a receiver that is left behind: it isn't handed over.
+    Unanswered,
 }
 
 impl Verdict {
@@ -40,7 +44,10 @@ impl Verdict {
     {
         match self {
             Verdict::Passes | Verdict::Tells { .. } | Verdict::Misses(_) => true,
-            Verdict::Disbelieved | Verdict::Held => false,
+            Verdict::Disbelieved
+            | Verdict::Held
+            | Verdict::LeftBehind { .. }
+            | Verdict::Unanswered => false,
         }
     }
 }

@@ -5,10 +5,11 @@ ghost use Rattle.std.specs.Option.{option_map};
 ghost use Rattle.endpoint.specs.Calls.{CountsNone};
 ghost use Rattle.endpoint.specs.Devices.{HasGrown};
 ghost use Rattle.frames.specs.Frames.{header_of, nak_of, wire};
-ghost use Rattle.peer.specs.Screening.{is_handed, verdict_of};
-ghost use Rattle.peer.specs.Watching.{CountsHanded, CountsRefused, Gives, Screens, after_frame, after_verdict, begins_below, disbelieving, given, header_in, held_after, is_again, is_below, missed, new_watch, plus_one, refusing, released, told, told_by, with_none};
+ghost use Rattle.peer.specs.Screening.{is_handed};
+ghost use Rattle.peer.specs.Watching.{CountsHanded, CountsRefused, Gives, GivesFrame, NotesTold, Screens, after_frame, after_verdict, begins_below, behind_of, disbelieving, given, header_in, held_after, is_again, is_behind, is_below, is_left_behind, missed, new_watch, plus_one, refusing, released, screened, screened_of, told, told_by, told_last, with_none, with_told};
 
-use crate::attendance::Attendance;
+use crate::attendance::{Attendance, Heard};
+use crate::farewell::end_told;
 use crate::screen::{Bounds, Verdict, asked_bytes, judge};
 use frames::{FaultCounts, Frame, FrameError, Header, Nak, check_datagram, read_frame};
 use position::Identity;
@@ -31,6 +32,58 @@ pub struct Tally {
     pub refused: FaultCounts,
 }
 
+/// The ends of its stream that a device was given to tell, in bytes of the stream: the least and the greatest.
+#[derive(Clone, Copy, Debug, PartialEq, Eq)]
+pub struct ToldEnds {
+    pub least: u64,
+    pub greatest: u64,
+}
+
+/// How far a receiver that is left behind lies behind the sender, in bytes of the stream.
+#[derive(Clone, Copy, Debug, PartialEq, Eq)]
+pub struct Behind {
+    /// How much it lacks of what was sent.
+    pub missing: u64,
+    /// How much of that can be sent again.
+    pub reach: u64,
+}
+
+/// What a receiver has told last, with this position, if it is the one that was heard last.
+fn told_last(present: Option<Heard>, receiver: i64, position: u64) -> u64
+    ensures { result ≡ told_last present receiver position }
+{
+    match present {
+        Some(heard) if heard.receiver == receiver => heard.last.max(position),
+        _ => position,
+    }
+}
+
+/// Whether one that stands here is left behind: what comes next can't be sent again any more.
+fn is_behind(reach: Option<u64>, sent_to: u64, last: u64) -> bool
+    ensures { result ≡ is_behind reach sent_to last }
+{
+    match reach {
+        None => false,
+        Some(reach) => last.saturating_add(reach) < sent_to,
+    }
+}
+
+/// The ends that were told, with this one.
+fn with_told(before: Option<ToldEnds>, end: u64) -> ToldEnds
+    ensures { result ≡ with_told before end }
+{
+    match before {
+        None => ToldEnds {
+            least: end,
+            greatest: end,
+        },
+        Some(told) => ToldEnds {
+            least: told.least.min(end),
+            greatest: told.greatest.max(end),
+        },
+    }
+}
+
 /// The stream, what was heard of it, and what the next frame is judged by.
 #[derive(Drop)]
 pub(crate) struct Watch {
@@ -40,6 +93,9 @@ pub(crate) struct Watch {
     held: Option<Nak>,
     tally: Tally,
     nones: u64,
+    ends: Option<ToldEnds>,
+    /// How many bytes behind the sender's position a frame can be sent again, where a receiver that lacks more is left behind.
+    reach: Option<u64>,
 }
 
 impl Model for Watch {
@@ -49,7 +105,7 @@ impl Model for Watch {
 
     ghost Value = { Watched };
 
-    ghost view = { λ w. record { sent = w.sent; attendance = w.attendance; bounds = w.bounds; held = option_map nak_of w.held; tally = w.tally; nones = w.nones } };
+    ghost view = { λ w. record { sent = w.sent; attendance = w.attendance; bounds = w.bounds; held = option_map nak_of w.held; tally = w.tally; nones = w.nones; ends = w.ends; reach = w.reach } };
 }
 
 /// Whether a position lies below this one.
@@ -75,8 +131,8 @@ fn header_in(frame: &Frame<'_>) -> Option<Header>
 
 impl Watch {
     /// Nothing of this stream was sent or heard yet; it begins here.
-    pub(crate) fn new(sent: Identity, start: u64) -> Watch
-        ensures { result ≡ new_watch sent start }
+    pub(crate) fn new(sent: Identity, start: u64, reach: Option<u64>) -> Watch
+        ensures { result ≡ new_watch sent start reach }
     {
         Watch {
             sent,
@@ -95,7 +151,23 @@ impl Watch {
                 refused: FaultCounts::new(),
             },
             nones: 0,
+            ends: None,
+            reach,
         }
+    }
+
+    /// The stream that is sent.
+    pub(crate) fn sent(&self) -> &Identity
+        ensures { result.now ≡ self.now.sent }
+    {
+        &self.sent
+    }
+
+    /// The ends that it was given to tell.
+    pub(crate) fn ends(&self) -> Option<ToldEnds>
+        ensures { result ≡ self.now.ends }
+    {
+        self.ends
     }
 
     pub(crate) fn attendance(&self) -> Attendance
@@ -182,7 +254,53 @@ impl Watch {
             Verdict::Tells { receiver, position } => self.hear_status(receiver, position),
             Verdict::Misses(bytes) => self.miss(bytes),
             Verdict::Disbelieved => self.disbelieve(),
-            Verdict::Held => self.find_none(),
+            Verdict::Held | Verdict::Unanswered => self.find_none(),
+            Verdict::LeftBehind { receiver, position } => {
+                self.hear_status(receiver, position);
+                self.find_none();
+            }
+        }
+    }
+
+    /// Whether the one that was heard last is left behind.
+    fn is_left_behind(&self) -> bool
+        ensures { result ≡ is_left_behind self.now }
+    {
+        match self.attendance.present {
+            None => false,
+            Some(heard) => is_behind(self.reach, self.bounds.sent_to, heard.last),
+        }
+    }
+
+    /// How far the one that was heard last is behind, where it is left behind.
+    pub(crate) fn behind(&self) -> Option<Behind>
+        ensures { result ≡ behind_of self.now }
+    {
+        let reach = self.reach?;
+        let heard = self.attendance.present?;
+        if heard.last.saturating_add(reach) >= self.bounds.sent_to {
+            return None;
+        }
+        Some(Behind {
+            missing: self.bounds.sent_to - heard.last,
+            reach,
+        })
+    }
+
+    /// The verdict on a frame, where one that is left behind is neither handed over nor answered.
+    fn screened(&self, verdict: Verdict) -> Verdict
+        ensures { result ≡ screened self.now verdict }
+    {
+        match verdict {
+            Verdict::Tells { receiver, position } => {
+                let last = told_last(self.attendance.present, receiver, position);
+                if is_behind(self.reach, self.bounds.sent_to, last) {
+                    return Verdict::LeftBehind { receiver, position };
+                }
+                verdict
+            }
+            Verdict::Misses(_) | Verdict::Held if self.is_left_behind() => Verdict::Unanswered,
+            _ => verdict,
         }
     }
 
@@ -201,12 +319,12 @@ impl Watch {
 
     /// A frame came, alone in a datagram. Whether it is handed over.
     fn hear(&mut self, frame: &Frame<'_>) -> bool
-        ensures handed { result ≡ is_handed (verdict_of self.old.sent self.old.bounds (wire frame.now)) }
+        ensures handed { result ≡ is_handed (screened_of self.old (wire frame.now)) }
         ensures heard { self.new ≡ after_frame self.old (wire frame.now) }
         ensures nones { CountsHanded result self.old.nones self.new.nones }
         ensures not_fallen { self.old.nones ≤ self.new.nones }
     {
-        let verdict = judge(&self.sent, &self.bounds, frame);
+        let verdict = self.screened(judge(&self.sent, &self.bounds, frame));
         self.note(verdict);
         self.hold(verdict, frame);
         verdict.is_handed()
@@ -282,16 +400,36 @@ impl Watch {
         }
     }
 
-    /// Counts a datagram that is given to be sent, by its first frame.
+    /// Notes the end that a frame tells of the stream, if it tells one.
+    fn note_end(&mut self, frame: &Frame<'_>)
+        ensures noted { NotesTold self.old.sent (wire frame.now) self.old.ends self.new.ends }
+        ensures same { self.new ≡ record self.old { ends = self.new.ends } }
+    {
+        if let Some(end) = end_told(frame, self.sent.session(), self.sent.stream()) {
+            self.ends = Some(with_told(self.ends, end));
+        }
+    }
+
+    /// Counts a frame that is given to be sent at a datagram's front, and notes the end that it tells.
+    fn give_frame(&mut self, frame: &Frame<'_>)
+        ensures gives { GivesFrame self.old (wire frame.now) self.new }
+        ensures counted { self.new.tally.datagrams ≡ plus_one self.old.tally.datagrams }
+        ensures nones { self.new.nones ≡ self.old.nones }
+    {
+        let again = self.is_again(frame);
+        self.count(again);
+        self.note_end(frame);
+    }
+
+    /// Counts a datagram that is given to be sent, by its first frame, and notes the end that this tells.
     pub(crate) fn give(&mut self, datagram: &[u8])
         ensures gives { Gives self.old datagram.now self.new }
         ensures counted { self.new.tally.datagrams ≡ plus_one self.old.tally.datagrams }
         ensures nones { self.new.nones ≡ self.old.nones }
     {
-        let again = match read_frame(datagram) {
-            Ok((frame, _size)) => self.is_again(&frame),
-            Err(_) => false,
-        };
-        self.count(again);
+        match read_frame(datagram) {
+            Ok((frame, _size)) => self.give_frame(&frame),
+            Err(_) => self.count(false),
+        }
     }
 }

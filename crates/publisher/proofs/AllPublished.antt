@@ -1,5 +1,5 @@
 -- What was published in all, where a publisher has ended whole.
-use Rattle.std.proofs.Common.{◌≡◌, ◌∙◌, List, [], ◌∷◌, ◌++◌, ℕ, ◌+◌, Option, None, Some, IfSome, subst, sym, arith}
+use Rattle.std.proofs.Common.{◌≡◌, ◌∙◌, List, [], ◌∷◌, ◌++◌, ℕ, ◌+◌, true, Option, None, Some, IfSome, Result, Ok, ap, subst, sym, arith}
 use Rattle.std.proofs.lemmas.List.Elements.{All-from_recursion}
 use Rattle.theory.proofs.Lists.{all_append}
 use Rattle.log_rule.specs.Claims.Handles.{PublisherValue, parts_in}
@@ -13,9 +13,16 @@ use Rattle.messages.specs.declared.form.Form.{Form}
 use Rattle.options.specs.declared.ends.plans.PublishPlan.{PublishPlan}
 use Rattle.peer.specs.declared.attendance.Attendance.{Attendance}
 use Rattle.offering.specs.Ended.{EndsInput}
+use Rattle.offering.specs.declared.fault.ReadingFault.{ReadingFault}
 use Rattle.offering.specs.declared.reader.InputEnd.{InputEnd}
+use Rattle.offering.specs.declared.reading.Reading.{Reading}
+use Rattle.offering.specs.declared.reading.ReadingEnd.{ReadingEnd}
+use Rattle.offering.specs.declared.reading.ReadingEnd.TheVariants.{All}
+use Rattle.peer.specs.declared.watch.ToldEnds.{ToldEnds}
 use Rattle.publisher.proofs.Sent.{sends_committed}
 use Rattle.publisher.specs.Ended.{AllArrived, CanClose, IsClosed, LeavesLog, PublishesAll, ShowsAll, reading_left}
+use Rattle.publisher.specs.Farewells.{has_told_alone}
+use Rattle.publisher.specs.Judging.{end_by, end_in}
 use Rattle.publisher.specs.Openings.{IsPlanned}
 use Rattle.publisher.specs.declared.log_end.LogEnd.{LogEnd}
 
@@ -24,10 +31,14 @@ shown : (o : Option LogValue) (others : List PublisherValue) (p : PublisherValue
 shown None others p book log shows is = absurd shows
 shown (Some m) others p book log shows is = subst (λ (l : LogValue). ShowsBook l (others ++ p ∷ []) book) is shows
 
-pub all_published : {I : Type 0} (remaining : I → Option (List ℕ)) (p : PublishPlan) (log : LogValue) (first : PublisherValue) (old given : Option (List ℕ)) (left : Option (InputEnd I)) (a : Attendance) (e : LogEnd)
-    → IsPlanned p log → IsNew log 0 first → IfSome left (λ l. EndsInput p.end.form log old (remaining l.input) first.pass l.publisher l.reading) → AllArrived (reading_left left) a → old ≡ given → LeavesLog log e → IsClosed left e → PublishesAll p given
-all_published {I} remaining p log first old given None a e planned new ends none same leaves closed = absurd none
-all_published {I} remaining p log first old given (Some left) a e planned new ends arrived same leaves closed = subst (PublishesAll p) same (record {
+-- a reading that has read all ends where its messages do
+ends_there : (r : Reading) → r.ended ≡ Ok All → end_in (Some r) ≡ Some r.offered.tail
+ends_there r all = ap (λ (ended : Result ReadingEnd ReadingFault). end_by ended r.offered.tail) all
+
+pub all_published : {I : Type 0} (remaining : I → Option (List ℕ)) (p : PublishPlan) (log : LogValue) (first : PublisherValue) (old given : Option (List ℕ)) (left : Option (InputEnd I)) (a : Attendance) (ends : Option ToldEnds) (e : LogEnd)
+    → IsPlanned p log → IsNew log 0 first → IfSome left (λ l. EndsInput p.end.form log old (remaining l.input) first.pass l.publisher l.reading) → AllArrived (reading_left left) a → has_told_alone ends p.geometry (end_in (reading_left left)) ≡ true → old ≡ given → LeavesLog log e → IsClosed left e → PublishesAll p given
+all_published {I} remaining p log first old given None a told e planned new ends none alone same leaves closed = absurd none
+all_published {I} remaining p log first old given (Some left) a told e planned new ends arrived alone same leaves closed = subst (PublishesAll p) same (record {
   log = log;
   log_is = planned;
   first = first;
@@ -38,6 +49,7 @@ all_published {I} remaining p log first old given (Some left) a e planned new en
   ends = ends;
   attendance = a;
   arrived = arrived;
+  told = record { ends = told; alone = subst (λ (end : Option ℕ). has_told_alone told p.geometry end ≡ true) (ends_there left.reading arrived.all) alone };
   others = e.others.items;
   others_are = leaves.others;
   book = closed.0;

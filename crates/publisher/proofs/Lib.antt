@@ -6,3 +6,4 @@ pub mod Lines
 pub mod Sent
 pub mod AllPublished
 pub mod Whole
+pub mod Told

@@ -11,10 +11,12 @@ use Rattle.shared_log.specs.declared.book.Book.{Book}
 use Rattle.options.specs.declared.ends.plans.PublishPlan.{PublishPlan}
 use Rattle.peer.specs.declared.attendance.Attendance.{Attendance}
 use Rattle.peer.specs.Endings.{is_whole}
+use Rattle.peer.specs.declared.watch.ToldEnds.{ToldEnds}
 use Rattle.offering.specs.Ended.{EndsInput}
 use Rattle.offering.specs.declared.reader.InputEnd.{InputEnd}
 use Rattle.offering.specs.declared.reading.Reading.{Reading}
 use Rattle.offering.specs.declared.reading.ReadingEnd.TheVariants.{All}
+use Rattle.publisher.specs.Farewells.{has_told_alone}
 use Rattle.publisher.specs.Openings.{AreOthers, IsKept, IsPlanned}
 use Rattle.publisher.specs.declared.log_end.LogEnd.{LogEnd}
 
@@ -75,6 +77,11 @@ abbrev pub IsClosed : {I : Type 0} → Option (InputEnd I) → LogEnd → Type 0
 IsClosed None e = ⊥
 IsClosed (Some left) e = (book : Book) × ShowsAll e.log e.others.items left.publisher book × AllByRecursion (IsCommittedBy (e.others.items ++ left.publisher ∷ [])) (known_of e.reader)
 
+-- of the ends that its device was given to tell each is where this reading's messages end
+pub record TellsItsEnd (p : PublishPlan) (r : Reading) : Type 0 where
+  pub ends : Option ToldEnds
+  pub alone : has_told_alone ends p.geometry (Some r.offered.tail) ≡ true
+
 -- for the plan all that the input had was read, and it was published, each message once and whole, in their order, by the first
 -- publisher of a log of the plan, which had just been opened; and that has arrived. The log was closed: the others have claimed
 -- nothing, so what the first has claimed, in the order of the stream, tiles it from its start to its tail, and each frame of that
@@ -90,6 +97,7 @@ pub record PublishesAll (p : PublishPlan) (old : Option (List ℕ)) : Type 0 whe
   pub ends : EndsInput p.end.form log old new first.pass last reading
   pub attendance : Attendance
   pub arrived : HasArrived reading attendance
+  pub told : TellsItsEnd p reading
   pub others : List PublisherValue
   pub others_are : AreOthers log others
   pub book : Book

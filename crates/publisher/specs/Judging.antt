@@ -36,6 +36,15 @@ abbrev pub end_in : Option Reading → Option ℕ
 end_in None = None
 end_in (Some reading) = end_by reading.ended reading.offered.tail
 
+-- how many messages were accepted, and where they end: as the reading says, once it has ended
+abbrev pub messages_in : Option Reading → ℕ → ℕ
+messages_in None messages = messages
+messages_in (Some reading) messages = reading.offered.messages
+
+abbrev pub tail_in : Option Reading → ℕ → ℕ
+tail_in None tail = tail
+tail_in (Some reading) tail = reading.offered.tail
+
 abbrev pub device_fault : Bool → Result (Unit {0}) PublishFault
 device_fault broken = if broken then Err (Failed Device) else Ok tt
 

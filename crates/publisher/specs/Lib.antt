@@ -5,5 +5,6 @@ pub mod Openings
 pub mod Keeping
 pub mod Progress
 pub mod Ended
+pub mod Farewells
 pub mod Texts
 pub mod Beginnings

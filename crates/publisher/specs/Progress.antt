@@ -1,5 +1,5 @@
 -- What a publisher has seen and told, and how it ends by that.
-use Rattle.std.specs.Prelude.{◌≡◌, ℕ, ◌-◌, ◌&&◌, ◌||◌, Bool, not, true, false, nat_eq, nat_le, is_some, if◌then◌else◌, Option, None, Some, IfSome}
+use Rattle.std.specs.Prelude.{◌≡◌, ℕ, ◌-◌, ◌&&◌, ◌||◌, Bool, not, true, false, nat_eq, nat_le, nat_lt, is_some, if◌then◌else◌, Option, None, Some, IfSome}
 use Rattle.peer.specs.declared.attendance.Attendance.{Attendance}
 use Rattle.peer.specs.declared.attendance.Heard.{Heard}
 use Rattle.peer.specs.declared.ending.Ending.{Ending}
@@ -22,7 +22,7 @@ told_of a = told_from a.start a.present
 
 -- nothing was seen or told yet
 abbrev pub nothing_seen : Progress
-nothing_seen = record { changes = 0; statuses = never; worked = never; shown = 0; messages = 0; alone = false; faulted = false }
+nothing_seen = record { changes = 0; statuses = never; worked = never; shown = 0; messages = 0; alone = false; faulted = false; ended = None }
 
 -- which receivers are there, and since when none was heard
 abbrev pub seen : Progress → Seen → ℕ → Progress
@@ -50,6 +50,24 @@ shown_messages p messages now = if is_shown p now then Some (messages - p.messag
 -- and the next second begins
 abbrev pub shown_at : Progress → ℕ → ℕ → Progress
 shown_at p messages now = if is_shown p now then record p { shown = now; messages = messages } else p
+
+-- the stream's end wasn't told for 100 ms
+abbrev pub is_due_since : Option ℕ → ℕ → Bool
+is_due_since None now = true
+is_due_since (Some ended) now = nat_le 100000000 (now - ended)
+
+abbrev pub is_end_due : Progress → ℕ → Bool
+is_end_due p now = is_due_since p.ended now
+
+-- the input has ended, the stream was sent up to its end, and that is due to be told
+abbrev pub end_to_tell : Progress → Option ℕ → ℕ → ℕ → Option ℕ
+end_to_tell p None sent_to now = None
+end_to_tell p (Some tail) sent_to now = if nat_lt sent_to tail then None else (if is_end_due p now then Some tail else None)
+
+-- then the next 100 ms begin
+abbrev pub with_end_told : Progress → Option ℕ → ℕ → Progress
+with_end_told p None now = p
+with_end_told p (Some tail) now = record p { ended = Some now }
 
 abbrev pub is_nobody : Option Heard → Bool
 is_nobody None = true

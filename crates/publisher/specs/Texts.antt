@@ -1,17 +1,21 @@
 -- What a user reads of a fault, and what a publisher tells on its error output.
-use Rattle.std.specs.Prelude.{ℕ, List, [], ◌∷◌, ◌++◌, Option, None, Some, codes, decimal, nat_eq, nat_lt, if◌then◌else◌}
+use Rattle.std.specs.Prelude.{ℕ, ◌-◌, ◌/◌, Bool, true, false, List, [], ◌∷◌, ◌++◌, Option, None, Some, codes, decimal, nat_eq, if◌then◌else◌}
 use Rattle.std.specs.Fmt.{signed_decimal}
 use Rattle.std.specs.Net.Text.{socket_text}
 use Rattle.peer.specs.Texts.{joined}
 use Rattle.peer.specs.declared.attendance.Attendance.{Attendance}
 use Rattle.peer.specs.declared.attendance.Heard.{Heard}
+use Rattle.peer.specs.Endings.{is_told}
 use Rattle.peer.specs.declared.ending.Ending.{Ending}
 use Rattle.peer.specs.declared.ending.Ending.TheVariants.{Whole, Short}
+use Rattle.std.specs.declared.net.SocketAddr.{SocketAddr}
 use Rattle.endpoint.specs.Texts as devices
 use Rattle.frames.specs.FaultCounts.{counts_text}
 use Rattle.frames.specs.declared.fault_counts.FaultCounts.{FaultCounts}
 use Rattle.messages.specs.Texts as inputs
 use Rattle.publisher.specs.declared.telling.Counts.{Counts}
+use Rattle.publisher.specs.declared.telling.Shortfall.{Shortfall}
+use Rattle.publisher.specs.declared.telling.Shortfall.TheVariants.{Unheard, Silent, Several}
 use Rattle.publisher.specs.declared.fault.PublishFault.{PublishFault}
 use Rattle.publisher.specs.declared.fault.PublishFault.TheVariants.{Input, Full, NoSocket, Failed}
 
@@ -41,20 +45,50 @@ change_between (Some left) (Some present) = change_line left present
 abbrev pub change_text : Attendance → List ℕ
 change_text a = change_between a.left a.present
 
--- a line only where less than the tail was told
-abbrev pub short_text : ℕ → ℕ → List ℕ
-short_text told tail = if nat_lt told tail then codes "no progress: position " ++ decimal told ++ codes " of " ++ decimal tail ++ codes " was told" ++ 10 ∷ [] else []
+-- what a publisher that ends short lacks of a subscriber: somebody; the acknowledgement of all bytes; or one that was there alone,
+-- from the start on
+abbrev pub heard_shortfall : Bool → ℕ → ℕ → ℕ → Heard → Shortfall
+heard_shortfall true seconds start tail h = Several
+heard_shortfall false seconds start tail h = Silent seconds (h.last - start) (tail - start)
+
+abbrev pub shortfall_by : Attendance → Option Heard → Option ℕ → ℕ → ℕ → Shortfall
+shortfall_by a None end tail seconds = Unheard seconds
+shortfall_by a (Some h) end tail seconds = heard_shortfall (is_told a end) seconds a.start tail h
+
+-- the silence of so many nanoseconds in whole seconds
+abbrev pub whole_seconds : Option ℕ → ℕ
+whole_seconds None = 0
+whole_seconds (Some silence) = silence / 1000000000
+
+abbrev pub shortfall_of : Attendance → Option ℕ → ℕ → Option ℕ → Shortfall
+shortfall_of a end tail silence = shortfall_by a a.present end tail (whole_seconds silence)
+
+abbrev pub gave_up_text : SocketAddr → Shortfall → List ℕ
+gave_up_text peer (Unheard seconds) = joined (codes "gave up: nobody was heard at " ∷ socket_text peer ∷ codes " for " ∷ decimal seconds ∷ codes " s" ∷ [])
+gave_up_text peer (Silent seconds acknowledged bytes) = joined (
+    codes "gave up: nothing was heard from " ∷ socket_text peer ∷ codes " for " ∷ decimal seconds ∷ codes " s; it has acknowledged "
+    ∷ decimal acknowledged ∷ codes " of " ∷ decimal bytes ∷ codes " bytes" ∷ [])
+gave_up_text peer Several = joined (codes "not all was written at " ∷ socket_text peer ∷ codes " by one subscriber that was there from the start on" ∷ [])
+
+abbrev pub gave_up_line : SocketAddr → Shortfall → List ℕ
+gave_up_line peer shortfall = gave_up_text peer shortfall ++ 10 ∷ []
 
 abbrev pub empty_line : List ℕ
 empty_line = codes "the input was empty: nothing was published" ++ 10 ∷ []
 
--- nothing where all of a stream was received
-abbrev pub ending_text : Ending → ℕ → ℕ → ℕ → List ℕ
-ending_text Whole start told tail = if nat_eq tail start then empty_line else []
-ending_text Short start told tail = short_text told tail
+-- nothing where something was published
+abbrev pub whole_text : ℕ → ℕ → List ℕ
+whole_text start tail = if nat_eq tail start then empty_line else []
+
+abbrev pub ending_text : Ending → SocketAddr → Shortfall → ℕ → ℕ → List ℕ
+ending_text Whole peer shortfall start tail = whole_text start tail
+ending_text Short peer shortfall start tail = gave_up_line peer shortfall
+
+abbrev pub unshown_line : List ℕ
+unshown_line = codes "gave up: the log couldn't be closed, since memory was refused or a thread still has it" ++ 10 ∷ []
 
 abbrev pub alone_line : List ℕ
-alone_line = codes "nobody was heard for 5 s: no subscriber is there, or it takes another stream or session, or only shorter terms" ++ 10 ∷ []
+alone_line = codes "nobody was heard for 5 s: no subscriber is there, or it follows another publisher, or takes another stream or session, or only shorter terms" ++ 10 ∷ []
 
 abbrev pub fault_line : PublishFault → List ℕ
 fault_line fault = text_of fault ++ (codes "; what came before it is delivered first" ++ 10 ∷ [])

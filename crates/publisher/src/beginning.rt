@@ -1,7 +1,7 @@
 //! What a publisher begins with.
 
-ghost use Rattle.std.specs.Prelude.{◌≡◌, IfErr, IfOk};
-ghost use Rattle.publisher.specs.Beginnings.{ArePublisherParts, device_of};
+ghost use Rattle.std.specs.Prelude.{◌≡◌, IfErr, IfOk, None};
+ghost use Rattle.publisher.specs.Beginnings.{ArePublisherParts, device_of, reach_of, seed_of};
 ghost use Rattle.publisher.specs.Openings.{identity_of};
 
 use crate::fault::PublishFault;
@@ -17,11 +17,14 @@ use peer::{Attended, PatientDevice};
 use position::Identity;
 use shared_log::{LogReader, Publisher};
 use std::alloc::Global;
+use std::net::SocketAddr;
 
 /// What a publisher begins with over a device, but for its sender's agent.
 #[derive(Drop)]
 pub struct PublisherParts<D> {
     pub began: Began,
+    /// Whom its lines name.
+    pub peer: SocketAddr,
     pub state: OfferingState,
     pub conductor: Conductor,
     pub publisher: Publisher,
@@ -38,18 +41,42 @@ pub fn planned_stream(plan: &PublishPlan) -> Identity
     Identity::new(plan.geometry, plan.session, plan.end.stream)
 }
 
+/// Where the random words of a destination begin: the plan's seed, or that and its number among several.
+fn seed_of(plan: &PublishPlan, place: Option<u8>) -> u64
+    ensures { result ≡ seed_of plan.now place }
+{
+    let number = place.unwrap_or(0);
+    plan.end.seed.wrapping_add(u64::from(number))
+}
+
+/// How many bytes behind the sender's position a frame can be sent again, where there are several destinations.
+fn reach_of(plan: &PublishPlan, place: Option<u8>) -> Option<u64>
+    ensures { result ≡ reach_of plan.now place }
+{
+    match place {
+        None => None,
+        Some(_) => Some(3 * u64::from(plan.geometry.term_length()) / 4),
+    }
+}
+
 /// What a publisher sends with over a device: what fails is lost, losses are made on purpose, and what comes is screened and
-/// noted.
+/// noted. `place` is the number of its destination among several, and none where it is the only one.
 pub fn channel_device<D: Datagrams>(
     alloc: Global,
     plan: &PublishPlan,
+    place: Option<u8>,
     device: D,
 ) -> ChannelDevice<D>
-    ensures { result ≡ device_of plan.now device }
+    ensures { result ≡ device_of plan.now place device }
 {
     let patient = PatientDevice::new(device);
-    let lossy = Lossy::new(alloc, patient, plan.end.rates, plan.end.seed);
-    Attended::new(lossy, planned_stream(plan), plan.start)
+    let lossy = Lossy::new(alloc, patient, plan.end.rates, seed_of(plan, place));
+    Attended::new(
+        lossy,
+        planned_stream(plan),
+        plan.start,
+        reach_of(plan, place),
+    )
 }
 
 /// The device with its room.
@@ -60,11 +87,12 @@ fn duty_over<D: Drop>(alloc: Global, plan: &PublishPlan, device: D) -> Result<Du
     Ok(Duty::new(alloc, device, plan.geometry.mtu())?)
 }
 
-/// All that a publisher begins with, over what it sends with. It fails only where memory is refused.
+/// All that a publisher to this peer begins with, over what it sends with. It fails only where memory is refused.
 pub fn parts_over<D: Drop>(
     alloc: Global,
     plan: &PublishPlan,
     began: Began,
+    peer: SocketAddr,
     device: D,
 ) -> Result<PublisherParts<D>, PublishFault>
     ensures parts { IfOk result (λ p. ArePublisherParts plan.now p) }
@@ -83,6 +111,7 @@ pub fn parts_over<D: Drop>(
     let publisher = publishers.remove(0);
     Ok(PublisherParts {
         began,
+        peer,
         state: OfferingState::new(log),
         conductor,
         publisher,
@@ -97,16 +126,23 @@ pub fn parts_over<D: Drop>(
     })
 }
 
-/// All that a publisher begins with, over a device. It fails only where memory is refused.
+/// All that a publisher to this peer begins with, over a device. It fails only where memory is refused.
 pub fn publisher_parts<D: Datagrams + Drop>(
     alloc: Global,
     plan: &PublishPlan,
     began: Began,
+    peer: SocketAddr,
     device: D,
 ) -> Result<PublisherParts<ChannelDevice<D>>, PublishFault>
     ensures parts { IfOk result (λ p. ArePublisherParts plan.now p) }
-    ensures device { IfOk result (λ p. p.passes.duty.device ≡ device_of plan.now device) }
+    ensures device { IfOk result (λ p. p.passes.duty.device ≡ device_of plan.now None device) }
     ensures refused { IfErr result (λ fault. fault ≡ PublishFault.Failed DeviceError.Memory) }
 {
-    parts_over(alloc, plan, began, channel_device(alloc, plan, device))
+    parts_over(
+        alloc,
+        plan,
+        began,
+        peer,
+        channel_device(alloc, plan, None, device),
+    )
 }

@@ -1,6 +1,6 @@
 //! A publisher from its begin to its end.
 
-ghost use Rattle.std.specs.Prelude.{◌≡◌, ◌<◌, IfErr, IfOk, IfSome, Ok};
+ghost use Rattle.std.specs.Prelude.{◌≡◌, ◌<◌, Err, IfErr, IfOk, IfSome, Ok, true};
 ghost use Rattle.std.specs.Arc.{arc_value};
 ghost use Rattle.std.specs.Io.Buffered.{reader_remaining};
 ghost use Rattle.position.specs.Openings.{IsStart};
@@ -14,7 +14,9 @@ ghost use Rattle.peer.specs.declared.ending.Ending.TheVariants.{Whole};
 ghost use Rattle.offering.specs.Ended.{EndsInput};
 ghost use Rattle.publisher.specs.Beginnings.{ArePublisherParts};
 ghost use Rattle.publisher.specs.Ended.{AllArrived, HasSent, LeavesLog, PublishesAll, reading_left};
+ghost use Rattle.publisher.specs.Farewells.{has_told_alone};
 ghost use Rattle.publisher.specs.Faults.{of_device};
+ghost use Rattle.publisher.specs.Judging.{end_in, fault_in};
 ghost use Rattle.publisher.specs.Openings.{ArePasses, IsKept};
 
 use crate::beginning::{PublisherParts, publisher_parts};
@@ -23,6 +25,7 @@ use crate::log_end::{LogEnd, ending_of, log_of};
 use crate::looking::ChannelDevice;
 use crate::publisher_context::PublisherContext;
 use crate::sender_thread::{ChannelSender, SenderPasses};
+use crate::telling::tell_unshown;
 use crate::two_threads::{Published, run};
 use agents::{Began, open_sender};
 use endpoint::{Datagrams, DeviceError, Route, UdpDevice};
@@ -34,7 +37,7 @@ use sender_meaning::keeps_its_reader;
 use shared_log::{Keeper, LogFrames, LogReader, Publisher};
 use std::alloc::Global;
 use std::io::{BufRead, BufReader, Read, Write};
-use std::net::Net;
+use std::net::{Net, SocketAddr};
 use std::sync::{Arc, Wait};
 use std::thread::Threads;
 use std::time::Clock;
@@ -53,21 +56,36 @@ pub fn shared(
     Ok((ours, theirs))
 }
 
+/// What is left of a publisher's parts as its thread starts to send.
+struct Sending<D> {
+    reader: LogReader,
+    passes: SenderPasses<ChannelDevice<D>>,
+    peer: SocketAddr,
+}
+
 /// What sends and keeps, from the log's start.
 fn opened<'a, D: Drop>(
     alloc: Global,
     state: &'a OfferingState,
-    reader: LogReader,
-    passes: SenderPasses<ChannelDevice<D>>,
+    sending: Sending<D>,
 ) -> Result<ChannelSender<'a, D>, PublishFault>
-    requires reader { IsNewReader state.now.log 0 reader }
+    requires reader { IsNewReader state.now.log 0 sending.reader }
     requires start { IsStart state.now.log.identity.geometry state.now.log.start }
     requires consumers { 0 < state.now.log.consumers }
-    ensures new { IfOk result (λ s. IsNewSender state.now.log reader s.agent) }
-    ensures sends { IfOk result (λ s. SendsLog state.now.log s.agent × (s.passes ≡ passes)) }
+    ensures new { IfOk result (λ s. IsNewSender state.now.log sending.reader s.agent) }
+    ensures sends { IfOk result (λ s. SendsLog state.now.log s.agent × (s.passes ≡ sending.passes)) }
 {
+    let Sending {
+        reader,
+        passes,
+        peer,
+    } = sending;
     let agent = open_sender(alloc, &state.log, reader)?;
-    Ok(ChannelSender { agent, passes })
+    Ok(ChannelSender {
+        agent,
+        passes,
+        peer,
+    })
 }
 
 /// What the thread that reads is given: what it shares, and its publisher and input.
@@ -116,7 +134,11 @@ pub fn started<R: Threads + Clock + Send + Copy + 'static, I: BufRead + Send + D
 fn passes_of<D: Drop>(sender: ChannelSender<'_, D>) -> (Keeper, LogReader)
     ensures { result ≡ (sender.entry.passes.keeper, sender.entry.agent.core.reads.reader) }
 {
-    let ChannelSender { agent, passes } = sender;
+    let ChannelSender {
+        agent,
+        passes,
+        peer: _,
+    } = sender;
     let LogFrames { log: _, reader } = agent.into_core().into_reads();
     (passes.keeper, reader)
 }
@@ -131,25 +153,26 @@ fn publish_shared<
 >(
     alloc: Global,
     context: &PublisherContext<'_, R>,
-    reader: LogReader,
-    passes: SenderPasses<ChannelDevice<D>>,
+    sending: Sending<D>,
     offering: Offering<I>,
     errors: &mut E,
 ) -> Result<(Published<I>, (Keeper, LogReader)), PublishFault>
-    requires reader { IsNewReader context.now.state.now.log 0 reader }
+    requires reader { IsNewReader context.now.state.now.log 0 sending.reader }
     requires start { IsStart context.now.state.now.log.identity.geometry context.now.state.now.log.start }
     requires consumers { 0 < context.now.state.now.log.consumers }
-    requires passes { ArePasses context.now.state.now.log context.now.conductor.now passes }
+    requires passes { ArePasses context.now.state.now.log context.now.conductor.now sending.passes }
     requires offering { ((arc_value offering.state).log ≡ context.now.state.now.log) × IsDone context.now.state.now.log offering.publisher }
     ensures keeper { IfOk result (λ e. IsKept context.now.state.now.log e.1.0) }
     ensures reader { IfOk result (λ e. IsReaderOf context.now.state.now.log e.1.1) }
     ensures sent { IfOk result (λ e. HasSent context.now.state.now.log e.1.1) }
     ensures input { IfOk result (λ e. IfSome e.0.input (λ left. EndsInput context.now.plan.now.end.form context.now.state.now.log (I.remaining offering.input) (I.remaining left.input) offering.publisher.pass left.publisher left.reading)) }
     ensures whole { IfOk result (λ e. e.0.ending ≡ Ok Whole → AllArrived (reading_left e.0.input) e.0.attendance) }
+    ensures faulted { IfOk result (λ e. IfSome (fault_in (reading_left e.0.input)) (λ fault. e.0.ending ≡ Err fault)) }
+    ensures told { IfOk result (λ e. e.0.ending ≡ Ok Whole → has_told_alone e.0.ends context.now.plan.now.geometry (end_in (reading_left e.0.input)) ≡ true) }
 {
     // A law that the proof cites.
     keeps_its_reader();
-    let mut sender = opened(alloc, context.state, reader, passes)?;
+    let mut sender = opened(alloc, context.state, sending)?;
     let reading = started(context.rt, alloc, context.plan, offering)?;
     let published = run(context, &mut sender, reading, errors);
     Ok((published, passes_of(sender)))
@@ -174,9 +197,14 @@ pub fn publish_over<
     ensures leaves { IfOk result (λ e. LeavesLog parts.state.log e.1) }
     ensures input { IfOk result (λ e. IfSome e.0.input (λ left. EndsInput plan.now.end.form parts.state.log (I.remaining input) (I.remaining left.input) parts.publisher.pass left.publisher left.reading)) }
     ensures whole { IfOk result (λ e. e.0.ending ≡ Ok Whole → AllArrived (reading_left e.0.input) e.0.attendance) }
+    // A message that couldn't be read is a fault, however the sending went.
+    ensures faulted { IfOk result (λ e. IfSome (fault_in (reading_left e.0.input)) (λ fault. e.0.ending ≡ Err fault)) }
+    // Where it ends whole its device was given no end to tell but the reading's.
+    ensures told { IfOk result (λ e. e.0.ending ≡ Ok Whole → has_told_alone e.0.ends plan.now.geometry (end_in (reading_left e.0.input)) ≡ true) }
 {
     let PublisherParts {
         began,
+        peer,
         state,
         conductor,
         publisher,
@@ -193,9 +221,12 @@ pub fn publish_over<
         began,
     };
     let offering = Offering::new(theirs, publisher, input);
-    let (published, (keeper, reader)) = publish_shared(
-        alloc, &context, reader, passes, offering, errors,
-    )?;
+    let sending = Sending {
+        reader,
+        passes,
+        peer,
+    };
+    let (published, (keeper, reader)) = publish_shared(alloc, &context, sending, offering, errors)?;
     let log = log_of(ours);
     let end = LogEnd {
         log,
@@ -237,7 +268,7 @@ fn prepared<R: Net + Clock>(
 {
     let began = Began::now(rt)?;
     let device = connected(rt, alloc, route)?;
-    publisher_parts(alloc, plan, began, device)
+    publisher_parts(alloc, plan, began, route.peer, device)
 }
 
 /// The input with a buffer, its end read once.
@@ -254,8 +285,23 @@ pub fn buffered<I: Read + Drop>(
     }
 }
 
-/// Publishes the messages of the input as planned, along a route, and answers how it ended. Another receiver that comes, that nobody does, a
-/// fault of the input, an end before all was received, an empty input and the counters are lines of `errors`.
+/// Tells that what was published can't be shown, where all was sent and its log couldn't be closed.
+fn tell_if_unshown<E: Write>(
+    errors: &mut E,
+    sent: &Result<Ending, PublishFault>,
+    ending: &Result<Ending, PublishFault>,
+) {
+    if *sent == Ok(Ending::Whole) && *ending != Ok(Ending::Whole) {
+        let _ = tell_unshown(errors);
+    }
+}
+
+/// Publishes the messages of the input as planned, along a route, and answers how it ended. Another receiver that comes, that
+/// nobody does, a fault of the input, why it gave up, an empty input and the counters are lines of `errors`: where it ends
+/// short a line says why.
+///
+/// Where its input has ended, by its end or a fault, and all was sent, it tells the subscriber where the stream ends: each
+/// 100 ms until that has acknowledged all, and five times at its own end. It tells no other end.
 ///
 /// It waits for nobody but receivers: where it ends the input may still be read, by a thread of its own that ends with the
 /// process, or at its next message. It ends whole only where all of the input was read, and its log is closed then.
@@ -280,5 +326,8 @@ pub fn publish<
     let input = buffered(alloc, input)?;
     let parts = prepared(rt, alloc, plan, route)?;
     let (published, end) = publish_over(rt, alloc, plan, parts, input, errors)?;
-    ending_of(published, end)
+    let sent = published.ending;
+    let ending = ending_of(published, end);
+    tell_if_unshown(errors, &sent, &ending);
+    ending
 }

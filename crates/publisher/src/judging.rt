@@ -4,7 +4,7 @@ ghost use Rattle.std.specs.Prelude.{◌≡◌, ◌||◌, true, ℕ, if◌then◌
 ghost use Rattle.endpoint.specs.declared.device_error.DeviceError.TheVariants.{Device};
 ghost use Rattle.peer.specs.Silences.{seen_at};
 ghost use Rattle.publisher.specs.declared.fault.PublishFault.TheVariants.{Failed};
-ghost use Rattle.publisher.specs.Judging.{FailsBy, IsStop, device_fault, end_in, fault_in, input_fault, reading_fault};
+ghost use Rattle.publisher.specs.Judging.{FailsBy, IsStop, device_fault, end_in, fault_in, input_fault, messages_in, reading_fault, tail_in};
 ghost use Rattle.publisher.specs.Progress.{Judges, is_alone, is_broken, seen, shown_at, with_fault, with_work};
 
 use crate::fault::PublishFault;
@@ -12,10 +12,13 @@ use crate::judged::Judged;
 use crate::looking::Seen;
 use crate::progress::{Progress, told_in};
 use crate::publisher_context::PublisherContext;
-use crate::telling::{Counts, tell_alone, tell_change, tell_counters, tell_ending, tell_fault};
+use crate::telling::{
+    Counts, shortfall_of, tell_alone, tell_change, tell_counters, tell_ending, tell_fault,
+};
 use endpoint::DeviceError;
 use offering::{Reading, ReadingEnd};
 use std::io::Write;
+use std::net::SocketAddr;
 
 /// Why the reading stopped, if that wasn't the input's end.
 pub fn fault_in(reading: &Option<Reading>) -> Option<PublishFault>
@@ -41,6 +44,26 @@ pub fn end_in(reading: &Option<Reading>) -> Option<u64>
             Ok(ReadingEnd::Stopped) => None,
             Ok(ReadingEnd::All) | Err(_) => Some(reading.offered.tail),
         },
+    }
+}
+
+/// How many messages were accepted: as the reading says, once it has ended.
+pub fn messages_in(reading: &Option<Reading>, messages: u64) -> u64
+    ensures { result ≡ messages_in reading.now messages }
+{
+    match *reading {
+        None => messages,
+        Some(ref reading) => reading.offered.messages,
+    }
+}
+
+/// Where the accepted messages end, in bytes of the stream: as the reading says, once it has ended.
+pub fn tail_in(reading: &Option<Reading>, tail: u64) -> u64
+    ensures { result ≡ tail_in reading.now tail }
+{
+    match *reading {
+        None => tail,
+        Some(ref reading) => reading.offered.tail,
     }
 }
 
@@ -148,6 +171,7 @@ pub(crate) fn judge<R, E: Write>(
     context: &PublisherContext<'_, R>,
     progress: &mut Progress,
     cycle: &Seen,
+    peer: SocketAddr,
     errors: &mut E,
     now: u64,
 ) -> Result<Option<Judged>, PublishFault>
@@ -158,16 +182,18 @@ pub(crate) fn judge<R, E: Write>(
 {
     let (plan, state) = (context.plan, context.state);
     let reading = state.reading();
-    let (messages, tail) = (state.messages(), state.tail());
+    let messages = messages_in(&reading, state.messages());
+    let tail = tail_in(&reading, state.tail());
     check_device(progress, cycle, plan.linger, now)?;
     check_reading(progress, &reading, messages, errors)?;
     tell_receivers(progress, cycle, errors, now);
     tell_counts(context, progress, cycle, errors, now);
-    let end = end_in(&reading);
-    let Some(ending) = progress.ending(cycle, end, plan.linger, plan.wait, now) else {
+    let (end, silence) = (end_in(&reading), progress.silence(cycle, now));
+    let attendance = cycle.attendance;
+    let Some(ending) = attendance.ending(end, silence, plan.linger, plan.wait) else {
         return Ok(None);
     };
-    let (start, told) = (cycle.attendance.start, told_in(&cycle.attendance));
-    let _ = tell_ending(errors, ending, start, told, tail);
+    let shortfall = shortfall_of(&attendance, end, tail, silence);
+    let _ = tell_ending(errors, ending, peer, shortfall, attendance.start, tail);
     Ok(Some(Judged { ending, reading }))
 }

@@ -18,8 +18,8 @@
 //! (`publisher_parts`, by `ArePublisherParts` and `device_of`); in each cycle it is told up to where the sender has sent. It
 //! ends by its device's attendance, by how the reading had ended, the plan's linger and wait, and a silence that is judged only
 //! where the socket was empty (`send_all`, by `Ends`; `Progress`). Reading stops only at a full stream or the input's fault,
-//! which is told before one of sending; the texts that are told are exact, and at its end so is how often the stream's end is
-//! told.
+//! which is told before one of sending; the texts that are told are exact. Where it ends whole, each end that its device was
+//! given to tell is where the reading's messages end (`publish`, by `TellsItsEnd`).
 //!
 //! While the reading goes on its thread hides the pass, so of a publisher that ends before it no more is said; nor which
 //! datagrams went out, since its device tells nothing; nor that anything is read or sent: `tools/channels` shows it.
@@ -44,12 +44,18 @@ pub use channel_publisher::{
 };
 pub use fault::PublishFault;
 pub use judged::Judged;
-pub use judging::{check_reading, end_in};
+pub use judging::{check_reading, end_in, messages_in, tail_in};
 pub use log_end::LogEnd;
 pub use looking::{Calls, ChannelDevice, Seen, calls_of, look};
 pub use peer::Ending;
 pub use progress::{Progress, told_in};
 pub use publisher_context::PublisherContext;
-pub use sender_thread::{SenderPasses, keep};
-pub use telling::{Counts, tell_alone, tell_change, tell_counters, tell_ending, tell_refused};
-pub use two_threads::{Published, ended, input_end, reading_left};
+pub use sender_thread::{SenderPasses, end_unless_judged, keep};
+pub use telling::{
+    Counts, Shortfall, shortfall_of, tell_alone, tell_change, tell_counters, tell_refused,
+    tell_shortfall, tell_whole,
+};
+pub use two_threads::{
+    FAREWELL_PAUSE, FAREWELLS, Published, ended, ending_told, farewell_in, has_told_alone,
+    input_end, reading_left,
+};

@@ -78,6 +78,7 @@ pub(crate) fn ending_of<I: Drop>(
     let Published {
         ending,
         attendance: _,
+        ends: _,
         input,
     } = published;
     let Some(left) = input else {

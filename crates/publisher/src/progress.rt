@@ -1,10 +1,11 @@
 //! What a publisher has seen and told.
 
 ghost use Rattle.std.specs.Prelude.{◌≡◌, ◌||◌, not, nat_eq};
-ghost use Rattle.publisher.specs.Progress.{ending_seen, is_alone, is_broken, is_nobody, is_shown, nothing_seen, seen, shown_at, shown_messages, told_of, with_work};
+ghost use Rattle.peer.specs.Silences.{judged};
+ghost use Rattle.publisher.specs.Progress.{end_to_tell, is_alone, is_broken, is_end_due, is_nobody, is_shown, nothing_seen, seen, shown_at, shown_messages, told_of, with_end_told, with_work};
 
 use crate::looking::Seen;
-use peer::{Attendance, Ending, Silence};
+use peer::{Attendance, Silence};
 
 /// Nanoseconds from one line of counters to the next.
 const SECOND: u64 = 1_000_000_000;
@@ -12,9 +13,12 @@ const SECOND: u64 = 1_000_000_000;
 /// Nanoseconds after which it is told that nobody was heard.
 const ALONE: u64 = 5_000_000_000;
 
+/// Nanoseconds from one telling of the stream's end to the next.
+const END_INTERVAL: u64 = 100_000_000;
+
 /// How often receivers had changed, since when no status message was noted and no call of the device worked, when counters
-/// were told last and how many messages there were then, and whether it was told that nobody was heard, and why the input
-/// stopped.
+/// were told last and how many messages there were then, whether it was told that nobody was heard, and why the input
+/// stopped, and when the stream's end was told last.
 #[derive(Clone, Copy)]
 pub struct Progress {
     changes: u64,
@@ -24,6 +28,7 @@ pub struct Progress {
     messages: u64,
     alone: bool,
     pub faulted: bool,
+    ended: Option<u64>,
 }
 
 /// What the receiver that was heard last has told; before anybody was heard it is the start.
@@ -55,6 +60,7 @@ impl Progress {
             messages: 0,
             alone: false,
             faulted: false,
+            ended: None,
         }
     }
 
@@ -103,18 +109,34 @@ impl Progress {
         alone
     }
 
-    /// How the publisher ends by what was seen, if it does: its stream ends at `end`, if its input has ended.
-    pub fn ending(
-        &self,
-        cycle: &Seen,
-        end: Option<u64>,
-        linger: u64,
-        wait: u64,
-        now: u64,
-    ) -> Option<Ending>
-        ensures { result ≡ ending_seen self.now cycle.now end linger wait now }
+    /// For how many nanoseconds no status message came, where that is judged.
+    pub fn silence(&self, cycle: &Seen, now: u64) -> Option<u64>
+        ensures { result ≡ judged self.now.statuses cycle.now.at_rest now }
     {
-        let silence = self.statuses.judged(cycle.at_rest, now);
-        cycle.attendance.ending(end, silence, linger, wait)
+        self.statuses.judged(cycle.at_rest, now)
+    }
+
+    /// Whether the stream's end wasn't told for 100 ms.
+    fn is_end_due(&self, now: u64) -> bool
+        ensures { result ≡ is_end_due self.now now }
+    {
+        match self.ended {
+            None => true,
+            Some(ended) => END_INTERVAL <= now.saturating_sub(ended),
+        }
+    }
+
+    /// The end that is to be told at this moment, where the input has ended and the stream was sent up to its end; then the
+    /// next 100 ms begin.
+    pub fn end_to_tell(&mut self, end: Option<u64>, sent_to: u64, now: u64) -> Option<u64>
+        ensures due { result ≡ end_to_tell self.old end sent_to now }
+        ensures told { self.new ≡ with_end_told self.old result now }
+    {
+        let tail = end?;
+        if sent_to < tail || !self.is_end_due(now) {
+            return None;
+        }
+        self.ended = Some(now);
+        Some(tail)
     }
 }

@@ -8,20 +8,23 @@ ghost use Rattle.sender_meaning.specs.Lives.{Lived, LivedTo};
 ghost use Rattle.publisher.specs.Keeping.{KeepsLog};
 ghost use Rattle.publisher.specs.Looking.{calls_of, seen_of};
 ghost use Rattle.publisher.specs.Openings.{ArePasses, IsKept};
-ghost use Rattle.publisher.specs.Progress.{Ends};
+ghost use Rattle.publisher.specs.Farewells.{TellsEnd, end_unless_judged};
+ghost use Rattle.publisher.specs.Progress.{Ends, end_to_tell, with_end_told};
 
 use crate::fault::PublishFault;
 use crate::judged::Judged;
-use crate::judging::judge;
+use crate::judging::{end_in, judge};
 use crate::looking::{ChannelDevice, Seen, calls_of, look};
 use crate::progress::Progress;
 use crate::publisher_context::PublisherContext;
 use agents::{Duty, IdleStrategy, LogSender, conduct};
 use conductor::{Client, Taker};
 use endpoint::Datagrams;
+use offering::Reading;
 use peer::Attended;
 use shared_log::Keeper;
 use std::io::Write;
+use std::net::SocketAddr;
 use std::sync::Wait;
 use std::time::Clock;
 
@@ -34,11 +37,12 @@ pub struct SenderPasses<D> {
     pub taker: Taker,
 }
 
-/// What sends and keeps.
+/// What sends and keeps, and to whom.
 #[derive(Drop)]
 pub struct ChannelSender<'a, D> {
     pub agent: LogSender<'a>,
     pub passes: SenderPasses<ChannelDevice<D>>,
+    pub peer: SocketAddr,
 }
 
 /// Tells a device up to where the stream was sent, as a cycle begins.
@@ -129,8 +133,35 @@ fn cycle<R: Wait + Clock, D: Datagrams>(
     Ok((busy, cycle))
 }
 
+/// Where the stream ends, if its input has ended and the publisher goes on.
+pub fn end_unless_judged(judged: &Option<Judged>, reading: &Option<Reading>) -> Option<u64>
+    ensures { result ≡ end_unless_judged judged.now reading.now }
+{
+    match *judged {
+        None => end_in(reading),
+        Some(_) => None,
+    }
+}
+
+/// Tells the receivers where the stream ends, where the input has ended, all was sent, and it wasn't told for 100 ms.
+fn tell_end_where_due<D: Datagrams>(
+    sender: &mut ChannelSender<'_, D>,
+    progress: &mut Progress,
+    end: Option<u64>,
+    now: u64,
+)
+    ensures told { TellsEnd (end_to_tell progress.old end sender.old.agent.core.handler.at now) sender.old.passes.duty.device.watch sender.new.passes.duty.device.watch }
+    ensures progress { progress.new ≡ with_end_told progress.old (end_to_tell progress.old end sender.old.agent.core.handler.at now) now }
+    ensures agent { sender.new.agent ≡ sender.old.agent }
+    ensures passes { sender.new.passes ≡ record sender.old.passes { duty = record sender.old.passes.duty { device = sender.new.passes.duty.device } } }
+{
+    if let Some(tail) = progress.end_to_tell(end, sender.agent.position(), now) {
+        sender.passes.duty.device_mut().tell_end(tail);
+    }
+}
+
 /// A cycle at this moment, judged. Whether there was work, and how the publisher ends, if it does.
-#[tactic(auto, using(crate::proofs::Ends::ends))]
+#[tactic(auto, using(crate::proofs::Ends::ends, crate::proofs::Told::keeps_still, crate::proofs::Told::heard_still))]
 fn turn<R: Wait + Clock, D: Datagrams, E: Write>(
     context: &PublisherContext<'_, R>,
     sender: &mut ChannelSender<'_, D>,
@@ -148,7 +179,9 @@ fn turn<R: Wait + Clock, D: Datagrams, E: Write>(
 {
     let now = context.began.moment(context.rt)?;
     let (busy, seen) = cycle(context, sender, now)?;
-    let judged = judge(context, progress, &seen, errors, now)?;
+    let judged = judge(context, progress, &seen, sender.peer, errors, now)?;
+    let end = end_unless_judged(&judged, &context.state.reading());
+    tell_end_where_due(sender, progress, end, now);
     Ok((busy, judged))
 }
 

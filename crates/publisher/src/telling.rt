@@ -3,13 +3,17 @@
 ghost use Rattle.std.specs.Prelude.{◌≡◌, ◌≢◌, OnOk, Some};
 ghost use Rattle.std.specs.Io.KnownBytes.{Appends};
 ghost use Rattle.frames.specs.FaultCounts.{uncounted};
-ghost use Rattle.publisher.specs.Texts.{alone_line, change_text, counters_line, empty_line, ending_text, fault_line, joined_text, left_text, refused_line, short_text, stream_text, traffic_text};
+ghost use Rattle.publisher.specs.Texts.{alone_line, change_text, counters_line, empty_line, ending_text, fault_line, gave_up_line, gave_up_text, joined_text, left_text, refused_line, shortfall_of, stream_text, traffic_text, unshown_line, whole_text};
 
 use crate::fault::PublishFault;
 use frames::FaultCounts;
 use peer::{Attendance, Ending, Heard, Tally};
 use std::io::Write;
+use std::net::SocketAddr;
 use std::{fmt, io};
+
+/// The nanoseconds of a second.
+const NANOSECONDS_PER_SECOND: u64 = 1_000_000_000;
 
 /// The receiver that was heard before, and what it told last.
 #[derive(Clone, Copy)]
@@ -103,14 +107,85 @@ pub fn tell_change<E: Write>(errors: &mut E, attendance: &Attendance) -> io::Res
     writeln!(errors, "{left}, {present}")
 }
 
-/// It ends before all was received, where less than the tail was told.
-fn tell_short<E: Write>(errors: &mut E, told: u64, tail: u64) -> io::Result<()>
-    ensures { OnOk result (Appends (E.contents errors.old) (E.contents errors.new) (short_text told tail)) }
-{
-    if told < tail {
-        return writeln!(errors, "no progress: position {told} of {tail} was told");
+/// Why a publisher gave up on a subscriber.
+#[derive(Clone, Copy, Debug, PartialEq, Eq)]
+pub enum Shortfall {
+    /// Nobody was ever heard, for so many seconds.
+    Unheard {
+        seconds: u64,
+    },
+    /// Nothing more was heard for so many seconds of one that has acknowledged so many of so many bytes.
+    Silent {
+        seconds: u64,
+        acknowledged: u64,
+        bytes: u64,
+    },
+    /// The stream's end was acknowledged, but not by one that was there from the start on, alone.
+    Several,
+}
+
+/// A publisher's end towards a subscriber: its address, and why it gave up on it.
+#[derive(Clone, Copy)]
+struct GaveUp(SocketAddr, Shortfall);
+
+impl fmt::Display for GaveUp {
+    ghost output = { λ gave_up. Some (gave_up_text gave_up.0 gave_up.1) };
+
+    fn fmt<W: fmt::Write>(&self, f: &mut fmt::Formatter<W>) -> fmt::Result {
+        let peer = self.0;
+        match self.1 {
+            Shortfall::Unheard { seconds } => {
+                write!(f, "gave up: nobody was heard at {peer} for {seconds} s")
+            }
+            Shortfall::Silent {
+                seconds,
+                acknowledged,
+                bytes,
+            } => write!(
+                f,
+                "gave up: nothing was heard from {peer} for {seconds} s; it has acknowledged {acknowledged} of {bytes} bytes"
+            ),
+            Shortfall::Several => write!(
+                f,
+                "not all was written at {peer} by one subscriber that was there from the start on"
+            ),
+        }
     }
-    Ok(())
+}
+
+/// What a publisher that ends short lacks of a subscriber, by whom it has heard, where its stream ends, if its input has
+/// ended, how far that has come, and for how many nanoseconds no status message came.
+pub fn shortfall_of(
+    attendance: &Attendance,
+    end: Option<u64>,
+    tail: u64,
+    silence: Option<u64>,
+) -> Shortfall
+    ensures { result ≡ shortfall_of attendance.now end tail silence }
+{
+    let seconds = silence.unwrap_or(0) / NANOSECONDS_PER_SECOND;
+    let start = attendance.start;
+    match attendance.present {
+        None => Shortfall::Unheard { seconds },
+        Some(_) if attendance.is_told(end) => Shortfall::Several,
+        Some(heard) => Shortfall::Silent {
+            seconds,
+            acknowledged: heard.last.saturating_sub(start),
+            bytes: tail.saturating_sub(start),
+        },
+    }
+}
+
+/// Why it gave up on the subscriber there.
+pub fn tell_shortfall<E: Write>(
+    errors: &mut E,
+    peer: SocketAddr,
+    shortfall: Shortfall,
+) -> io::Result<()>
+    ensures { OnOk result (Appends (E.contents errors.old) (E.contents errors.new) (gave_up_line peer shortfall)) }
+{
+    let gave_up = GaveUp(peer, shortfall);
+    writeln!(errors, "{gave_up}")
 }
 
 /// The input was empty.
@@ -120,25 +195,42 @@ fn tell_empty<E: Write>(errors: &mut E) -> io::Result<()>
     writeln!(errors, "the input was empty: nothing was published")
 }
 
-/// How it ends, where that isn't that all was received: of a stream from `start` to `tail` this was told.
-pub fn tell_ending<E: Write>(
+/// That a publisher ends whole of a stream from `start` to `tail` is told where nothing was published.
+pub fn tell_whole<E: Write>(errors: &mut E, start: u64, tail: u64) -> io::Result<()>
+    ensures { OnOk result (Appends (E.contents errors.old) (E.contents errors.new) (whole_text start tail)) }
+{
+    if tail == start {
+        return tell_empty(errors);
+    }
+    Ok(())
+}
+
+/// How it ends: why it gave up on the subscriber there, if it did; else whether anything was published of a stream from
+/// `start` to `tail`.
+pub(crate) fn tell_ending<E: Write>(
     errors: &mut E,
     ending: Ending,
+    peer: SocketAddr,
+    shortfall: Shortfall,
     start: u64,
-    told: u64,
     tail: u64,
 ) -> io::Result<()>
-    ensures { OnOk result (Appends (E.contents errors.old) (E.contents errors.new) (ending_text ending start told tail)) }
+    ensures { OnOk result (Appends (E.contents errors.old) (E.contents errors.new) (ending_text ending peer shortfall start tail)) }
 {
     match ending {
-        Ending::Whole => {
-            if tail == start {
-                return tell_empty(errors);
-            }
-            Ok(())
-        }
-        Ending::Short => tell_short(errors, told, tail),
+        Ending::Whole => tell_whole(errors, start, tail),
+        Ending::Short => tell_shortfall(errors, peer, shortfall),
     }
+}
+
+/// What was published can't be shown: memory was refused, or a thread still has the log.
+pub(crate) fn tell_unshown<E: Write>(errors: &mut E) -> io::Result<()>
+    ensures { OnOk result (Appends (E.contents errors.old) (E.contents errors.new) unshown_line) }
+{
+    writeln!(
+        errors,
+        "gave up: the log couldn't be closed, since memory was refused or a thread still has it"
+    )
 }
 
 /// Nobody was heard for five seconds.
@@ -147,7 +239,7 @@ pub fn tell_alone<E: Write>(errors: &mut E) -> io::Result<()>
 {
     writeln!(
         errors,
-        "nobody was heard for 5 s: no subscriber is there, or it takes another stream or session, or only shorter terms"
+        "nobody was heard for 5 s: no subscriber is there, or it follows another publisher, or takes another stream or session, or only shorter terms"
     )
 }
 

@@ -1,20 +1,18 @@
 //! The two threads of a publisher: one reads messages and offers them, the other sends, keeps the log and decides the end.
 
-ghost use Rattle.std.specs.Prelude.{◌≡◌, ◌+◌, ◌%◌, ◌^◌, ◌≤◌, IfSome, Ok, OnErr, OnOk};
-ghost use Rattle.theory.specs.Position.{max_position};
+ghost use Rattle.std.specs.Prelude.{◌≡◌, Err, IfSome, Ok, true};
 ghost use Rattle.agents.specs.LogSenders.{SendsLog};
-ghost use Rattle.peer.specs.Watching.{plus_one};
 ghost use Rattle.peer.specs.declared.ending.Ending.TheVariants.{Whole};
 ghost use Rattle.sender_meaning.specs.Lives.{Lived};
 ghost use Rattle.offering.specs.Ended.{EndsInput};
 ghost use Rattle.publisher.specs.Ended.{AllArrived, reading_left};
-ghost use Rattle.publisher.specs.Judging.{ended_by, is_read};
+ghost use Rattle.publisher.specs.Farewells.{TellsFarewell, ending_told, farewell_in, has_told_alone};
+ghost use Rattle.publisher.specs.Judging.{end_in, ended_by, fault_in, is_read};
 ghost use Rattle.publisher.specs.Openings.{ArePasses, IsKept};
 
-use crate::beginning::planned_stream;
 use crate::fault::PublishFault;
 use crate::judged::Judged;
-use crate::judging::fault_in;
+use crate::judging::{end_in, fault_in};
 use crate::looking::ChannelDevice;
 use crate::publisher_context::PublisherContext;
 use crate::sender_thread::{ChannelSender, send_all};
@@ -22,7 +20,8 @@ use crate::telling::tell_refused;
 use agents::Duty;
 use endpoint::Datagrams;
 use offering::{InputEnd, Reader, Reading, ReadingEnd};
-use peer::{Attendance, Ending, farewell_bytes};
+use peer::{Attendance, Ending, ToldEnds};
+use position::Geometry;
 use std::io::{BufRead, Write};
 use std::sync::Wait;
 use std::thread;
@@ -30,16 +29,18 @@ use std::thread::Threads;
 use std::time::{Clock, Duration};
 
 /// How many times the stream's end is told.
-const FAREWELLS: u32 = 5;
+pub const FAREWELLS: u32 = 5;
 
 /// Milliseconds from one time to the next.
-const FAREWELL_PAUSE: u64 = 20;
+pub const FAREWELL_PAUSE: u64 = 20;
 
 /// How a publisher ended: whom it had heard then, and where its reading had ended too, what is left of that.
 #[derive(Drop)]
 pub struct Published<I> {
     pub ending: Result<Ending, PublishFault>,
     pub attendance: Attendance,
+    /// The ends of its stream that its device was given to tell.
+    pub ends: Option<ToldEnds>,
     pub input: Option<InputEnd<I>>,
 }
 
@@ -93,43 +94,56 @@ pub fn input_end<R: Threads, I: BufRead + Drop, C>(
     Some(reader.join(rt))
 }
 
-/// Gives the device a datagram.
-fn give<D: Datagrams>(duty: &mut Duty<ChannelDevice<D>>, datagram: &[u8])
-    ensures { duty.new.device.watch.tally.datagrams ≡ plus_one duty.old.device.watch.tally.datagrams }
+/// Where the stream's end is told, if it is: where the reading has, unless it was stopped. One whose device, thread or clock
+/// failed tells none.
+pub fn farewell_in(reading: &Option<Reading>, ending: &Result<Ending, PublishFault>) -> Option<u64>
+    ensures { result ≡ farewell_in reading.now ending.now }
 {
-    let _ = duty.device_mut().send(datagram);
-}
-
-/// Tells the receivers where the stream ends: five times, 20 ms apart.
-fn tell_end<R: Clock, D: Datagrams>(
-    context: &PublisherContext<'_, R>,
-    duty: &mut Duty<ChannelDevice<D>>,
-    tail: u64,
-)
-    requires { tail ≤ max_position context.now.plan.now.geometry }
-    ensures { duty.new.device.watch.tally.datagrams ≡ (duty.old.device.watch.tally.datagrams + 5) % 2 ^ 64 }
-{
-    let farewell = farewell_bytes(&planned_stream(context.plan), tail);
-    give(duty, &farewell);
-    for _count in 1..FAREWELLS {
-        let _ = thread::sleep(context.rt, Duration::from_millis(FAREWELL_PAUSE));
-        give(duty, &farewell);
+    match *ending {
+        Err(PublishFault::Failed(_) | PublishFault::NoSocket(_)) => None,
+        _ => end_in(reading),
     }
 }
 
-/// Tells the receivers where the stream ends, unless the publisher ends by a fault.
-fn bid_farewell<R: Clock, D: Datagrams>(
-    context: &PublisherContext<'_, R>,
-    duty: &mut Duty<ChannelDevice<D>>,
-    ending: &Result<Ending, PublishFault>,
-)
-    ensures told { OnOk ending.now (duty.new.device.watch.tally.datagrams ≡ (duty.old.device.watch.tally.datagrams + 5) % 2 ^ 64) }
-    ensures quiet { OnErr ending.now (duty.new ≡ duty.old) }
+/// Tells the receivers where the stream ends: five times, 20 ms apart.
+#[tactic(auto, using(crate::proofs::Told::told_again))]
+fn bid_farewell<R: Clock, D: Datagrams>(rt: &R, duty: &mut Duty<ChannelDevice<D>>, end: Option<u64>)
+    ensures { TellsFarewell end duty.old.device.watch duty.new.device.watch }
 {
-    if ending.is_ok() {
-        let greatest = context.plan.geometry.max_position();
-        let tail = context.state.tail().min(greatest);
-        tell_end(context, duty, tail);
+    let Some(tail) = end else {
+        return;
+    };
+    duty.device_mut().tell_end(tail);
+    for _count in 1..FAREWELLS {
+        let _ = thread::sleep(rt, Duration::from_millis(FAREWELL_PAUSE));
+        duty.device_mut().tell_end(tail);
+    }
+}
+
+/// Whether a device that told ends told this one alone. The stream's shape bounds it.
+pub fn has_told_alone(ends: Option<ToldEnds>, geometry: &Geometry, end: Option<u64>) -> bool
+    ensures { result ≡ has_told_alone ends geometry.now end }
+{
+    match (ends, end) {
+        (Some(ends), Some(tail)) => {
+            let last = tail.min(geometry.max_position());
+            ends.least == last && ends.greatest == last
+        }
+        _ => false,
+    }
+}
+
+/// How it ended, by whether its device told the reading's end alone: whole only then.
+pub fn ending_told(
+    ending: Result<Ending, PublishFault>,
+    told_alone: bool,
+) -> Result<Ending, PublishFault>
+    ensures { result ≡ ending_told ending told_alone }
+{
+    match ending {
+        Ok(ending) if told_alone => Ok(ending),
+        Ok(_) => Ok(Ending::Short),
+        Err(fault) => Err(fault),
     }
 }
 
@@ -143,7 +157,7 @@ pub fn reading_left<I>(input: &Option<InputEnd<I>>) -> Option<Reading>
     }
 }
 
-/// Sends until the publisher ends, and tells the stream's end unless that is by a fault. Where the reading has ended by then,
+/// Sends until the publisher ends, and tells the stream's end, where the reading has one. Where the reading has ended by then,
 /// its thread is joined.
 #[tactic(auto, using(crate::proofs::Whole::arrived))]
 pub(crate) fn run<R: Threads + Wait + Clock, I: BufRead + Drop, D: Datagrams, E: Write>(
@@ -159,17 +173,27 @@ pub(crate) fn run<R: Threads + Wait + Clock, I: BufRead + Drop, D: Datagrams, E:
     ensures keeper { IsKept context.now.state.now.log sender.new.passes.keeper }
     ensures input { IfSome result.input (λ e. EndsInput reader.handle.promise.form reader.handle.promise.log.value (I.remaining reader.handle.promise.input.value) (I.remaining e.input) reader.handle.promise.publisher.value.pass e.publisher e.reading) }
     ensures whole { result.ending ≡ Ok Whole → AllArrived (reading_left result.input) result.attendance }
+    // A message that couldn't be read is a fault, however the sending went.
+    ensures faulted { IfSome (fault_in (reading_left result.input)) (λ fault. result.ending ≡ Err fault) }
+    // Whom its device has heard, and which ends that was given to tell.
+    ensures noted { (result.attendance ≡ sender.new.passes.duty.device.watch.attendance) × (result.ends ≡ sender.new.passes.duty.device.watch.ends) }
+    ensures told { result.ending ≡ Ok Whole → has_told_alone result.ends context.now.plan.now.geometry (end_in (reading_left result.input)) ≡ true }
 {
     let sent = send_all(context, sender, errors);
     context.state.stop();
     let _ = tell_refused(errors, sender.passes.duty.device().tally().refused);
-    let attendance = sender.passes.duty.device().attendance();
     let input = input_end(context.rt, context, reader);
-    let ending = ended(&reading_left(&input), sent);
-    bid_farewell(context, &mut sender.passes.duty, &ending);
+    let reading = reading_left(&input);
+    let ending = ended(&reading, sent);
+    let end = farewell_in(&reading, &ending);
+    bid_farewell(context.rt, &mut sender.passes.duty, end);
+    let device = sender.passes.duty.device();
+    let (attendance, ends) = (device.attendance(), device.ends());
+    let told_alone = has_told_alone(ends, &context.plan.geometry, end_in(&reading));
     Published {
-        ending,
+        ending: ending_told(ending, told_alone),
         attendance,
+        ends,
         input,
     }
 }

@@ -161,6 +161,14 @@ impl<R, F: FlowControl + Drop> SenderCore<R, F> {
         reads
     }
 
+    /// Goes on by another flow control, which allows no more than what was sent.
+    pub fn set_flow(&mut self, flow: F)
+        requires begins { BeginsAt self.old.handler.at (F.reached flow) (F.allowed flow) }
+        ensures { self.new ≡ record self.old { flow = flow } }
+    {
+        self.flow = flow;
+    }
+
     /// Whether a status message has come that doesn't ask for a SETUP.
     pub fn has_heard(&self) -> bool
         ensures { result ≡ self.now.heard }

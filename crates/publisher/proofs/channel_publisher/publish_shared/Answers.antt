@@ -14,9 +14,9 @@ returns-clause-input g c =
 pub returns-clause-reader : goal.returns-clause-reader
 returns-clause-reader g c =
     let is = c.passes_of.ensures in
-    subst (λ (x : KeeperValue × ReaderValue). IsReaderOf c.args.context.now.state.now.log x.1) (sym is) (still_reads c.keeps_its_reader.ensures c.args.context.now.state.now.log c.args.reader _ c.run-published.new.sender.agent c.in_ok-sender.ensures.new c.run-published.ensures.lives c.run-published.ensures.agent)
+    subst (λ (x : KeeperValue × ReaderValue). IsReaderOf c.args.context.now.state.now.log x.1) (sym is) (still_reads c.keeps_its_reader.ensures c.args.context.now.state.now.log c.args.sending.reader _ c.run-published.new.sender.agent c.in_ok-sender.ensures.new c.run-published.ensures.lives c.run-published.ensures.agent)
 
 pub returns-clause-sent : goal.returns-clause-sent
 returns-clause-sent g c =
     let is = c.passes_of.ensures in
-    subst (λ (x : KeeperValue × ReaderValue). HasSent c.args.context.now.state.now.log x.1) (sym is) (has_sent c.args.context.now.state.now.log c.args.reader _ c.run-published.new.sender.agent c.requires.start c.in_ok-sender.ensures.new c.run-published.ensures.lives)
+    subst (λ (x : KeeperValue × ReaderValue). HasSent c.args.context.now.state.now.log x.1) (sym is) (has_sent c.args.context.now.state.now.log c.args.sending.reader _ c.run-published.new.sender.agent c.requires.start c.in_ok-sender.ensures.new c.run-published.ensures.lives)

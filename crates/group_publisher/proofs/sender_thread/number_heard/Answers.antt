@@ -1,7 +1,7 @@
-use Rattle.std.proofs.Common.{◌<◌, length, arith}
-use Rattle.group_publisher.specs.Farewells.{given_along, given_with}
+use Rattle.std.proofs.Common.{◌<◌, length, ap, arith}
+use Rattle.group_publisher.specs.Beginnings.{unnumbered}
 use Rattle.group_publisher.proofs.Written.{shown, written_rest}
-use Rattle.group_publisher.proofs.two_threads.give_each.Goals as goal
+use Rattle.group_publisher.proofs.sender_thread.number_heard.Goals as goal
 
 pub loop-way-preserved : goal.loop-way-preserved
 loop-way-preserved g c =
@@ -13,6 +13,6 @@ loop-way-preserved g c =
     let ly : i < length ys = omega (arith, same, c.loop-way-test.true) in
     let w = c.way-item.result in
     record {
-      done = shown given_along (given_with 1) xs ys i c.give.new.way w lx ly c.loop-way.invariant.done c.loop-way.invariant.rest c.give.ensures;
-      rest = written_rest xs ys i c.give.new.way w lx ly c.loop-way.invariant.rest;
+      kept = shown unnumbered unnumbered xs ys i c.number.new.way w lx ly c.loop-way.invariant.kept c.loop-way.invariant.rest (ap unnumbered c.number.ensures);
+      rest = written_rest xs ys i c.number.new.way w lx ly c.loop-way.invariant.rest;
     }
