@@ -26,6 +26,8 @@ extern "C" {
 
 #define PV_VERSION_MAJOR 0
 #define PV_VERSION_MINOR 2
+#define PV_VERSION_PATCH 0
+#define PV_VERSION "0.2.0"
 
 /* ---- handles: a type for each kind, so that the compiler tells them apart */
 

@@ -13,6 +13,8 @@ import sys
 import threading
 import time
 
+__version__ = "0.2.0"
+
 DONE, FRAME = 0, 1
 MAY_PASS = (-1, -2, -3)
 

@@ -8,6 +8,9 @@ use std::fmt;
 use std::ptr::null_mut;
 use std::thread;
 
+/// The version of the library that this is written for.
+pub const VERSION: &str = "0.2.0";
+
 #[repr(C)]
 struct Handle {
     at: *mut c_void,

@@ -29,7 +29,7 @@ use std::thread::Threads;
 use std::time::Clock;
 
 /// The line of `--version`: the program's name and version, and the kit that it is proved with.
-const VERSION: &str = "mdriver 0.1.0, proved with rattle-kit-13f logic dac8208d650f15bf\n";
+const VERSION: &str = "mdriver 0.2.0, proved with rattle-kit-13f logic dac8208d650f15bf\n";
 
 /// The line that asks for the help of `publish`.
 const PUBLISH_HELP: [&str; 2] = ["publish", "--help"];
