@@ -20,8 +20,7 @@ use Rattle.receiver.specs.Receiving.{Meets, MeetsAll, MeetsFrame, MeetsHeartbeat
 use Rattle.receiver.specs.Subscribing.{RepresentsSubscriber, Subscribing}
 use Rattle.receiver.specs.declared.receiver_core.Outcome.{Outcome}
 use Rattle.subscriber.proofs.Lived.{all_heard, life_ended, life_on, lives_on}
-use Rattle.subscriber.proofs.Told.{ticked_on}
-use Rattle.subscriber.specs.Leavings.{AreUnpolled, BidsFarewell, KeepsConsumers, LivesUnpolled, StandsStill}
+use Rattle.subscriber.specs.Leavings.{AreUnpolled, KeepsConsumers, LivesUnpolled, StandsStill}
 use Rattle.subscriber.specs.Living.{WritesLife, WritesLives}
 use Rattle.subscriber.specs.declared.ended.Subscribed.{Subscribed}
 use Rattle.subscriber.specs.declared.fault.SubscribeFault.{SubscribeFault}
@@ -117,7 +116,7 @@ unpolled_with (Ticks now ∷ xs) ys x y = unpolled_with xs ys x y
 unpolled_with (Gives message ∷ xs) ys x y = absurd x
 unpolled_with (GivesNone ∷ xs) ys x y = absurd x
 
-heard_unpolled : (now : ℕ) (datagrams : List (List ℕ)) → AreUnpolled (map (Hears now) datagrams)
+pub heard_unpolled : (now : ℕ) (datagrams : List (List ℕ)) → AreUnpolled (map (Hears now) datagrams)
 heard_unpolled now [] = tt
 heard_unpolled now (d ∷ ds) = heard_unpolled now ds
 
@@ -153,19 +152,6 @@ fault_unpolled now tells fault s d t e f = by_tick f.ticked
     by_tick : ((t ≡ f.middle) × (f.given ≡ [])) ⊎ TicksBehind ReceiverTicks now f.heard f.lost f.answers f.given f.sent f.middle d t e → LivesUnpolled s t
     by_tick (inl none) = record { acts = map (Hears now) f.heard; unpolled = heard_unpolled now f.heard; lived = subst (Lives s (map (Hears now) f.heard)) (sym none.0) hears }
     by_tick (inr behind) = heard_and_told now s f.middle t f.heard f.answers f.given hears behind.ticked
-
--- behind a cycle it was told a moment
-pub cycle_bids : (now from to : ℕ) (tells : Type 0) (r s : Subscribing) (d : Device) (busy : Bool) (t : Subscribing) (e : Device) → LivesUnpolled r s → Cycle ReceiverHears ReceiverTicks now tells s d busy t e → from + 1000000000 ≤ to → BidsFarewell r from t to
-unfolding unpolled_on cycle_unpolled heard_and_told
-cycle_bids now from to tells r s d busy t e l c lasts =
-    let u = unpolled_on r s t l (cycle_unpolled now tells s d busy t e c) in
-    record {
-      acts = u.acts;
-      unpolled = u.unpolled;
-      lived = u.lived;
-      told = ticked_on l.acts (map (Hears now) c.heard ++ Ticks now ∷ []) (ticked_on (map (Hears now) c.heard) (Ticks now ∷ []) refl);
-      lasts = lasts;
-    }
 
 -- what it has written stays all that its polls gave
 pub left_life : (plan : SubscribePlan) (a b : Option (List ℕ)) (count number : ℕ) (s t : Subscribing) → WritesLife plan a count number s b → LivesUnpolled s t → WritesLife plan a count number t b

@@ -5,3 +5,5 @@ pub mod Lived
 pub mod Leaving
 pub mod Told
 pub mod Breaking
+pub mod Answered
+pub mod EndRows

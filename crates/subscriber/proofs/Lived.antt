@@ -138,7 +138,7 @@ renewed plan from f moment m a b count j k meeting r h =
     }
 
 -- the image is the same
-same_life : (plan : SubscribePlan) (a b : Option (List ℕ)) (count : ℕ) (j k : Joined) → k.number ≡ j.number → k.subscriber ≡ j.subscriber → WritesLife plan a count j.number j.subscriber b → WritesLife plan a count k.number k.subscriber b
+pub same_life : (plan : SubscribePlan) (a b : Option (List ℕ)) (count : ℕ) (j k : Joined) → k.number ≡ j.number → k.subscriber ≡ j.subscriber → WritesLife plan a count j.number j.subscriber b → WritesLife plan a count k.number k.subscriber b
 same_life plan a b count j k number same h = subst (λ n. WritesLife plan a count n k.subscriber b) (sym number) (subst (λ x. WritesLife plan a count j.number x b) (sym same) h)
 
 kept_life : (plan : SubscribePlan) (a b : Option (List ℕ)) (count : ℕ) (j k : Joined) → k ≡ j → WritesLife plan a count j.number j.subscriber b → WritesLife plan a count k.number k.subscriber b
@@ -160,12 +160,6 @@ offered_life plan s t (Some offer) a b count j k p h = considered_life plan offe
 -- whatever came of the SETUP that came in a cycle
 pub attended_life : (plan : SubscribePlan) (s t : Seen) (a b : Option (List ℕ)) (count : ℕ) (j k : Joined) → Attends plan s j k t → WritesLife plan a count j.number j.subscriber b → WritesLife plan a count k.number k.subscriber b
 attended_life plan s t a b count j k p h = offered_life plan s t p.0 a b count (with_device j (setup_taken j.duty.device)) k p.2 h
-
--- it lived on, and then its silence was told
-pub silent_life : (plan : SubscribePlan) (a b c : Option (List ℕ)) (count more : ℕ) (j k l : Joined) → k.number ≡ j.number → l ≡ record k { silent = l.silent } → WritesLife plan a count j.number j.subscriber b → WritesActs plan.end.form count j.subscriber b more k.subscriber c → WritesLife plan a more l.number l.subscriber c
-silent_life plan a b c count more j k l number told h w =
-    same_life plan a c more k l (ap (λ x. x.number) told) (ap (λ x. x.subscriber) told)
-    (subst (λ n. WritesLife plan a more n k.subscriber c) (sym number) (life_on plan a b c count more j.number j.subscriber k.subscriber h w))
 
 -- what was new of its status messages was told
 pub told_life : (plan : SubscribePlan) (a b : Option (List ℕ)) (count : ℕ) (j k : Joined) (d : SubscriberDevice) → k ≡ with_device j d → WritesLife plan a count j.number j.subscriber b → WritesLife plan a count k.number k.subscriber b

@@ -3,9 +3,13 @@ use Rattle.std.specs.Prelude.{◌≡◌, ◌⊎◌, ℕ, List, Option, Some}
 use Rattle.options.specs.declared.ends.plans.SubscribePlan.{SubscribePlan}
 use Rattle.receiver.specs.Subscribing.{Subscribing}
 use Rattle.subscription.specs.Watches.{IsQuiet, Seen}
-use Rattle.subscriber.specs.Leavings.{IsEnding, IsQuietEnding, StandsHere}
+use Rattle.subscriber.specs.Answering.{HasAnswered}
+use Rattle.subscriber.specs.Leavings.{IsEnding, IsQuietEnding}
 use Rattle.subscriber.specs.Living.{WritesLife}
+use Rattle.subscriber.specs.Standing.{HasAll, Stands}
+use Rattle.subscriber.specs.declared.ended.Ending.{Ending}
 use Rattle.subscriber.specs.declared.ended.Subscribed.{Subscribed}
+use Rattle.subscriber.specs.declared.standing.Stand.{Stand}
 
 -- it had no image, and was quiet: nothing is written
 pub record EndsWithoutImage (plan : SubscribePlan) (before : Option (List ℕ)) (done : Subscribed) (after : Option (List ℕ)) : Type 0 where
@@ -15,17 +19,22 @@ pub record EndsWithoutImage (plan : SubscribePlan) (before : Option (List ℕ)) 
   pub quiet : IsQuiet plan seen
   pub ending : IsQuietEnding plan done.ending
 
--- it had images, and all that their polls gave is written; the newest one's consumer stands where it ends so, by what it has seen
--- and the end that it was told
+-- it ends so behind so many messages, by what it has seen, where it stands, and the end that it was told; where it has all of its
+-- stream it has told that
+pub record EndsSo (plan : SubscribePlan) (written : ℕ) (s : Seen) (t : Subscribing) (end : Option ℕ) (how : Ending) : Type 0 where
+  pub stand : Stand
+  pub stands : Stands t end stand
+  pub ending : IsEnding plan written s stand (Some how)
+  pub answered : HasAll stand → HasAnswered t
+
+-- it had images, and all that their polls gave is written; with the newest one it ends so
 pub record EndsWithImage (plan : SubscribePlan) (before : Option (List ℕ)) (done : Subscribed) (after : Option (List ℕ)) : Type 0 where
   pub number : ℕ
   pub newest : Subscribing
   pub lives : WritesLife plan before done.messages number newest after
-  pub place : ℕ
-  pub stands : StandsHere newest place
   pub seen : Seen
   pub end : Option ℕ
-  pub ending : IsEnding plan done.messages seen end place (Some done.ending)
+  pub ends : EndsSo plan done.messages seen newest end done.ending
 
 -- how it ends in all
 abbrev pub HasEnded : SubscribePlan → Option (List ℕ) → Subscribed → Option (List ℕ) → Type 0

@@ -6,13 +6,13 @@ use Rattle.options.specs.declared.ends.plans.SubscribePlan.{SubscribePlan}
 use Rattle.receiver.specs.Lives.{Act, Gives, GivesNone, Hears, Lives, Ticks}
 use Rattle.receiver.specs.Receiving.{Opened, Receiver}
 use Rattle.receiver.specs.Subscribing.{RepresentsSubscriber, Subscribing}
-use Rattle.subscription.specs.Places.{StandsAt}
 use Rattle.subscription.specs.Watches.{IsQuiet, Seen, hearing, working}
-use Rattle.subscriber.specs.Breaking.{is_ticked}
+use Rattle.subscriber.specs.Standing.{HasAll}
 use Rattle.subscriber.specs.declared.fault.SubscribeFault.{SubscribeFault}
 use Rattle.subscriber.specs.declared.fault.SubscribeFault.TheVariants.{Taken, NotHere, Failed}
 use Rattle.endpoint.specs.declared.device_error.DeviceError.TheVariants.{Device, Memory}
 use Rattle.std.specs.declared.net.SocketAddr.{SocketAddr}
+use Rattle.subscriber.specs.declared.standing.Stand.{Stand}
 use Rattle.subscriber.specs.declared.ended.Ending.{Ending}
 use Rattle.subscriber.specs.declared.ended.Ending.TheVariants.{Whole, Short}
 
@@ -26,18 +26,9 @@ pub record NotesWork (before after : ℕ) (old new : Seen) : Type 0 where
   pub still : after ≡ before → new ≡ old
   pub worked : (after ≡ before → ⊥) → new ≡ working old
 
--- the subscriber's consumer stands here
-abbrev pub StandsHere : Subscribing → ℕ → Type 0
-StandsHere s at = (r : Receiver) → RepresentsSubscriber s r → StandsAt r.image at
-
--- the stream was told to end, and the consumer stands there or behind it
-abbrev pub HasAll : Option ℕ → ℕ → Type 0
-HasAll None at = ⊥
-HasAll (Some end) at = end ≤ at
-
 -- as many messages are written as were wanted; or it was to end with the stream, and has all of it
-abbrev pub HasEnough : SubscribePlan → ℕ → Option ℕ → ℕ → Type 0
-HasEnough plan written end at = (plan.messages ≤ written) ⊎ (IsTrue plan.once × HasAll end at)
+abbrev pub HasEnough : SubscribePlan → ℕ → Stand → Type 0
+HasEnough plan written x = (plan.messages ≤ written) ⊎ (IsTrue plan.once × HasAll x)
 
 -- how one ends that is quiet: short where it was to end with the stream
 abbrev pub IsQuietEnding : SubscribePlan → Ending → Type 0
@@ -45,16 +36,16 @@ IsQuietEnding plan Whole = plan.once ≡ false
 IsQuietEnding plan Short = IsTrue plan.once
 
 -- it isn't done yet, but quiet
-pub record IsGivenUp (plan : SubscribePlan) (written : ℕ) (s : Seen) (end : Option ℕ) (at : ℕ) (how : Ending) : Type 0 where
-  pub undone : ¬ HasEnough plan written end at
+pub record IsGivenUp (plan : SubscribePlan) (written : ℕ) (s : Seen) (x : Stand) (how : Ending) : Type 0 where
+  pub undone : ¬ HasEnough plan written x
   pub quiet : IsQuiet plan s
   pub ending : IsQuietEnding plan how
 
--- how it ends behind so many messages, at the watch's moment, where its consumer stands here
-abbrev pub IsEnding : SubscribePlan → ℕ → Seen → Option ℕ → ℕ → Option Ending → Type 0
-IsEnding plan written s end at (Some Whole) = HasEnough plan written end at ⊎ IsGivenUp plan written s end at Whole
-IsEnding plan written s end at (Some Short) = IsGivenUp plan written s end at Short
-IsEnding plan written s end at None = (¬ HasEnough plan written end at) × (¬ IsQuiet plan s)
+-- how it ends behind so many messages, at the watch's moment, where it stands so
+abbrev pub IsEnding : SubscribePlan → ℕ → Seen → Stand → Option Ending → Type 0
+IsEnding plan written s x (Some Whole) = HasEnough plan written x ⊎ IsGivenUp plan written s x Whole
+IsEnding plan written s x (Some Short) = IsGivenUp plan written s x Short
+IsEnding plan written s x None = (¬ HasEnough plan written x) × (¬ IsQuiet plan s)
 
 -- datagrams that it hears and moments that it is told, and no poll
 abbrev pub AreUnpolled : List Act → Type 0
@@ -80,18 +71,15 @@ KeepsConsumers (Some o) (Some p) = p.image.consumers ≡ o.image.consumers
 abbrev pub StandsStill : Subscribing → Subscribing → Type 0
 StandsStill s t = (r : Receiver) → RepresentsSubscriber s r → (q : Receiver) × RepresentsSubscriber t q × KeepsConsumers r.image q.image
 
--- for a second and more it lived on so, and was told a moment, at which it tells where it stands
-pub record BidsFarewell (s : Subscribing) (from : ℕ) (t : Subscribing) (to : ℕ) : Type 0 where
-  pub acts : List Act
-  pub unpolled : AreUnpolled acts
-  pub lived : Lives s acts t
-  pub told : is_ticked acts ≡ true
-  pub lasts : from + 1000000000 ≤ to
+-- it has all of the stream, and was quiet since
+pub record IsSettled (plan : SubscribePlan) (s : Seen) (x : Stand) : Type 0 where
+  pub all : HasAll x
+  pub quiet : IsQuiet plan s
 
--- it is silent where it has all of the stream, and else it tells where it stands
-pub record LeavesFrom (end : Option ℕ) (at : ℕ) (silent tells : Type 0) : Type 0 where
-  pub all : HasAll end at → silent
-  pub part : ¬ HasAll end at → tells
+-- then it is silent, and else it tells where it stands
+pub record LeavesFrom (plan : SubscribePlan) (s : Seen) (x : Stand) (silent tells : Type 0) : Type 0 where
+  pub settled : IsSettled plan s x → silent
+  pub unsettled : ¬ IsSettled plan s x → tells
 
 -- why there is no second thread: the clock can't be read, the system refused it, or memory was refused
 abbrev pub IsStartFault : SubscribeFault → Type 0

@@ -2,9 +2,12 @@ pub mod Deliveries
 pub mod DeliveryTexts
 pub mod Texts
 pub mod Turning
+pub mod Standing
 pub mod Leavings
+pub mod Answering
 pub mod Writings
 pub mod Living
 pub mod Breaking
 pub mod Endings
 pub mod Telling
+pub mod Reasons

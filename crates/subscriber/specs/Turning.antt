@@ -1,27 +1,24 @@
 -- What a subscriber with an image makes of a SETUP.
--- While its session isn't silent it makes nothing of any. Of a silent session a SETUP of the same shape that isn't behind
--- what was rebuilt is the session's again: the image goes on, tied to who sent it. Any other that would open an image for
--- the plan takes the place: a new image is opened, under the next number and so under a receiver id of its own.
-use Rattle.std.specs.Prelude.{◌≡◌, ◌≢◌, ◌⊎◌, ◌↔◌, ◌≤◌, ◌+◌, ◌%◌, ◌^◌, ℕ, false, IsTrue, None, Some}
+-- Where all of its stream is written up to the told end, the next publisher's takes the place: one of another session, or one that
+-- another sent than the peer; of its own a SETUP makes nothing. Before that, while its session isn't silent it makes nothing of any.
+-- Of a silent session a SETUP of the same shape that isn't behind what was rebuilt is the session's again: the image goes on,
+-- tied to who sent it. Any other that would open an image for the plan takes the place. What takes the place opens a new image,
+-- under the next number and so under a receiver id of its own.
+use Rattle.std.specs.Prelude.{◌≡◌, ◌≢◌, ◌⊎◌, ◌↔◌, ◌≤◌, ◌+◌, ◌%◌, ◌^◌, ◌++◌, [], ◌∷◌, ℕ, false, IsTrue, None, Some}
 use Rattle.std.specs.declared.net.SocketAddr.{SocketAddr}
 use Rattle.frames.specs.Frames.{setup_of}
 use Rattle.frames.specs.declared.frame.Setup.{Setup}
 use Rattle.options.specs.declared.ends.plans.SubscribePlan.{SubscribePlan}
-use Rattle.receiver.specs.Receiving.{Receiver}
-use Rattle.receiver.specs.Subscribing.{RepresentsSubscriber, Subscribing}
 use Rattle.subscription.specs.Hearings.{turned_to}
-use Rattle.subscription.specs.Places.{IsRebuiltTo}
 use Rattle.subscription.specs.Meetings.{HasMet, OpensNothing}
 use Rattle.subscription.specs.Calls.{IsMeeting}
 use Rattle.subscription.specs.Offers.{IsOffered, Offer, SubscriberDevice, setup_taken, tied_anew}
+use Rattle.subscription.specs.Unheards.{IsUnnamed}
 use Rattle.subscription.specs.Watches.{IsSilent, Seen, hearing}
+use Rattle.subscriber.specs.Standing.{RebuiltTo}
 use Rattle.subscription.specs.declared.joined.Joined.{Joined}
 use Rattle.subscription.specs.declared.opening.Opening.{Opening}
 use Rattle.subscription.specs.declared.meeting.Meeting.{Meeting}
-
--- the subscriber's image is rebuilt up to here
-abbrev pub RebuiltTo : Subscribing → ℕ → Type 0
-RebuiltTo s at = (r : Receiver) → RepresentsSubscriber s r → IsRebuiltTo r.image at
 
 -- it is the session's own SETUP: the same session and shape, and not behind what was rebuilt
 pub record GoesOn (was : Opening) (rebuilt : ℕ) (o : Opening) : Type 0 where
@@ -41,10 +38,25 @@ pub record IsAnother (m : Meeting) (j : Joined) : Type 0 where
   pub session : m.opening.session ≡ j.opening.session
   pub sender : m.from ≢ j.duty.device.inner.inner.inner.peer
 
--- the image is kept, and its peer; another sender of its session is noted
+-- a SETUP of another session, which is told as not heard
+pub record IsUnheard (m : Meeting) (j : Joined) : Type 0 where
+  pub session : m.opening.session ≢ j.opening.session
+  pub unnamed : IsUnnamed j.unheard m.opening.session
+
+-- the image is kept, and its peer; another sender of its session is noted, and another session, each once
 pub record Warns (m : Meeting) (old new : Joined) : Type 0 where
   pub warned : IsTrue new.warned ↔ (IsTrue old.warned ⊎ IsAnother m old)
-  pub kept : new ≡ record old { warned = new.warned }
+  pub named : IsUnheard m old → new.unheard ≡ old.unheard ++ m.opening.session ∷ []
+  pub known : ¬ IsUnheard m old → new.unheard ≡ old.unheard
+  pub kept : new ≡ record old { warned = new.warned; unheard = new.unheard }
+
+-- the next publisher's: of another session, or another sent it than the peer
+abbrev pub IsNext : Meeting → Joined → Type 0
+IsNext m j = (m.opening.session ≢ j.opening.session) ⊎ (m.from ≢ j.duty.device.inner.inner.inner.peer)
+
+-- an image whose stream has ended gives way to the next publisher's, and one that hasn't ended while its session is silent
+abbrev pub GivesWay : Seen → Meeting → Joined → Type 0
+GivesWay s m j = (IsTrue j.ended × IsNext m j) ⊎ ((¬ IsTrue j.ended) × IsSilent s)
 
 -- the image is kept, and this is its peer
 abbrev pub IsTiedTo : SocketAddr → Joined → Joined → Type 0
@@ -58,24 +70,31 @@ pub record IsRenewed (plan : SubscribePlan) (moment : ℕ) (m : Meeting) (old ne
   pub device : new.duty ≡ record (old.duty) { device = turned_to (tied_anew old.duty.device m.from) m.opening.session }
   pub silent : new.silent ≡ false
   pub warned : new.warned ≡ false
+  pub ended : new.ended ≡ false
+  pub unheard : new.unheard ≡ []
 
--- the session isn't silent: nothing is made of it, but that another sender is noted
+-- the image doesn't give way: nothing is made of it, but that another sender or session is noted
 pub record Passes (s : Seen) (m : Meeting) (old new : Joined) (t : Seen) : Type 0 where
-  pub not_silent : ¬ IsSilent s
+  pub stays : ¬ GivesWay s m old
   pub warns : Warns m old new
   pub seen : t ≡ s
 
--- it is silent, and the SETUP is its own, where its image is rebuilt up to here
+-- it is the session's own again, whose stream hasn't ended, where the image is rebuilt up to here
+pub record IsAgain (m : Meeting) (rebuilt : ℕ) (j : Joined) : Type 0 where
+  pub going : ¬ IsTrue j.ended
+  pub own : GoesOn j.opening rebuilt m.opening
+
+-- the image would give way, and goes on
 pub record Resumes (s : Seen) (m : Meeting) (rebuilt : ℕ) (old new : Joined) (t : Seen) : Type 0 where
-  pub silent : IsSilent s
-  pub own : GoesOn old.opening rebuilt m.opening
+  pub way : GivesWay s m old
+  pub again : IsAgain m rebuilt old
   pub tied : IsTiedTo m.from old new
   pub seen : t ≡ s
 
--- it is silent, and the SETUP is another's
+-- the image gives way
 pub record Renews (plan : SubscribePlan) (s : Seen) (m : Meeting) (rebuilt : ℕ) (old new : Joined) (t : Seen) : Type 0 where
-  pub silent : IsSilent s
-  pub other : ¬ GoesOn old.opening rebuilt m.opening
+  pub way : GivesWay s m old
+  pub other : ¬ IsAgain m rebuilt old
   pub renewed : IsRenewed plan s.moment m old new
   pub seen : t ≡ hearing s
 

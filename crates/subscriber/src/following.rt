@@ -1,11 +1,15 @@
 //! A subscriber with an image.
 
-ghost use Rattle.std.specs.Prelude.{◌≡◌, ◌≢◌, ◌≤◌, ◌↔◌, ◌+◌, ◌-◌, ◌^◌, min, ℕ, IfErr, IfOk, IsTrue, OnErr, OnOk, Some};
+ghost use Rattle.std.specs.Prelude.{◌≡◌, ◌≢◌, ◌≤◌, ◌↔◌, ◌+◌, ◌-◌, ◌^◌, false, min, ℕ, IfErr, IfOk, IsTrue, OnErr, OnOk, Some};
 ghost use Rattle.std.specs.Io.KnownBytes.{Appends};
 ghost use Rattle.endpoint.specs.declared.device_error.DeviceError.TheVariants.{Device};
 ghost use Rattle.subscriber.specs.Breaking.{BreaksActs, BreaksLife};
-ghost use Rattle.subscriber.specs.Leavings.{BidsFarewell, HasAll, HasEnough, IsEnding, IsQuietEnding, LeavesFrom, LivesUnpolled, NotesHeard, NotesWork, StandsHere, StandsStill};
-ghost use Rattle.subscription.specs.Watches.{IsBroken, IsSilent, TellsWhereDue};
+ghost use Rattle.subscriber.specs.Answering.{BidsFarewell, IsTicked, NotesSilence};
+ghost use Rattle.subscriber.specs.Endings.{EndsSo};
+ghost use Rattle.subscriber.specs.Leavings.{HasEnough, IsEnding, IsQuietEnding, IsSettled, LeavesFrom, LivesUnpolled, NotesHeard, NotesWork, StandsStill};
+ghost use Rattle.subscriber.specs.Standing.{StandsHere, Stands};
+ghost use Rattle.subscriber.specs.declared.standing.Stand.{Stand as Standing};
+ghost use Rattle.subscription.specs.Watches.{IsBroken, TellsWhereDue};
 ghost use Rattle.subscriber.specs.declared.fault.SubscribeFault.TheVariants.{Failed};
 ghost use Rattle.subscriber.specs.Living.{WritesActs, WritesLife};
 ghost use Rattle.subscriber.specs.Telling.{AreCounts, TellsCounters, TellsLine};
@@ -14,16 +18,17 @@ ghost use Rattle.subscriber.specs.Turning.{with_device};
 ghost use Rattle.subscriber.specs.Writings.{Writes};
 ghost use Rattle.subscription.specs.Sendings.{news_taken};
 
+use crate::answering::{answer_end, note_heard, tell_place};
 use crate::delivery::cycle;
 use crate::delivery::polling::CYCLE_MESSAGES;
 use crate::ended::Ending;
 use crate::fault::SubscribeFault;
 use crate::repeating::Slot;
+use crate::standing::{Stand, has_all, stand_of};
 use crate::turning::attend;
 use agents::{IdleStrategy, REPLY};
 use endpoint::DeviceError;
 use options::SubscribePlan;
-use receiver::STATUS_INTERVAL;
 use std::alloc::Global;
 use std::io;
 use std::io::Write;
@@ -33,15 +38,6 @@ use subscription::{Counts, Joined, Watch, tell_again, tell_counters, tell_silent
 
 /// How long a subscriber that has ended still tells where it stands, in nanoseconds.
 const FAREWELL: u64 = 1_000_000_000;
-
-/// Notes that a frame of the session came, where the device has counted another number than before.
-fn note_heard(joined: &Joined, watch: &mut Watch, before: u64)
-    ensures { NotesHeard before joined.now.duty.device.notes.frames watch.old watch.new }
-{
-    if joined.duty.device().notes().frames != before {
-        watch.hear();
-    }
-}
 
 /// A cycle: messages are written, at most so many as are still wanted, and then the device is heard and answered. The answer
 /// is how many were written in all, and whether there was work: messages to write, or an image that got further. Heartbeats
@@ -63,7 +59,10 @@ fn cycle_once<W: Write>(
     ensures lives { IfOk result (λ r. WritesActs plan.now.end.form written joined.old.subscriber (W.contents output.old) r.0 joined.new.subscriber (W.contents output.new)) }
     // At a fault all that was told is written.
     ensures broken { OnErr result (BreaksActs plan.now.end.form joined.old.subscriber (W.contents output.old) joined.new.subscriber (W.contents output.new)) }
-    ensures number { joined.new.number ≡ joined.old.number }
+    // Last it was told the moment.
+    ensures ticked { IfOk result (λ _. IsTicked watch.old.moment joined.new.subscriber) }
+    ensures moment { watch.new.moment ≡ watch.old.moment }
+    ensures same { joined.new ≡ record joined.old { subscriber = joined.new.subscriber; duty = joined.new.duty } }
 {
     let before = joined.duty.device().notes().frames;
     let stood = joined.subscriber.positions();
@@ -86,6 +85,7 @@ fn cycle_once<W: Write>(
 /// seconds.
 fn check_works(joined: &Joined, watch: &mut Watch, before: u64) -> Result<(), DeviceError>
     ensures noted { NotesWork before joined.now.duty.device.inner.inner.worked watch.old watch.new }
+    ensures moment { watch.new.moment ≡ watch.old.moment }
     ensures works { OnOk result (¬ IsBroken watch.new) }
     ensures broken { IfErr result (λ fault. (fault ≡ Device) × IsBroken watch.new) }
 {
@@ -95,21 +95,11 @@ fn check_works(joined: &Joined, watch: &mut Watch, before: u64) -> Result<(), De
     watch.check_works()
 }
 
-/// Whether the stream was told to end where the consumer stands, or before that.
-fn has_all(end: Option<u64>, place: u64) -> bool
-    ensures { IsTrue result ↔ HasAll end place }
-{
-    match end {
-        None => false,
-        Some(end) => end <= place,
-    }
-}
-
 /// Whether a subscriber has done what was wanted of it.
-fn is_done(plan: &SubscribePlan, written: u64, end: Option<u64>, place: u64) -> bool
-    ensures { IsTrue result ↔ HasEnough plan.now written end place }
+fn is_done(plan: &SubscribePlan, written: u64, stand: &Stand) -> bool
+    ensures { IsTrue result ↔ HasEnough plan.now written stand.now }
 {
-    written >= plan.messages || (plan.once && has_all(end, place))
+    written >= plan.messages || (plan.once && has_all(stand))
 }
 
 /// How one ends that is quiet.
@@ -124,16 +114,10 @@ pub(crate) fn quiet_ending(plan: &SubscribePlan) -> Ending
 }
 
 /// How the subscriber ends at the moment, behind so many messages, if it does.
-fn ending_of(
-    plan: &SubscribePlan,
-    watch: &Watch,
-    written: u64,
-    end: Option<u64>,
-    place: u64,
-) -> Option<Ending>
-    ensures { IsEnding plan.now written watch.now end place result }
+fn ending_of(plan: &SubscribePlan, watch: &Watch, written: u64, stand: &Stand) -> Option<Ending>
+    ensures { IsEnding plan.now written watch.now stand.now result }
 {
-    if is_done(plan, written, end, place) {
+    if is_done(plan, written, stand) {
         return Some(Ending::Whole);
     }
     if watch.is_quiet(plan) {
@@ -142,15 +126,15 @@ fn ending_of(
     None
 }
 
-/// Tells once that the session is silent, and once that it goes on.
+/// Tells once that the session is silent, and once that it goes on; of a stream that has ended neither.
 fn tell_silence<E: Write>(joined: &mut Joined, errors: &mut E, watch: &Watch) -> io::Result<()>
-    ensures noted { IsTrue joined.new.silent ↔ IsSilent watch.now }
+    ensures noted { NotesSilence watch.now joined.old joined.new }
     ensures same { joined.new ≡ record joined.old { silent = joined.new.silent } }
     ensures told { joined.new.silent ≢ joined.old.silent → (place : ℕ) × StandsHere joined.old.subscriber place × OnOk result (Appends (E.contents errors.old) (E.contents errors.new) (silence_line joined.new.silent joined.old.opening.session place)) }
     ensures quiet { joined.new.silent ≡ joined.old.silent → OnOk result (E.contents errors.new ≡ E.contents errors.old) }
 {
     let silent = watch.is_silent();
-    if silent == joined.silent {
+    if joined.ended || silent == joined.silent {
         return Ok(());
     }
     joined.silent = silent;
@@ -237,9 +221,10 @@ pub(crate) fn follow<R: Wait + Clock, W: Write, E: Write>(
 ) -> Result<(u64, Ending), SubscribeFault>
     requires size { joined.old.duty.mtu ≡ REPLY }
     requires begun { WritesLife plan.now (W.contents output.old) 0 joined.old.number joined.old.subscriber (W.contents output.old) }
+    requires going { joined.old.ended ≡ false }
     ensures size { joined.new.duty.mtu ≡ REPLY }
     ensures few { IfOk result (λ r. r.0 ≤ plan.now.messages) }
-    ensures ended { IfOk result (λ r. (place : ℕ) × StandsHere joined.new.subscriber place × IsEnding plan.now r.0 watch.new joined.new.duty.device.notes.end place (Some r.1)) }
+    ensures ended { IfOk result (λ r. EndsSo plan.now r.0 watch.new joined.new.subscriber joined.new.duty.device.notes.end r.1) }
     ensures writes { IfOk result (λ r. Writes plan.now.end.form 0 (W.contents output.old) r.0 (W.contents output.new)) }
     // What its images gave, each in its turn.
     ensures lives { IfOk result (λ r. WritesLife plan.now (W.contents output.old) r.0 joined.new.number joined.new.subscriber (W.contents output.new)) }
@@ -253,10 +238,10 @@ pub(crate) fn follow<R: Wait + Clock, W: Write, E: Write>(
         let (all, busy) = cycle_once(plan, joined, output, watch, written)?;
         written = all;
         check_works(joined, watch, worked)?;
+        let stand = answer_end(joined, errors, watch)?;
         let _ = tell_silence(joined, errors, watch);
         let _ = tell(plan, joined, errors, watch, written);
-        let end = joined.duty.device().notes().end;
-        if let Some(ending) = ending_of(plan, watch, written, end, joined.place()) {
+        if let Some(ending) = ending_of(plan, watch, written, &stand) {
             return Ok((written, ending));
         }
         attend(alloc, plan, joined, errors, watch)?;
@@ -283,8 +268,7 @@ fn bid_farewell<R: Wait + Clock>(
     let ended = watch.moment();
     let mut idle = IdleStrategy::new();
     for _ in rt.forever() {
-        let ahead = watch.moment().saturating_add(STATUS_INTERVAL);
-        let busy = joined.duty.cycle(&mut joined.subscriber, ahead)?;
+        let busy = tell_place(joined, watch)?;
         watch.see(rt)?;
         if watch.moment().saturating_sub(ended) >= FAREWELL {
             return Ok(());
@@ -294,10 +278,18 @@ fn bid_farewell<R: Wait + Clock>(
     unreachable!()
 }
 
-/// Leaves an image. Where the publisher hasn't told an end at which the subscriber has all, it is told for a second where that
-/// stands; else nothing is sent.
+/// Whether it has all of the stream, and was quiet since.
+fn is_settled(plan: &SubscribePlan, watch: &Watch, stand: &Stand) -> bool
+    ensures { IsTrue result ↔ IsSettled plan.now watch.now stand.now }
+{
+    has_all(stand) && watch.is_quiet(plan)
+}
+
+/// Leaves an image. Where the subscriber has all of the stream, and was quiet since, nothing is sent; else it is told for a second
+/// where it stands.
 pub(crate) fn leave<R: Wait + Clock>(
     rt: &R,
+    plan: &SubscribePlan,
     joined: &mut Joined,
     watch: &mut Watch,
 ) -> Result<(), SubscribeFault>
@@ -305,10 +297,9 @@ pub(crate) fn leave<R: Wait + Clock>(
     ensures unpolled { LivesUnpolled joined.old.subscriber joined.new.subscriber }
     ensures still { StandsStill joined.old.subscriber joined.new.subscriber }
     ensures number { joined.new.number ≡ joined.old.number }
-    ensures leaves { (place : ℕ) × StandsHere joined.old.subscriber place × LeavesFrom joined.old.duty.device.notes.end place (joined.new ≡ joined.old) (OnOk result (BidsFarewell joined.old.subscriber watch.old.moment joined.new.subscriber watch.new.moment)) }
+    ensures leaves { (x : Standing) × Stands joined.old.subscriber joined.old.duty.device.notes.end x × LeavesFrom plan.now watch.old x (joined.new ≡ joined.old) (OnOk result (BidsFarewell joined.old.subscriber watch.old.moment joined.new.subscriber watch.new.moment)) }
 {
-    let end = joined.duty.device().notes().end;
-    if has_all(end, joined.place()) {
+    if is_settled(plan, watch, &stand_of(joined)) {
         return Ok(());
     }
     bid_farewell(rt, joined, watch)

@@ -28,15 +28,18 @@
 //! that older ones gave: no status message has told of a message that isn't written (`BreaksLives`).
 #![tactic(auto)]
 
+mod answering;
 mod delivery;
 mod ended;
 mod fault;
 mod following;
 mod repeating;
+mod standing;
 mod subscribing;
 mod turning;
 
 pub use delivery::Delivered;
 pub use ended::{Ending, Subscribed};
 pub use fault::SubscribeFault;
+pub use standing::Stand;
 pub use subscribing::subscribe;

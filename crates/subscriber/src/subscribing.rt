@@ -1,15 +1,18 @@
 //! A subscriber from its begin to its end.
 
-ghost use Rattle.std.specs.Prelude.{◌≡◌, ◌≤◌, IfErr, IfOk, IsTrue, OnErr};
+ghost use Rattle.std.specs.Prelude.{◌≡◌, ◌≤◌, ◌/◌, false, IfErr, IfOk, IsTrue, OnErr, OnOk};
+ghost use Rattle.std.specs.Io.KnownBytes.{Appends};
 ghost use Rattle.peer.specs.declared.fault.BindError.{BindError};
 ghost use Rattle.subscriber.specs.Breaking.{BreaksLife, BreaksLives};
 ghost use Rattle.subscriber.specs.Endings.{EndsWithImage, HasEnded};
 ghost use Rattle.subscriber.specs.Leavings.{of_bind};
+ghost use Rattle.subscriber.specs.Reasons.{IsUnfinished, TellsUnfinished};
+ghost use Rattle.subscription.specs.Texts.{nobody_line, unfinished_line};
 ghost use Rattle.subscriber.specs.Living.{WritesLife, WritesLives};
 ghost use Rattle.subscriber.specs.Writings.{Writes};
-ghost use Rattle.subscriber.specs.declared.ended.Ending.TheVariants.{Short};
+ghost use Rattle.subscriber.specs.declared.ended.Ending.TheVariants.{Short, Whole};
 
-use crate::ended::Subscribed;
+use crate::ended::{Ending, Subscribed};
 use crate::fault::SubscribeFault;
 use crate::following::{follow, leave, quiet_ending, strangers};
 use crate::repeating::{Repeating, Slot};
@@ -19,12 +22,16 @@ use frames::FaultCounts;
 use options::SubscribePlan;
 use peer::{BindError, Listener};
 use std::alloc::Global;
+use std::io;
 use std::io::Write;
 use std::net::{Net, SocketAddr};
 use std::sync::Wait;
 use std::thread::Threads;
 use std::time::{Clock, Instant};
-use subscription::{Joined, StatusRepeater, Watch, listen, tell_joined, tell_refused};
+use subscription::{
+    Joined, StatusRepeater, Unfinished, Watch, listen, tell_joined, tell_nobody, tell_refused,
+    tell_unfinished, tied_of,
+};
 
 /// Why there is no listener at this address.
 fn fault_of(address: SocketAddr, error: BindError) -> SubscribeFault
@@ -47,6 +54,48 @@ fn bind<R: Net>(rt: &R, alloc: Global, binding: &Binding) -> Result<Listener, Su
     }
 }
 
+/// Nanoseconds in a second.
+const SECOND: u64 = 1_000_000_000;
+
+/// Tells why a subscriber with an image ends short, where it does.
+fn tell_short<E: Write>(
+    plan: &SubscribePlan,
+    joined: &Joined,
+    ending: Ending,
+    errors: &mut E,
+) -> io::Result<()>
+    ensures short { ending ≡ Short → TellsUnfinished joined.now (λ left. OnOk result (Appends (E.contents errors.old) (E.contents errors.new) (unfinished_line (plan.now.quiet / 1000000000) left))) }
+    ensures whole { ending ≡ Whole → OnOk result (E.contents errors.new ≡ E.contents errors.old) }
+{
+    match ending {
+        Ending::Whole => Ok(()),
+        Ending::Short => tell_unfinished(errors, plan.quiet / SECOND, &unfinished(joined)),
+    }
+}
+
+/// The session that an image is of, and where it stands.
+fn unfinished(joined: &Joined) -> Unfinished
+    ensures { IsUnfinished joined.now result }
+{
+    Unfinished {
+        from: tied_of(joined.duty.device()).peer(),
+        session: joined.opening.session,
+        position: joined.place(),
+        end: joined.duty.device().notes().end,
+    }
+}
+
+/// Tells why a subscriber without an image ends short, where it does. It is how it ends.
+fn tell_nobody_there<E: Write>(plan: &SubscribePlan, errors: &mut E) -> io::Result<()>
+    ensures short { IsTrue plan.now.once → OnOk result (Appends (E.contents errors.old) (E.contents errors.new) (nobody_line (plan.now.quiet / 1000000000))) }
+    ensures whole { plan.now.once ≡ false → OnOk result (E.contents errors.new ≡ E.contents errors.old) }
+{
+    if !plan.once {
+        return Ok(());
+    }
+    tell_nobody(errors, plan.quiet / SECOND)
+}
+
 /// Follows the image to the end, and leaves it. What is heard then belongs to the image's life. Nothing is repeated any more
 /// once all is written.
 fn follow_all<R: Wait + Clock, W: Write, E: Write>(
@@ -61,6 +110,7 @@ fn follow_all<R: Wait + Clock, W: Write, E: Write>(
 ) -> Result<Subscribed, SubscribeFault>
     requires size { joined.old.duty.mtu ≡ REPLY }
     requires begun { WritesLife plan.now (W.contents output.old) 0 joined.old.number joined.old.subscriber (W.contents output.old) }
+    requires going { joined.old.ended ≡ false }
     ensures few { IfOk result (λ s. s.messages ≤ plan.now.messages) }
     ensures short { IfOk result (λ s. s.ending ≡ Short → IsTrue plan.now.once) }
     ensures writes { IfOk result (λ s. Writes plan.now.end.form 0 (W.contents output.old) s.messages (W.contents output.new)) }
@@ -77,7 +127,8 @@ fn follow_all<R: Wait + Clock, W: Write, E: Write>(
         strangers(joined, watch),
     );
     let (messages, ending) = followed?;
-    let _ = leave(rt, joined, watch);
+    let _ = tell_short(plan, joined, ending, errors);
+    let _ = leave(rt, plan, joined, watch);
     Ok(Subscribed { messages, ending })
 }
 
@@ -102,6 +153,7 @@ fn listen_and_follow<R: Wait + Clock, W: Write, E: Write>(
     match listen(rt, alloc, plan, listener, errors, watch)? {
         None => {
             let _ = tell_refused(errors, FaultCounts::new(), watch.strangers());
+            let _ = tell_nobody_there(plan, errors);
             Ok(Subscribed {
                 messages: 0,
                 ending: quiet_ending(plan),

@@ -5,8 +5,8 @@ ghost use Rattle.std.specs.Io.KnownBytes.{Appends};
 ghost use Rattle.frames.specs.Frames.{setup_of};
 ghost use Rattle.subscription.specs.Hearings.{turned_to};
 ghost use Rattle.subscription.specs.Offers.{tied_anew};
-ghost use Rattle.subscription.specs.Texts.{another_line};
-ghost use Rattle.subscriber.specs.Turning.{Attends, Considers, GoesOn, IsAnother, IsRenewed, IsTiedTo, Turns, Warns};
+ghost use Rattle.subscription.specs.Texts.{another_line, unheard_line};
+ghost use Rattle.subscriber.specs.Turning.{Attends, Considers, GivesWay, GoesOn, IsAgain, IsAnother, IsNext, IsRenewed, IsTiedTo, IsUnheard, Turns, Warns};
 
 use crate::fault::SubscribeFault;
 use agents::Duty;
@@ -17,8 +17,8 @@ use std::io;
 use std::io::Write;
 use std::net::SocketAddr;
 use subscription::{
-    Joined, Meeting, Opening, SubscriberDevice, Watch, meeting_of, offered, opened, tell_another,
-    tell_closed, tell_joined, tie, tied_of,
+    Joined, Meeting, Opening, SubscriberDevice, Unheard, Watch, meeting_of, offered, opened,
+    tell_another, tell_closed, tell_joined, tell_unheard, tie, tied_of,
 };
 
 /// Whether a SETUP is the session's own, so that an image goes on that is rebuilt up to here.
@@ -38,17 +38,50 @@ fn is_another(joined: &Joined, meeting: &Meeting) -> bool
         && meeting.from != tied_of(joined.duty.device()).peer()
 }
 
-/// Tells, once for an image, that a SETUP of its session came from another than its peer.
+/// Whether a SETUP is of another session, which is to be told as not heard.
+fn is_unheard(joined: &Joined, meeting: &Meeting) -> bool
+    ensures { IsTrue result ↔ IsUnheard meeting.now joined.now }
+{
+    meeting.opening.session != joined.opening.session
+        && joined.unheard.is_unnamed(meeting.opening.session)
+}
+
+/// Tells, once for an image, that a SETUP of its session came from another than its peer, and, once for each of up to 16 other
+/// sessions, that such a session isn't heard.
 fn warn<E: Write>(joined: &mut Joined, meeting: &Meeting, errors: &mut E) -> io::Result<()>
     ensures warns { Warns meeting.now joined.old joined.new }
     ensures told { joined.new.warned ≢ joined.old.warned → OnOk result (Appends (E.contents errors.old) (E.contents errors.new) (another_line meeting.now.opening.session meeting.now.from)) }
-    ensures quiet { joined.new.warned ≡ joined.old.warned → OnOk result (E.contents errors.new ≡ E.contents errors.old) }
+    ensures named { joined.new.unheard ≢ joined.old.unheard → OnOk result (Appends (E.contents errors.old) (E.contents errors.new) (unheard_line meeting.now.opening.session meeting.now.from joined.old.opening.session)) }
+    ensures quiet { joined.new ≡ joined.old → OnOk result (E.contents errors.new ≡ E.contents errors.old) }
 {
+    let session = meeting.opening.session;
+    if is_unheard(joined, meeting) {
+        joined.unheard.name(session);
+        return tell_unheard(errors, session, meeting.from, joined.opening.session);
+    }
     if joined.warned || !is_another(joined, meeting) {
         return Ok(());
     }
     joined.warned = true;
-    tell_another(errors, meeting.opening.session, meeting.from)
+    tell_another(errors, session, meeting.from)
+}
+
+/// Whether a SETUP is the next publisher's: it is of another session, or another sent it than the peer.
+fn is_next(joined: &Joined, meeting: &Meeting) -> bool
+    ensures { IsTrue result ↔ IsNext meeting.now joined.now }
+{
+    meeting.opening.session != joined.opening.session
+        || meeting.from != tied_of(joined.duty.device()).peer()
+}
+
+/// Whether an image gives way: its stream has ended and the SETUP is the next publisher's, or hasn't, and its session is silent.
+fn gives_way(joined: &Joined, meeting: &Meeting, watch: &Watch) -> bool
+    ensures { IsTrue result ↔ GivesWay watch.now meeting.now joined.now }
+{
+    if joined.ended {
+        return is_next(joined, meeting);
+    }
+    watch.is_silent()
 }
 
 /// Makes this the peer.
@@ -66,6 +99,13 @@ fn turn(duty: &mut Duty<SubscriberDevice>, from: SocketAddr, session: i32)
     let device = duty.device_mut();
     tie(device, from);
     device.turn_to(session);
+}
+
+/// Whether a SETUP is the session's own again, whose stream hasn't ended, where the image is rebuilt up to here.
+fn is_again(joined: &Joined, meeting: &Meeting, rebuilt: u64) -> bool
+    ensures { IsTrue result ↔ IsAgain meeting.now rebuilt joined.now }
+{
+    !joined.ended && goes_on(&joined.opening, rebuilt, &meeting.opening)
 }
 
 /// Opens a new image in the place of one.
@@ -86,6 +126,8 @@ fn renew(
     joined.opening = meeting.opening;
     joined.silent = false;
     joined.warned = false;
+    joined.ended = false;
+    joined.unheard = Unheard::new();
     turn(&mut joined.duty, meeting.from, meeting.opening.session);
     Ok(())
 }
@@ -124,11 +166,11 @@ fn turns<E: Write>(
     ensures size { joined.new.duty.mtu ≡ joined.old.duty.mtu }
 {
     let rebuilt = joined.rebuilt();
-    if !watch.is_silent() {
+    if !gives_way(joined, meeting, watch) {
         let _ = warn(joined, meeting, errors);
         return Ok(());
     }
-    if goes_on(&joined.opening, rebuilt, &meeting.opening) {
+    if is_again(joined, meeting, rebuilt) {
         tie_again(joined, meeting.from);
         return Ok(());
     }
@@ -158,10 +200,11 @@ fn consider<E: Write>(
 
 /// What is made of the SETUP that came in a cycle, if one did.
 ///
-/// While the session isn't silent, nothing is, but that another sender of it is told once. Of a silent session a SETUP of the
-/// same shape that isn't behind what was rebuilt ties the device to who sent it, and the image goes on. Any other one that the
-/// plan takes closes the image, and opens a new one under another receiver id; it is told where. The fault is that memory was
-/// refused; then nothing was opened.
+/// Of a stream that has ended, and is written up to its end, the next publisher's SETUP takes the place at once, and of its own
+/// nothing is made. Else, while the session isn't silent, nothing is, but that another sender of it is told once, and each other
+/// session. Of a silent session a SETUP of the same shape that isn't behind what was rebuilt ties the device to who sent it,
+/// and the image goes on. Any other one that the plan takes closes the image, and opens a new one under another receiver id; it
+/// is told where. The fault is that memory was refused; then nothing was opened.
 pub(crate) fn attend<E: Write>(
     alloc: Global,
     plan: &SubscribePlan,

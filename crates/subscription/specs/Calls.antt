@@ -1,5 +1,5 @@
 -- What a datagram is to a subscriber without an image, and how one joins.
-use Rattle.std.specs.Prelude.{◌≡◌, ℕ, List, false, Option, None, Some, option_map}
+use Rattle.std.specs.Prelude.{◌≡◌, ℕ, List, [], false, Option, None, Some, option_map}
 use Rattle.std.specs.declared.net.SocketAddr.{SocketAddr}
 use Rattle.theory.specs.Control.{asking_at}
 use Rattle.theory.specs.Wire.{Header, IsHeader}
@@ -92,6 +92,8 @@ pub record IsJoinedBy (plan : SubscribePlan) (moment : ℕ) (m : Meeting) (socke
   pub duty : j.duty ≡ record { device = following (begun (patient (tied_to socket m.from)) plan.end.rates plan.end.seed) m.opening.session plan.end.stream; mtu = 40 }
   pub silent : j.silent ≡ false
   pub warned : j.warned ≡ false
+  pub ended : j.ended ≡ false
+  pub unheard : j.unheard ≡ []
 
 -- the SETUP opens an image for the plan, and came at the moment
 pub record IsJoined (plan : SubscribePlan) (s : Seen) (j : Joined) : Type 0 where

@@ -9,3 +9,4 @@ pub mod Statuses
 pub mod Sendings
 pub mod Repeats
 pub mod Texts
+pub mod Unheards

@@ -1,5 +1,5 @@
 -- What a subscriber tells on its error output.
-use Rattle.std.specs.Prelude.{◌≡◌, ℕ, ℤ, List, [], ◌∷◌, ◌++◌, codes, decimal}
+use Rattle.std.specs.Prelude.{◌≡◌, ℕ, ℤ, List, [], ◌∷◌, ◌++◌, Option, None, Some, codes, decimal}
 use Rattle.std.specs.Fmt.{signed_decimal}
 use Rattle.std.specs.Net.Text.{socket_text}
 use Rattle.std.specs.declared.net.SocketAddr.{SocketAddr}
@@ -9,6 +9,7 @@ use Rattle.receiver.specs.declared.positions.Positions.{Positions}
 use Rattle.peer.specs.Texts.{joined}
 use Rattle.subscription.specs.Watches.{Seen}
 use Rattle.subscription.specs.declared.telling.Counts.{Counts}
+use Rattle.subscription.specs.declared.telling.Unfinished.{Unfinished}
 
 abbrev pub joined_line : ℤ → ℕ → List ℕ
 joined_line session position = joined (codes "joined session " ∷ signed_decimal session ∷ codes " at position " ∷ decimal position ∷ (10 ∷ []) ∷ [])
@@ -25,6 +26,37 @@ closed_line session position refused = joined (
 
 abbrev pub another_line : ℤ → SocketAddr → List ℕ
 another_line session from = joined (codes "another sender at " ∷ socket_text from ∷ codes " for session " ∷ signed_decimal session ∷ (codes ", not heard" ++ 10 ∷ []) ∷ [])
+
+abbrev pub sender_text : ℤ → SocketAddr → List ℕ
+sender_text session from = joined (codes "session " ∷ signed_decimal session ∷ codes " at " ∷ socket_text from ∷ [])
+
+abbrev pub current_text : ℤ → List ℕ
+current_text session = joined (codes "session " ∷ signed_decimal session ∷ codes " is followed" ∷ [])
+
+abbrev pub unheard_line : ℤ → SocketAddr → ℤ → List ℕ
+unheard_line session from followed = joined (codes "not heard: " ∷ sender_text session from ∷ codes "; " ∷ current_text followed ∷ (10 ∷ []) ∷ [])
+
+abbrev pub ended_line : ℤ → ℕ → List ℕ
+ended_line session position = joined (codes "ended: session " ∷ signed_decimal session ∷ codes " at position " ∷ decimal position ∷ (10 ∷ []) ∷ [])
+
+-- ---- why it gave up
+
+abbrev pub nobody_line : ℕ → List ℕ
+nobody_line seconds = joined (codes "gave up: nobody published for " ∷ decimal seconds ∷ (codes " s" ++ 10 ∷ []) ∷ [])
+
+abbrev pub told_end_text : Option ℕ → List ℕ
+told_end_text None = codes " of which no end was told"
+told_end_text (Some end) = joined (codes ", and the end that was told is " ∷ decimal end ∷ [])
+
+-- where its session stands
+abbrev pub unfinished_text : Unfinished → List ℕ
+unfinished_text left = joined (codes "session " ∷ signed_decimal left.session ∷ codes " stands at position " ∷ decimal left.position ∷ told_end_text left.end ∷ [])
+
+abbrev pub nothing_heard_text : SocketAddr → ℕ → List ℕ
+nothing_heard_text from seconds = joined (codes "nothing was heard from " ∷ socket_text from ∷ codes " for " ∷ decimal seconds ∷ codes " s" ∷ [])
+
+abbrev pub unfinished_line : ℕ → Unfinished → List ℕ
+unfinished_line seconds left = joined (codes "gave up: " ∷ nothing_heard_text left.from seconds ∷ codes "; " ∷ unfinished_text left ∷ (10 ∷ []) ∷ [])
 
 -- ---- counters
 

@@ -10,6 +10,7 @@ ghost use Rattle.subscription.specs.Offers.{IsIn, IsOffered, setup_taken, tied_a
 use crate::followed::Followed;
 use crate::invitation::setup_in;
 use crate::opening::Opening;
+use crate::unheard::Unheard;
 use agents::Duty;
 use frames::Setup;
 use loss_injector::Lossy;
@@ -33,6 +34,10 @@ pub struct Joined {
     pub silent: bool,
     /// Whether another sender of its session was told.
     pub warned: bool,
+    /// Whether all up to its session's told end is written.
+    pub ended: bool,
+    /// Other sessions that were told as not heard.
+    pub unheard: Unheard,
 }
 
 impl Joined {

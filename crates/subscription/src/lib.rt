@@ -29,6 +29,7 @@ mod meeting;
 mod opening;
 mod repeater;
 mod telling;
+mod unheard;
 mod watch;
 mod window;
 
@@ -42,8 +43,9 @@ pub use meeting::{Meeting, meeting_of};
 pub use opening::Opening;
 pub use repeater::{StatusRepeater, repeats_the_last};
 pub use telling::{
-    Counts, tell_again, tell_another, tell_closed, tell_counters, tell_joined, tell_refused,
-    tell_silent,
+    Counts, Unfinished, tell_again, tell_another, tell_closed, tell_counters, tell_ended,
+    tell_joined, tell_nobody, tell_refused, tell_silent, tell_unfinished, tell_unheard,
 };
+pub use unheard::Unheard;
 pub use watch::Watch;
 pub use window::window_of;

@@ -19,6 +19,7 @@ use crate::invitation::{header_in, id_of, opened, setup_in, takes_session};
 use crate::joined::{Joined, SubscriberDevice};
 use crate::meeting::{Meeting, meeting_of};
 use crate::telling::{Counts, tell_waiting};
+use crate::unheard::Unheard;
 use crate::watch::Watch;
 use agents::{Duty, IdleStrategy, REPLY};
 use endpoint::{DeviceError, DeviceFailed};
@@ -153,6 +154,8 @@ fn join(
         duty,
         silent: false,
         warned: false,
+        ended: false,
+        unheard: Unheard::new(),
     })
 }
 

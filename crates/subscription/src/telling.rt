@@ -2,7 +2,7 @@
 
 ghost use Rattle.std.specs.Prelude.{◌≡◌, OnOk, Some};
 ghost use Rattle.std.specs.Io.KnownBytes.{Appends};
-ghost use Rattle.subscription.specs.Texts.{IsClean, again_line, another_line, closed_line, counters_line, joined_line, losses_text, nowhere, places_text, refused_line, silent_line, waiting_line, written_text};
+ghost use Rattle.subscription.specs.Texts.{IsClean, again_line, another_line, closed_line, counters_line, current_text, ended_line, joined_line, losses_text, nobody_line, nowhere, places_text, nothing_heard_text, refused_line, sender_text, silent_line, told_end_text, unfinished_line, unfinished_text, unheard_line, waiting_line, written_text};
 
 use frames::FaultCounts;
 use receiver::Positions;
@@ -57,6 +57,130 @@ pub fn tell_another<E: Write>(errors: &mut E, session: i32, from: SocketAddr) ->
         errors,
         "another sender at {from} for session {session}, not heard"
     )
+}
+
+/// A session, and who sends it.
+#[derive(Clone, Copy)]
+struct Sender {
+    session: i32,
+    from: SocketAddr,
+}
+
+impl fmt::Display for Sender {
+    ghost output = { λ sender. Some (sender_text sender.session sender.from) };
+
+    fn fmt<W: fmt::Write>(&self, f: &mut fmt::Formatter<W>) -> fmt::Result {
+        write!(f, "session {} at {}", self.session, self.from)
+    }
+}
+
+/// The session that is followed.
+#[derive(Clone, Copy)]
+struct Current(i32);
+
+impl fmt::Display for Current {
+    ghost output = { λ current. Some (current_text current.0) };
+
+    fn fmt<W: fmt::Write>(&self, f: &mut fmt::Formatter<W>) -> fmt::Result {
+        write!(f, "session {} is followed", self.0)
+    }
+}
+
+/// A SETUP came of another session than the one that is followed.
+pub fn tell_unheard<E: Write>(
+    errors: &mut E,
+    session: i32,
+    from: SocketAddr,
+    followed: i32,
+) -> io::Result<()>
+    ensures { OnOk result (Appends (E.contents errors.old) (E.contents errors.new) (unheard_line session from followed)) }
+{
+    let (sender, current) = (Sender { session, from }, Current(followed));
+    writeln!(errors, "not heard: {sender}; {current}")
+}
+
+/// All of a session's stream up to its told end is written.
+pub fn tell_ended<E: Write>(errors: &mut E, session: i32, position: u64) -> io::Result<()>
+    ensures { OnOk result (Appends (E.contents errors.old) (E.contents errors.new) (ended_line session position)) }
+{
+    writeln!(errors, "ended: session {session} at position {position}")
+}
+
+/// A subscriber that was to end with the stream had no image for so many seconds.
+pub fn tell_nobody<E: Write>(errors: &mut E, seconds: u64) -> io::Result<()>
+    ensures { OnOk result (Appends (E.contents errors.old) (E.contents errors.new) (nobody_line seconds)) }
+{
+    writeln!(errors, "gave up: nobody published for {seconds} s")
+}
+
+/// A session of which not all is written, or no end was told.
+#[derive(Clone, Copy)]
+pub struct Unfinished {
+    /// Its peer.
+    pub from: SocketAddr,
+    pub session: i32,
+    /// Where the consumer stands.
+    pub position: u64,
+    /// The greatest end that was told.
+    pub end: Option<u64>,
+}
+
+/// The end that was told, if one was.
+#[derive(Clone, Copy)]
+struct ToldEnd(Option<u64>);
+
+impl fmt::Display for ToldEnd {
+    ghost output = { λ told. Some (told_end_text told.0) };
+
+    fn fmt<W: fmt::Write>(&self, f: &mut fmt::Formatter<W>) -> fmt::Result {
+        match self.0 {
+            None => f.write_str(" of which no end was told"),
+            Some(end) => write!(f, ", and the end that was told is {end}"),
+        }
+    }
+}
+
+impl fmt::Display for Unfinished {
+    ghost output = { λ left. Some (unfinished_text left) };
+
+    fn fmt<W: fmt::Write>(&self, f: &mut fmt::Formatter<W>) -> fmt::Result {
+        let told = ToldEnd(self.end);
+        write!(
+            f,
+            "session {} stands at position {}{told}",
+            self.session, self.position
+        )
+    }
+}
+
+/// Nothing was heard from a peer for so many seconds.
+#[derive(Clone, Copy)]
+struct NothingHeard {
+    from: SocketAddr,
+    seconds: u64,
+}
+
+impl fmt::Display for NothingHeard {
+    ghost output = { λ heard. Some (nothing_heard_text heard.from heard.seconds) };
+
+    fn fmt<W: fmt::Write>(&self, f: &mut fmt::Formatter<W>) -> fmt::Result {
+        let NothingHeard { from, seconds } = *self;
+        write!(f, "nothing was heard from {from} for {seconds} s")
+    }
+}
+
+/// A subscriber that was to end with the stream heard nothing of it for so many seconds.
+pub fn tell_unfinished<E: Write>(errors: &mut E, seconds: u64, left: &Unfinished) -> io::Result<()>
+    ensures { OnOk result (Appends (E.contents errors.old) (E.contents errors.new) (unfinished_line seconds left.now)) }
+{
+    let (cause, left) = (
+        NothingHeard {
+            from: left.from,
+            seconds,
+        },
+        *left,
+    );
+    writeln!(errors, "gave up: {cause}; {left}")
 }
 
 /// What the counters show, but for the positions.

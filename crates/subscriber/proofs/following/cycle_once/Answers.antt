@@ -1,4 +1,5 @@
-use Rattle.std.proofs.Common.{◌+◌, refl}
+use Rattle.std.proofs.Common.{◌+◌, ℕ, refl, subst}
+use Rattle.receiver.specs.Lives.{ActsSo, Ticks}
 use Rattle.std.proofs.lemmas.Result.{err_from_is_err_and}
 use Rattle.subscriber.proofs.Breaking.{cycle_broken}
 use Rattle.subscriber.proofs.Lived.{cycle_lives}
@@ -20,3 +21,13 @@ pub returns-in_err-done-clause-broken : goal.returns-in_err-done-clause-broken
 returns-in_err-done-clause-broken g c =
     let p = err_from_is_err_and c.from_residual.result c.from_residual.ensures.1 in
     rw p.1 (cycle_broken _ _ _ _ _ _ _ _ _ _ _ _ c.in_err-done.ensures.fault)
+
+pub returns-then-done-gt0-clause-ticked : goal.returns-then-done-gt0-clause-ticked
+returns-then-done-gt0-clause-ticked g c =
+    let w = c.in_ok-done.ensures.done in
+    (w.cycle.middle, subst (λ (n : ℕ). ActsSo w.cycle.middle (Ticks n) c.cycle.new.subscriber) c.moment.ensures w.cycle.ticked.becomes)
+
+pub returns-else-done-gt0-clause-ticked : goal.returns-else-done-gt0-clause-ticked
+returns-else-done-gt0-clause-ticked g c =
+    let w = c.in_ok-done.ensures.done in
+    (w.cycle.middle, subst (λ (n : ℕ). ActsSo w.cycle.middle (Ticks n) c.cycle.new.subscriber) c.moment.ensures w.cycle.ticked.becomes)

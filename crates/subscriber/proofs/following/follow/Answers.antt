@@ -1,9 +1,11 @@
-use Rattle.std.proofs.Common.{◌∙◌, ap, subst, refl, ℕ, Option, Some}
+use Rattle.std.proofs.Common.{◌≡◌, ◌∙◌, ap, subst, sym, refl, IsTrue, ℕ, Bool, false}
 use Rattle.std.proofs.lemmas.Result.{err_from_is_err_and}
-use Rattle.subscriber.specs.Leavings.{IsEnding}
-use Rattle.subscription.specs.declared.followed.Notes.{Notes}
+use Rattle.subscriber.specs.Answering.{HasAnswered}
+use Rattle.subscriber.specs.Standing.{Stands}
+use Rattle.subscriber.proofs.Answered.{answered_life, attended_answered, ends_answered, same_answered, ticked_at}
 use Rattle.subscriber.proofs.Breaking.{life_broken, life_kept}
-use Rattle.subscriber.proofs.Lived.{attended_life, life_on, silent_life, told_life}
+use Rattle.subscriber.proofs.Leaving.{left_life}
+use Rattle.subscriber.proofs.Lived.{attended_life, life_on, told_life}
 use Rattle.subscriber.proofs.Written.{writes_more}
 use Rattle.subscription.specs.declared.joined.Joined.{Joined}
 use Rattle.subscriber.proofs.following.follow.Goals as goal
@@ -11,21 +13,38 @@ use Rattle.subscriber.proofs.following.follow.Goals as goal
 pub loop-preserved : goal.loop-preserved
 loop-preserved g c =
     let wrote = c.in_ok-all.ensures.writes in
-    let size = ap (λ (j : Joined). j.duty.mtu) c.tell_news.ensures ∙ c.attend.ensures.size ∙ ap (λ (j : Joined). j.duty.mtu) c.tell_silence.ensures.same ∙ c.cycle_once.ensures.size in
-    let lived = silent_life _ _ _ _ _ _ c.loop.joined c.cycle_once.new.joined c.tell_silence.new.joined c.cycle_once.ensures.number c.tell_silence.ensures.same c.loop.invariant.3 c.in_ok-all.ensures.lives in
-    (size, wrote.0, writes_more _ _ _ _ _ _ _ c.loop.invariant.2 wrote.1, told_life _ _ _ _ c.attend.new.joined c.tell_news.new.joined _ c.tell_news.ensures (attended_life _ _ _ _ _ _ _ _ c.in_ok-attend.ensures.attends lived))
+    let cycled = c.cycle_once.ensures.same in
+    let told = c.tell_silence.ensures.same in
+    let news = c.tell_news.ensures in
+    let size = ap (λ (j : Joined). j.duty.mtu) news ∙ c.attend.ensures.size ∙ ap (λ (j : Joined). j.duty.mtu) told ∙ c.answer_end.ensures.size ∙ c.cycle_once.ensures.size in
+    let lived = answered_life _ _ _ _ _ _ c.loop.joined c.cycle_once.new.joined c.answer_end.new.joined c.tell_silence.new.joined (ap (λ (j : Joined). j.number) cycled) c.answer_end.ensures.number told c.loop.invariant.3 c.in_ok-all.ensures.lives c.answer_end.ensures.unpolled in
+    let ended = ends_answered _ _ _ _ _ _ c.loop.joined c.cycle_once.new.joined c.answer_end.new.joined _ (ap (λ (j : Joined). j.ended) cycled) c.in_ok-all.ensures.lives (ticked_at c.cycle_once.new.joined.subscriber _ _ (c.check_works.ensures.moment ∙ c.cycle_once.ensures.moment) c.in_ok-all.ensures.ticked) c.answer_end.ensures.unpolled c.in_ok-stand.ensures.answers c.loop.invariant.4 in
+    let silenced = same_answered c.answer_end.new.joined c.tell_silence.new.joined (ap (λ (j : Joined). j.ended) told) (ap (λ (j : Joined). j.subscriber) told) ended in
+    let attended = attended_answered _ _ _ _ c.attend.new.joined c.in_ok-attend.ensures.attends silenced in (
+      size,
+      wrote.0,
+      writes_more _ _ _ _ _ _ _ c.loop.invariant.2 wrote.1,
+      told_life _ _ _ _ c.attend.new.joined c.tell_news.new.joined _ news (attended_life _ _ _ _ _ _ _ _ c.in_ok-attend.ensures.attends lived),
+      same_answered c.attend.new.joined c.tell_news.new.joined (ap (λ (j : Joined). j.ended) news) (ap (λ (j : Joined). j.subscriber) news) attended,
+    )
 
 pub returns-in-Some-ending_of-clause-writes : goal.returns-in-Some-ending_of-clause-writes
 returns-in-Some-ending_of-clause-writes g c = writes_more _ _ _ _ _ _ _ c.loop.invariant.2 c.in_ok-all.ensures.writes.1
 
 pub returns-in-Some-ending_of-clause-ended : goal.returns-in-Some-ending_of-clause-ended
 returns-in-Some-ending_of-clause-ended g c =
-    let end = ap (λ (n : Notes). n.end) (c.notes-end.ensures ∙ ap (λ d. d.notes) c.device-in-loop.ensures) in
-    let ended = subst (λ (e : Option ℕ). IsEnding c.args.plan.now c.in_ok-all.all c.tell.new.watch e c.place.result (Some c.in-Some-ending_of.ending)) end c.in-Some-ending_of.ensures in
-    (c.place.result, c.place.ensures, ended)
+    let told = c.tell_silence.ensures.same in
+    let answers = c.in_ok-stand.ensures.answers in
+    let ended = ends_answered _ _ _ _ _ _ c.loop.joined c.cycle_once.new.joined c.answer_end.new.joined _ (ap (λ (j : Joined). j.ended) c.cycle_once.ensures.same) c.in_ok-all.ensures.lives (ticked_at c.cycle_once.new.joined.subscriber _ _ (c.check_works.ensures.moment ∙ c.cycle_once.ensures.moment) c.in_ok-all.ensures.ticked) c.answer_end.ensures.unpolled answers c.loop.invariant.4 in
+    record {
+      stand = c.in_ok-stand.stand;
+      stands = subst (λ (j : Joined). Stands j.subscriber j.duty.device.notes.end c.in_ok-stand.stand) (sym told) answers.stands;
+      ending = c.in-Some-ending_of.ensures;
+      answered = λ all. subst (λ (j : Joined). HasAnswered j.subscriber) (sym told) (ended (answers.still all));
+    }
 
 pub returns-in-Some-ending_of-clause-lives : goal.returns-in-Some-ending_of-clause-lives
-returns-in-Some-ending_of-clause-lives g c = silent_life _ _ _ _ _ _ c.loop.joined c.cycle_once.new.joined c.tell_silence.new.joined c.cycle_once.ensures.number c.tell_silence.ensures.same c.loop.invariant.3 c.in_ok-all.ensures.lives
+returns-in-Some-ending_of-clause-lives g c = answered_life _ _ _ _ _ _ c.loop.joined c.cycle_once.new.joined c.answer_end.new.joined c.tell_silence.new.joined (ap (λ (j : Joined). j.number) c.cycle_once.ensures.same) c.answer_end.ensures.number c.tell_silence.ensures.same c.loop.invariant.3 c.in_ok-all.ensures.lives c.answer_end.ensures.unpolled
 
 pub returns-in_err-see-clause-broken : goal.returns-in_err-see-clause-broken
 returns-in_err-see-clause-broken g c =
@@ -42,8 +61,13 @@ returns-in_err-check_works-clause-broken g c =
     let p = err_from_is_err_and c.from_residual-in_err-check_works.result c.from_residual-in_err-check_works.ensures.1 in
     rw p.1 (life_kept _ _ _ _ _ _ _ refl (life_on _ _ _ _ _ _ _ _ _ c.loop.invariant.3 c.in_ok-all.ensures.lives))
 
+pub returns-in_err-stand-clause-broken : goal.returns-in_err-stand-clause-broken
+returns-in_err-stand-clause-broken g c =
+    let p = err_from_is_err_and c.from_residual-in_err-stand.result c.from_residual-in_err-stand.ensures.1 in
+    rw p.1 (life_kept _ _ _ _ _ _ _ refl (left_life _ _ _ _ _ _ _ (life_on _ _ _ _ _ _ _ _ _ c.loop.invariant.3 c.in_ok-all.ensures.lives) c.answer_end.ensures.unpolled))
+
 pub returns-in_err-attend-clause-broken : goal.returns-in_err-attend-clause-broken
 returns-in_err-attend-clause-broken g c =
     let p = err_from_is_err_and c.from_residual-in_err-attend.result c.from_residual-in_err-attend.ensures.1 in
     let same = c.in_err-attend.ensures.kept ∙ ap (λ (j : Joined). j.subscriber) c.tell_silence.ensures.same in
-    rw p.1 (life_kept _ _ _ _ _ _ _ same (life_on _ _ _ _ _ _ _ _ _ c.loop.invariant.3 c.in_ok-all.ensures.lives))
+    rw p.1 (life_kept _ _ _ _ _ _ _ same (left_life _ _ _ _ _ _ _ (life_on _ _ _ _ _ _ _ _ _ c.loop.invariant.3 c.in_ok-all.ensures.lives) c.answer_end.ensures.unpolled))

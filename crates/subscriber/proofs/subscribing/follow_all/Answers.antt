@@ -10,18 +10,14 @@ returns-clause-lives g c =
     (left_life _ _ _ _ _ _ _ c.in_ok-messages.ensures.lives c.leave.ensures.unpolled)
 
 pub returns-clause-ended : goal.returns-clause-ended
-returns-clause-ended g c =
-    let e = c.in_ok-messages.ensures.ended in
-    record {
-      number = c.follow-followed.new.joined.number;
-      newest = c.follow-followed.new.joined.subscriber;
-      lives = c.in_ok-messages.ensures.lives;
-      place = e.0;
-      stands = e.1;
-      seen = c.follow-followed.new.watch;
-      end = c.follow-followed.new.joined.duty.device.notes.end;
-      ending = e.2;
-    }
+returns-clause-ended g c = record {
+  number = c.follow-followed.new.joined.number;
+  newest = c.follow-followed.new.joined.subscriber;
+  lives = c.in_ok-messages.ensures.lives;
+  seen = c.follow-followed.new.watch;
+  end = c.follow-followed.new.joined.duty.device.notes.end;
+  ends = c.in_ok-messages.ensures.ended;
+}
 
 pub returns-in_err-messages-clause-broken : goal.returns-in_err-messages-clause-broken
 returns-in_err-messages-clause-broken g c =

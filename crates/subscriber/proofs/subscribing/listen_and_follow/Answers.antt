@@ -10,6 +10,9 @@ use Rattle.subscriber.proofs.subscribing.listen_and_follow.Goals as goal
 pub follow_all-requires-clause-begun : goal.follow_all-requires-clause-begun
 follow_all-requires-clause-begun g c = joined_life c.args.plan.now c.listen.new.watch c.in-Some.joined (g.W.Write.contents c.args.output.now) (subst (λ found. IfSome found (IsJoined c.args.plan.now c.listen.new.watch)) c.in-Some.is c.in_ok-listen.ensures.joined)
 
+pub follow_all-requires-clause-going : goal.follow_all-requires-clause-going
+follow_all-requires-clause-going g c = (subst (λ found. IfSome found (IsJoined c.args.plan.now c.listen.new.watch)) c.in-Some.is c.in_ok-listen.ensures.joined).joined.ended
+
 pub returns-in-Some-clause-lives : goal.returns-in-Some-clause-lives
 returns-in-Some-clause-lives g c = all_written _ _ _ _ _ c.follow_all.result c.follow_all.ensures.lives
 

@@ -1,0 +1,103 @@
+-- That a subscriber answers the end of its stream.
+use Rattle.std.proofs.Common.{◌≡◌, ◌∙◌, ◌⊎◌, ℕ, List, [], ◌∷◌, ◌++◌, map, Bool, IsTrue, Option, None, Some, inl, inr, refl, sym, ap, subst, false, true}
+use Rattle.std.specs.declared.net.SocketAddr.{SocketAddr}
+use Rattle.agents.specs.Cycles.{Cycle}
+use Rattle.agents.specs.Parties.{ReceiverHears, ReceiverTicks}
+use Rattle.endpoint.specs.Devices.{Device}
+use Rattle.frames.specs.declared.frame.Setup.{Setup}
+use Rattle.messages.specs.declared.form.Form.{Form}
+use Rattle.options.specs.declared.ends.plans.SubscribePlan.{SubscribePlan}
+use Rattle.receiver.specs.Lives.{Act, ActsSo, Hears, Lives, Ticks}
+use Rattle.receiver.specs.Subscribing.{Subscribing}
+use Rattle.subscription.specs.Offers.{Offer, SubscriberDevice, setup_taken}
+use Rattle.subscription.specs.Watches.{Seen}
+use Rattle.subscription.specs.declared.joined.Joined.{Joined}
+use Rattle.subscription.specs.declared.meeting.Meeting.{Meeting}
+use Rattle.subscriber.proofs.Leaving.{heard_unpolled, left_life}
+use Rattle.subscriber.proofs.Lived.{all_heard, life_on, lives_on, same_life}
+use Rattle.subscriber.specs.Answering.{AnswersEnd, HasAnswered, IsTicked, TellsPlace, ahead_of}
+use Rattle.subscriber.specs.Leavings.{LivesUnpolled}
+use Rattle.subscriber.specs.Living.{WritesActs, WritesLife}
+use Rattle.subscriber.specs.Standing.{HasAll, Stands}
+use Rattle.subscriber.specs.Turning.{Attends, Considers, ConsidersOffer, Passes, Renews, Resumes, with_device}
+use Rattle.subscriber.specs.declared.standing.Stand.{Stand}
+
+pub place_told : (moment now : ℕ) (tells : Type 0) (s : Subscribing) (d : Device) (busy : Bool) (t : Subscribing) (e : Device) → now ≡ ahead_of moment → Cycle ReceiverHears ReceiverTicks now tells s d busy t e → TellsPlace moment s t
+place_told moment now tells s d busy t e is c = record {
+  acts = map (Hears now) c.heard;
+  unpolled = heard_unpolled now c.heard;
+  middle = c.middle;
+  lived = all_heard now s c.middle c.heard c.answers c.all_heard;
+  told = subst (λ (n : ℕ). ActsSo c.middle (Ticks n) t) is c.ticked.becomes;
+}
+
+pub ticked_at : (t : Subscribing) (m n : ℕ) → m ≡ n → IsTicked n t → IsTicked m t
+ticked_at t m n is h = subst (λ (at : ℕ). IsTicked at t) (sym is) h
+
+-- an answer that was given stays given
+pub answered_on : (s t : Subscribing) (acts : List Act) → HasAnswered s → Lives s acts t → HasAnswered t
+answered_on s t acts h lives = record {
+  at = h.at;
+  noted = h.noted;
+  ticked = h.ticked;
+  stand = h.stand;
+  stands = h.stands;
+  all = h.all;
+  teller = h.teller;
+  told = h.told;
+  since = h.since ++ acts;
+  lived = lives_on h.teller s t h.since acts h.lived lives;
+}
+
+-- ---- a cycle, and then a look at the end
+
+-- it lived on, answered, and then its silence was told
+pub answered_life : (plan : SubscribePlan) (a b c : Option (List ℕ)) (count more : ℕ) (j k l m : Joined) → k.number ≡ j.number → l.number ≡ k.number → m ≡ record l { silent = m.silent }
+    → WritesLife plan a count j.number j.subscriber b → WritesActs plan.end.form count j.subscriber b more k.subscriber c → LivesUnpolled k.subscriber l.subscriber → WritesLife plan a more m.number m.subscriber c
+answered_life plan a b c count more j k l m first second told h w on =
+    let lived : WritesLife plan a more j.number l.subscriber c = left_life plan a c more j.number k.subscriber l.subscriber (life_on plan a b c count more j.number j.subscriber k.subscriber h w) on in
+    same_life plan a c more l m (ap (λ x. x.number) told) (ap (λ x. x.subscriber) told) (subst (λ (n : ℕ). WritesLife plan a more n l.subscriber c) (sym (second ∙ first)) lived)
+
+pub ends_answered : (form : Form) (count more at : ℕ) (before after : Option (List ℕ)) (j k l : Joined) (x : Stand) → k.ended ≡ j.ended → WritesActs form count j.subscriber before more k.subscriber after → IsTicked at k.subscriber → LivesUnpolled k.subscriber l.subscriber → AnswersEnd at k l x
+    → (IsTrue j.ended → HasAnswered j.subscriber) → IsTrue l.ended → HasAnswered l.subscriber
+ends_answered form count more at before after j k l x same w ticked on a answered so = by_case (a.told so)
+  where
+    by_case : IsTrue k.ended ⊎ TellsPlace at k.subscriber l.subscriber → HasAnswered l.subscriber
+    by_case (inl was) =
+        answered_on k.subscriber l.subscriber on.acts
+        (answered_on j.subscriber k.subscriber w.acts (answered (subst (λ (b : Bool). IsTrue b) same was)) w.lived)
+        on.lived
+    by_case (inr told) = record {
+      at = at;
+      noted = k.subscriber;
+      ticked = ticked;
+      stand = a.before;
+      stands = record { place = a.stood.place; rebuilt = a.stood.rebuilt; told = refl };
+      all = a.noted.0 so;
+      teller = l.subscriber;
+      told = told;
+      since = [];
+      lived = refl;
+    }
+
+-- ---- a SETUP
+
+-- the image and its end are the same
+pub same_answered : (j k : Joined) → k.ended ≡ j.ended → k.subscriber ≡ j.subscriber → (IsTrue j.ended → HasAnswered j.subscriber) → IsTrue k.ended → HasAnswered k.subscriber
+same_answered j k ended same answered so = subst HasAnswered (sym same) (answered (subst (λ (b : Bool). IsTrue b) ended so))
+
+turned : (plan : SubscribePlan) (s t : Seen) (m : Meeting) (rebuilt : ℕ) (j k : Joined) → Passes s m j k t ⊎ Resumes s m rebuilt j k t ⊎ Renews plan s m rebuilt j k t → (IsTrue j.ended → HasAnswered j.subscriber) → IsTrue k.ended → HasAnswered k.subscriber
+turned plan s t m rebuilt j k (inl p) h = same_answered j k (ap (λ x. x.ended) p.warns.kept) (ap (λ x. x.subscriber) p.warns.kept) h
+turned plan s t m rebuilt j k (inr (inl p)) h = same_answered j k (ap (λ x. x.ended) p.tied) (ap (λ x. x.subscriber) p.tied) h
+turned plan s t m rebuilt j k (inr (inr p)) h = λ so. let not = p.renewed.ended in cc
+
+considered : (plan : SubscribePlan) (from : SocketAddr) (f : Setup) (s t : Seen) (j k : Joined) → Considers plan s from f j k t → (IsTrue j.ended → HasAnswered j.subscriber) → IsTrue k.ended → HasAnswered k.subscriber
+considered plan from f s t j k (inl p) h = same_answered j k (ap (λ x. x.ended) p.1) (ap (λ x. x.subscriber) p.1) h
+considered plan from f s t j k (inr p) h = turned plan s t p.0 p.2.0 j k p.2.2 h
+
+offered : (plan : SubscribePlan) (s t : Seen) (offer : Offer) (j k : Joined) → ConsidersOffer plan s offer j k t → (IsTrue j.ended → HasAnswered j.subscriber) → IsTrue k.ended → HasAnswered k.subscriber
+offered plan s t None j k p h = same_answered j k (ap (λ x. x.ended) p.0) (ap (λ x. x.subscriber) p.0) h
+offered plan s t (Some offer) j k p h = considered plan offer.0 offer.1 s t j k p h
+
+pub attended_answered : (plan : SubscribePlan) (s t : Seen) (j k : Joined) → Attends plan s j k t → (IsTrue j.ended → HasAnswered j.subscriber) → IsTrue k.ended → HasAnswered k.subscriber
+attended_answered plan s t j k p h = offered plan s t p.0 (with_device j (setup_taken j.duty.device)) k p.2 h

@@ -1,0 +1,61 @@
+-- How a subscriber answers the end of its stream: it tells at once where it stands.
+use Rattle.std.specs.Prelude.{◌≡◌, ◌⊎◌, ◌≤◌, ◌+◌, ◌-◌, ◌^◌, ◌↔◌, ℕ, min, List, IsTrue}
+use Rattle.receiver.specs.Lives.{Act, ActsSo, Lives, Ticks}
+use Rattle.receiver.specs.Subscribing.{Subscribing}
+use Rattle.subscription.specs.Watches.{IsSilent, Seen}
+use Rattle.subscription.specs.declared.joined.Joined.{Joined}
+use Rattle.subscriber.specs.Leavings.{AreUnpolled, LivesUnpolled}
+use Rattle.subscriber.specs.Standing.{HasAll, Stands}
+use Rattle.subscriber.specs.declared.standing.Stand.{Stand}
+
+-- a moment that is ahead by what passes at the most from one status message to the next, so that one is due at it
+abbrev pub ahead_of : ℕ → ℕ
+ahead_of moment = min (moment + 200000000) (2 ^ 64 - 1)
+
+-- it heard what had come, polled nothing, and was told a moment that is ahead of this one
+pub record TellsPlace (moment : ℕ) (s t : Subscribing) : Type 0 where
+  pub acts : List Act
+  pub unpolled : AreUnpolled acts
+  pub middle : Subscribing
+  pub lived : Lives s acts middle
+  pub told : ActsSo middle (Ticks (ahead_of moment)) t
+
+-- for a second and more it lived on without a poll, and told where it stands, last at a moment since
+pub record BidsFarewell (s : Subscribing) (from : ℕ) (t : Subscribing) (to : ℕ) : Type 0 where
+  pub middle : Subscribing
+  pub unpolled : LivesUnpolled s middle
+  pub at : ℕ
+  pub since : from ≤ at
+  pub told : TellsPlace at middle t
+  pub lasts : from + 1000000000 ≤ to
+
+-- it was told this moment, and nothing has happened since
+abbrev pub IsTicked : ℕ → Subscribing → Type 0
+IsTicked at t = (prior : Subscribing) × ActsSo prior (Ticks at) t
+
+-- it was told a moment, had all of its stream then, told at once where it stands, and has lived on since
+pub record HasAnswered (t : Subscribing) : Type 0 where
+  pub at : ℕ
+  pub noted : Subscribing
+  pub ticked : IsTicked at noted
+  pub stand : Stand
+  pub stands : Stands noted stand.end stand
+  pub all : HasAll stand
+  pub teller : Subscribing
+  pub told : TellsPlace at noted teller
+  pub since : List Act
+  pub lived : Lives teller since t
+
+-- whether it has all of its stream is noted, and where that is new it tells where it stands; what is heard then is no poll
+pub record AnswersEnd (moment : ℕ) (old new : Joined) (x : Stand) : Type 0 where
+  pub before : Stand
+  pub stood : Stands old.subscriber old.duty.device.notes.end before
+  pub noted : IsTrue new.ended ↔ HasAll before
+  pub stands : Stands new.subscriber new.duty.device.notes.end x
+  pub still : HasAll x → IsTrue new.ended
+  pub told : IsTrue new.ended → IsTrue old.ended ⊎ TellsPlace moment old.subscriber new.subscriber
+
+-- that a session is silent is noted while its stream hasn't ended
+pub record NotesSilence (s : Seen) (old new : Joined) : Type 0 where
+  pub ended : IsTrue old.ended → new.silent ≡ old.silent
+  pub going : ¬ IsTrue old.ended → IsTrue new.silent ↔ IsSilent s
