@@ -1,10 +1,10 @@
 //! What a publisher to several subscribers tells on its error output: whom a line is about stands before it. An error is the
 //! output's.
 
-ghost use Rattle.std.specs.Prelude.{◌≡◌, ◌++◌, OnOk};
+ghost use Rattle.std.specs.Prelude.{◌≡◌, ◌++◌, OnOk, Some};
 ghost use Rattle.std.specs.Io.KnownBytes.{Appends};
 ghost use Rattle.publisher.specs.Texts.{alone_line, change_text, counters_line};
-ghost use Rattle.group_publisher.specs.Texts.{at_text, behind_line, left_out_line, quiet_line};
+ghost use Rattle.group_publisher.specs.Texts.{at_text, behind_line, behind_text, left_out_line, left_out_text, quiet_line};
 
 use crate::seeing::News;
 use crate::way::Way;
@@ -14,9 +14,41 @@ use publisher::{
     ChannelDevice, Counts, Progress, PublisherContext, look, shortfall_of, tell_alone, tell_change,
     tell_counters, tell_refused, tell_shortfall, told_in,
 };
-use std::io;
 use std::io::Write;
 use std::net::SocketAddr;
+use std::{fmt, io};
+
+/// One that is left behind, so far.
+#[derive(Clone, Copy)]
+struct CameBack(SocketAddr, Behind);
+
+impl fmt::Display for CameBack {
+    ghost output = { λ came_back. Some (behind_text came_back.0 came_back.1) };
+
+    fn fmt<W: fmt::Write>(&self, f: &mut fmt::Formatter<W>) -> fmt::Result {
+        let (peer, missing, reach) = (self.0, self.1.missing, self.1.reach);
+        write!(
+            f,
+            "{peer} came back {missing} bytes behind, of which {reach} can be sent again: left behind"
+        )
+    }
+}
+
+/// Where nobody was heard, for so many seconds.
+#[derive(Clone, Copy)]
+struct LeftOut(SocketAddr, u64);
+
+impl fmt::Display for LeftOut {
+    ghost output = { λ left_out. Some (left_out_text left_out.0 left_out.1) };
+
+    fn fmt<W: fmt::Write>(&self, f: &mut fmt::Formatter<W>) -> fmt::Result {
+        let (peer, seconds) = (self.0, self.1);
+        write!(
+            f,
+            "nobody was heard at {peer} for {seconds} s: the others begin without it"
+        )
+    }
+}
 
 /// Whom a line is about.
 fn tell_at<E: Write>(errors: &mut E, peer: SocketAddr) -> io::Result<()>
@@ -72,11 +104,8 @@ fn tell_traffic<E: Write>(errors: &mut E, peer: SocketAddr, counts: Counts) -> i
 fn tell_behind<E: Write>(errors: &mut E, peer: SocketAddr, behind: Behind) -> io::Result<()>
     ensures { OnOk result (Appends (E.contents errors.old) (E.contents errors.new) (behind_line peer behind)) }
 {
-    let (missing, reach) = (behind.missing, behind.reach);
-    writeln!(
-        errors,
-        "{peer} came back {missing} bytes behind, of which {reach} can be sent again: left behind"
-    )
+    let came_back = CameBack(peer, behind);
+    writeln!(errors, "{came_back}")
 }
 
 /// Nobody was heard there for so many seconds, and the others begin.
@@ -87,10 +116,8 @@ pub(crate) fn tell_left_out<E: Write>(
 ) -> io::Result<()>
     ensures { OnOk result (Appends (E.contents errors.old) (E.contents errors.new) (left_out_line peer seconds)) }
 {
-    writeln!(
-        errors,
-        "nobody was heard at {peer} for {seconds} s: the others begin without it"
-    )
+    let left_out = LeftOut(peer, seconds);
+    writeln!(errors, "{left_out}")
 }
 
 /// Tells what is new along a way.

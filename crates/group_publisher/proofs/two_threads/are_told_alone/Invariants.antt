@@ -3,4 +3,4 @@ use Rattle.group_publisher.specs.Farewells.{are_told_alone}
 use Rattle.group_publisher.proofs.two_threads.are_told_alone.Given as goal
 
 abbrev pub invariant-loop-told : goal.invariant-loop-told
-invariant-loop-told g l = l.all ≡ are_told_alone l.geometry l.end (take l.told-index l.ends)
+invariant-loop-told l = l.all ≡ are_told_alone l.geometry l.end (take l.told-index l.ends)
