@@ -48,13 +48,14 @@ Parameters of the channel, parted by |:
   session-id=ID       the stream's session [default: drawn]
   init-term-id=ID     with term-id=ID and term-offset=BYTES: where the stream starts [default: at 0, the id drawn]
 
-A message has at most an eighth of the term.
+A message has at most an eighth of the term. It ends by itself once its input has ended
+(Ctrl-D at a terminal) and all is written; a signal loses the lines that aren't delivered yet.
 
 Exit status:
   0  one subscriber has written all, from the first message to the last; at each endpoint one
   1  a fault, told in one line
   2  the command line, the channel, an endpoint or the rates are refused
-  3  it gave up, or all was written but not by one subscriber";
+  3  it gave up, or all was written but not by one subscriber; a line says why";
 
 /// The command.
 fn command<'a>(alloc: Global) -> Result<Command<'a>, AllocError>
