@@ -7,9 +7,8 @@ use Rattle.std.proofs.lemmas.Nat.{and_le_l}
 use Rattle.std.proofs.lemmas.Nat.Bits.{bit_at-lt, bit_at-trailing_zeros, bit_at-zero, bit_at_and, bit_at_mask_below, bit_at_mask_inside, ones_shl}
 use Rattle.theory.specs.Placed.{Placed}
 use Rattle.theory.specs.Units.{HasUnit}
-use Rattle.image.specs.Ring.{TellsUnits}
+use Rattle.image.specs.Looks.{IsFirstHeld, TellsUnits}
 use Rattle.image.proofs.Places.{inside_place, word_place}
-use Rattle.image.specs.Looks.{IsFirstHeld}
 
 -- the word of a position and of those behind it, up to the next multiple of 2048
 same_word : (t at p : ℕ) → t % 65536 ≡ 0 → 0 < t → at ≤ p → p < at - at % 2048 + 2048 → p % (3 * t) / 2048 ≡ at % (3 * t) / 2048

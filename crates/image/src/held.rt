@@ -1,17 +1,14 @@
-//! Frames of a stream: what is kept of one, and what is shown.
-ghost use Rattle.std.specs.Prelude.{◌≡◌, ◌≤◌, ◌^◌, ◌&&◌, nat_eq, if◌then◌else◌};
+//! Frames of a stream: what is kept of one.
+ghost use Rattle.std.specs.Prelude.{◌≡◌, ◌≤◌, ◌^◌, ◌&&◌, nat_eq};
 ghost use Rattle.theory.specs.Insert.{same_kind};
 ghost use Rattle.theory.specs.Placed.{frame_length, is_padding};
 ghost use Rattle.theory.specs.Position.{aligned};
-ghost use Rattle.theory.specs.Wire.{IsFrame, Wire};
-ghost use Rattle.frames.specs.Fronts.{BeginsWith};
+ghost use Rattle.theory.specs.Wire.{IsFrame};
 ghost use Rattle.frames.specs.Frames.{wire};
-ghost use Rattle.position.specs.declared.head.FrameKind.TheVariants.{Data, Pad};
-ghost use Rattle.image.specs.Kinds.{head_at, is_pad};
-ghost use Rattle.image.specs.Ring.{frame_in};
+ghost use Rattle.image.specs.Kinds.{is_pad};
 ghost use Rattle.image.specs.Stored.{IsOfStream, stream_frame};
 
-use frames::{Frame, front_of};
+use frames::Frame;
 use position::{FrameHead, FrameKind, align32};
 
 /// The kind and the length of a frame of a stream.
@@ -40,33 +37,6 @@ pub fn covered(frame: &Frame<'_>) -> u32
 {
     let (_, frame_length) = measure(frame);
     align32(frame_length)
-}
-
-fn kind_of(is_padding: bool) -> FrameKind
-    ensures { result ≡ (if is_padding then Pad else Data) }
-{
-    if is_padding {
-        FrameKind::Pad
-    } else {
-        FrameKind::Data
-    }
-}
-
-/// What a reader is shown of the frame that the bytes begin with, where it starts at this position.
-pub(crate) fn read_head(start: u64, bytes: &[u8]) -> FrameHead
-    requires { (w : Wire) × BeginsWith bytes.now w }
-    ensures value { (w : Wire) → BeginsWith bytes.now w → result ≡ head_at start (frame_in w) }
-    ensures least { 32 ≤ result.frame_length }
-    ensures greatest { result.frame_length ≤ 2 ^ 24 }
-    ensures data { result.kind ≡ Data → result.frame_length ≤ 65504 }
-{
-    let front = front_of(bytes);
-    FrameHead {
-        start,
-        kind: kind_of(front.is_padding),
-        flags: front.flags,
-        frame_length: front.frame_length,
-    }
 }
 
 /// Whether it is of this kind and length.

@@ -5,7 +5,6 @@ use crate::map_image::{Kept, MapImage, TERM};
 use crate::shared::{OneHand, Shared};
 use crate::subject::Subject;
 use block::Block;
-use image::Image;
 use position::{Geometry, Identity};
 use rand_core::utils::NextWord;
 use rand_pcg::Pcg32;
@@ -145,10 +144,9 @@ fn stay_alike<S: Subject>(
 /// Which image is tried.
 #[derive(Clone, Copy)]
 enum Tried {
-    Plain,
-    /// The one that threads share.
-    Shared,
-    /// The same, with one consumer that meets the inserter in each call.
+    /// One to three consumers, which never meet the inserter.
+    Apart,
+    /// One consumer, which meets it in each call.
     OneHand,
 }
 
@@ -163,7 +161,7 @@ struct Opening {
 fn draw_opening(draws: &mut Pcg32, tried: Tried) -> Opening {
     let most = match tried {
         Tried::OneHand => 1,
-        Tried::Plain | Tried::Shared => 3,
+        Tried::Apart => 3,
     };
     Opening {
         join: below(draws, 8192),
@@ -190,11 +188,7 @@ fn are_alike(
     )?;
     let identity = Identity::new(geometry, 1, 1001);
     match tried {
-        Tried::Plain => {
-            let mut image = Image::open(alloc, geometry, join, opening.window, opening.consumers)?;
-            stay_alike(alloc, draws, &mut image, &mut map, block)
-        }
-        Tried::Shared => {
+        Tried::Apart => {
             let mut image = Shared::open(alloc, identity, join, opening.window, opening.consumers)?;
             stay_alike(alloc, draws, &mut image, &mut map, block)
         }
@@ -215,18 +209,10 @@ fn all_alike(alloc: Global, tried: Tried) -> Result<bool, Fail> {
     Ok(alike)
 }
 
-/// An image in three terms and one by a map give the same answers to ten thousand lists, from any join on, also round the
-/// three terms.
+/// An image and one by a map give the same answers to ten thousand lists, from any join on, also round the three terms.
 #[test]
 fn alike(rt: HostRuntime) -> Result<(), Fail> {
-    assert!(rt; all_alike(rt.alloc(), Tried::Plain)?);
-    Ok(())
-}
-
-/// So do an image that threads share and one by a map.
-#[test]
-fn shared_alike(rt: HostRuntime) -> Result<(), Fail> {
-    assert!(rt; all_alike(rt.alloc(), Tried::Shared)?);
+    assert!(rt; all_alike(rt.alloc(), Tried::Apart)?);
     Ok(())
 }
 

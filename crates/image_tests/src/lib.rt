@@ -1,6 +1,6 @@
-//! Tests of a receiver's images, the plain one and the one that threads share: each and one by a map of whole frames answer
-//! drawn frames, heartbeats and reads alike; one inserter and two readers, in threads of their own, go round the ring many
-//! times; and a receiver's core gives its image's readers away once.
+//! Tests of a receiver's image: it and one by a map of whole frames answer drawn frames, heartbeats and reads alike; one
+//! inserter and two readers, in threads of their own, go round the ring many times; and a receiver's core gives its image's
+//! readers away once.
 #![tactic(auto)]
 
 #[cfg(test)]

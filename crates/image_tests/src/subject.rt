@@ -6,7 +6,7 @@ ghost use Rattle.image.specs.Stored.{IsOfStream, IsUnit};
 
 use block::Block;
 use frames::Frame;
-use image::{Image, Insert, Steps, first_gap};
+use image::Insert;
 use position::{FrameHead, Gap};
 
 /// Where an image stands.
@@ -37,36 +37,4 @@ pub(crate) trait Subject {
     fn pass(&mut self, consumer: usize, block: &mut Block) -> Option<FrameHead>;
 
     fn stand(&mut self) -> Standing;
-}
-
-impl Subject for Image {
-    fn insert(&mut self, position: i64, frame: &Frame<'_>) -> Insert {
-        Image::insert(self, position, frame)
-    }
-
-    fn heartbeat(&mut self, position: i64) -> bool {
-        Image::heartbeat(self, position)
-    }
-
-    fn consumers(&self) -> usize {
-        Image::consumers(self)
-    }
-
-    fn pass(&mut self, consumer: usize, block: &mut Block) -> Option<FrameHead> {
-        if consumer >= Image::consumers(self) || block.len() < 65_472 {
-            return None;
-        }
-        let head = self.read(consumer, block)?;
-        let _ = self.advance(consumer);
-        Some(head)
-    }
-
-    fn stand(&mut self) -> Standing {
-        Standing {
-            least: self.least(),
-            rebuilt: self.rebuilt(),
-            high_water: self.high_water(),
-            gap: first_gap(self, &mut Steps::new()),
-        }
-    }
 }

@@ -12,7 +12,7 @@ use Rattle.theory.specs.Position.{Geometry, aligned, max_position}
 use Rattle.position.specs.declared.head.FrameHead.{FrameHead}
 use Rattle.position.specs.Heads as heads
 use Rattle.image.specs.Kinds.{head_at}
-use Rattle.image.proofs.Finds.{like_none, like_only}
+use Rattle.image.proofs.Likes.{like_none, like_only}
 use Rattle.image.proofs.Heads.{head_like, is_like}
 use Rattle.image.proofs.Lists.{none_here}
 use Rattle.image_rule.specs.Frames.{HasStart}

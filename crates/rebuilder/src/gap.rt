@@ -5,8 +5,7 @@ ghost use Rattle.theory.specs.Gap as meant;
 ghost use Rattle.theory.specs.Gap.{IsAnswer};
 ghost use Rattle.theory.specs.Units.{IsContiguous, contiguous};
 ghost use Rattle.position.specs.Gaps.{gap_of};
-ghost use Rattle.image.specs.Looks.{IsFirstHeld};
-ghost use Rattle.image.specs.Ring.{TellsUnits};
+ghost use Rattle.image.specs.Looks.{IsFirstHeld, TellsUnits};
 ghost use Rattle.rebuilder.specs.Seen.{IsInserterOf, geometry_of, join_of};
 
 use crate::inserter::Inserter;

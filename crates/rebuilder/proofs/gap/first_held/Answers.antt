@@ -4,8 +4,7 @@ use Rattle.std.specs.Int.{trailing_zeros, w64}
 use Rattle.theory.specs.Position.{Geometry}
 use Rattle.theory.specs.Bytes.{Identity}
 use Rattle.image_rule.specs.declared.view.Key.{Key}
-use Rattle.image.specs.Ring.{TellsUnits}
-use Rattle.image.specs.Looks.{IsFirstHeld}
+use Rattle.image.specs.Looks.{IsFirstHeld, TellsUnits}
 use Rattle.image.proofs.Words.{first_in_word, from_bit, none_in_word}
 use Rattle.rebuilder.specs.Seen.{Inserting, geometry_of}
 use Rattle.rebuilder.proofs.gap.first_held.Goals as goal

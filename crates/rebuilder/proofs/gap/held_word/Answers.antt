@@ -1,5 +1,5 @@
 use Rattle.std.proofs.Common.{sym, subst}
-use Rattle.image.specs.Ring.{TellsUnits}
+use Rattle.image.specs.Looks.{TellsUnits}
 use Rattle.shared_image.specs.Handles.{InserterSeat}
 use Rattle.rebuilder.specs.Seen.{Inserting, IsRebuilding, geometry_of, inserting}
 use Rattle.rebuilder.proofs.gap.held_word.Goals as goal
