@@ -3,3 +3,13 @@ pub mod Kinds
 pub mod Stored
 pub mod Seen
 pub mod Looks
+pub mod Handles
+pub mod Spelled
+pub mod Inserting
+pub mod Reading
+pub mod Looking
+pub mod Rebuilding
+pub mod Runs
+pub mod Meeting
+pub mod Finding
+pub mod Law

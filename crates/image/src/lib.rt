@@ -1,8 +1,18 @@
-//! What an image answers, and when a gap is told, whatever holds the frames.
+//! The image that a receiver rebuilds of a stream, in a ring of three terms, by one inserter and for up to eight readers, which
+//! share it without a lock.
 //!
-//! `Insert` is what becomes of a frame, and `ImageError` why an image isn't opened, each with its code. `measure`, `covered`
-//! and `is_like` say what is kept of a frame, `crosses_term` whether it would pass the end of its term. A scan tells exactly
-//! what the definition tells, for all moments (`LossDetector::scan`). `Steps` counts looks at words.
+//! `open` gives an image and its inserter, with its refusals in order, memory's last; it takes all memory that is ever needed,
+//! and no call waits. `deal` gives a reader. `insert`, `heartbeat` and `least` look once at each consumer, let go of what all
+//! of them have passed, and answer by the least position that this very call read. The inserter's value is all frames that
+//! were ever stored, the high-water mark, the floor below which nothing is held any more, and where it saw the consumers and
+//! how often it looked at each. Stored frames never overlap (`stored_apart`). The first gap is the defined one, and finding it
+//! takes at most two looks at words of bits and one for each 2,048 of its bytes (`first_gap`, `held_word`, `Steps`).
+//! `LossDetector::scan` says when a gap is told.
+//!
+//! A reader reads the frame where it stands (`read`) and moves behind it (`advance`). Where it and the inserter meet (`meet`),
+//! the reader knows just the frames that were stored, and the inserter has seen it where it stands. So where one hand has
+//! both, `read_alone` and `advance_alone` are exact. What `insert` and `heartbeat` say is an event of the definitions' image
+//! (`calls_are_events`).
 #![tactic(auto)]
 
 mod answer;
@@ -10,11 +20,25 @@ mod crossing;
 mod detector;
 mod fault;
 mod held;
+mod inserter;
+mod law;
+mod meeting;
+mod reader;
 mod steps;
+mod words;
 
 pub use answer::Insert;
 pub use crossing::crosses_term;
 pub use detector::LossDetector;
 pub use fault::{CONSUMERS, ImageError};
 pub use held::{covered, is_like, measure};
+pub use inserter::gap::{first_gap, held_word};
+pub use inserter::inserting::{heartbeat, insert};
+pub use inserter::{Inserter, deal, least, open};
+pub use law::calls_are_events;
+pub use meeting::meet;
+pub use reader::ImageReader;
+pub use reader::alone::{advance_alone, read_alone};
+pub use reader::reading::{advance, read};
 pub use steps::Steps;
+pub use words::image::Image;

@@ -1,5 +1,4 @@
-use crate::shared::Shared;
-use crate::subject::Subject;
+use crate::parts::Parts;
 use block::Block;
 use frames::{Frame, read_frame};
 use image::{ImageError, Insert};
@@ -27,9 +26,9 @@ fn spelled(alloc: Global, kind: FrameKind, length: u32, byte: u8) -> Result<Vec<
 }
 
 /// What becomes of such a frame, whose payload bytes are all the same. There is none where it can't be had.
-pub(crate) fn filled<S: Subject>(
+pub(crate) fn filled(
     alloc: Global,
-    image: &mut S,
+    image: &mut Parts,
     kind: FrameKind,
     position: i64,
     length: u32,
@@ -46,13 +45,13 @@ pub(crate) fn filled<S: Subject>(
 }
 
 /// Whether an image answers so to such a frame.
-fn answers(alloc: Global, image: &mut Shared, frame: (FrameKind, i64, u32), answer: Insert) -> bool {
+fn answers(alloc: Global, image: &mut Parts, frame: (FrameKind, i64, u32), answer: Insert) -> bool {
     filled(alloc, image, frame.0, frame.1, frame.2, 0x61) == Some(answer)
 }
 
 /// Whether a whole message or a padding starts where a consumer stands, which then is moved past it.
 fn passes(
-    image: &mut Shared,
+    image: &mut Parts,
     consumer: usize,
     block: &mut Block,
     frame: (FrameKind, u64, u32),
@@ -67,7 +66,7 @@ fn passes(
 }
 
 /// Whether all up to the high-water mark is rebuilt, and the least consumer stands there.
-fn stands(image: &mut Shared, rebuilt: u64, least: u64) -> bool {
+fn stands(image: &mut Parts, rebuilt: u64, least: u64) -> bool {
     let standing = image.stand();
     standing.rebuilt == rebuilt
         && standing.high_water == rebuilt
@@ -84,7 +83,7 @@ fn refusal(
 ) -> Result<Option<ImageError>, GeometryError> {
     let geometry = Geometry::new(65_536, 1408, 7)?;
     let identity = Identity::new(geometry, 1, 1001);
-    Ok(rebuilder::open(alloc, identity, join, window, consumers).err())
+    Ok(image::open(alloc, identity, join, window, consumers).err())
 }
 
 /// Joins, windows and numbers of consumers, and what is wrong with them.
@@ -121,7 +120,7 @@ enum Step {
 }
 
 /// Whether a step ends as it says.
-fn is_met(alloc: Global, image: &mut Shared, block: &mut Block, step: &Step) -> bool {
+fn is_met(alloc: Global, image: &mut Parts, block: &mut Block, step: &Step) -> bool {
     match step {
         Step::Comes(kind, position, length, answer) => {
             answers(alloc, image, (*kind, *position, *length), *answer)
@@ -138,7 +137,7 @@ fn is_met(alloc: Global, image: &mut Shared, block: &mut Block, step: &Step) -> 
 fn take_steps<R: Abort>(
     rt: &R,
     alloc: Global,
-    image: &mut Shared,
+    image: &mut Parts,
     block: &mut Block,
     steps: &[Step],
 ) {
@@ -163,7 +162,7 @@ const ONE_BEHIND: [Step; 9] = [
 #[test]
 fn slower_consumer(rt: HostRuntime) -> Result<(), Fail> {
     let identity = Identity::new(Geometry::new(65_536, 1408, 7)?, 1, 1001);
-    let mut image = Shared::open(rt.alloc(), identity, 64, 4096, 2)?;
+    let mut image = Parts::open(rt.alloc(), identity, 64, 4096, 2)?;
     let mut block = Block::new(rt.alloc(), 65_472)?;
     take_steps(&rt, rt.alloc(), &mut image, &mut block, &ONE_BEHIND);
     assert!(rt; image.consumers() == 2);
@@ -177,7 +176,7 @@ const WHOLE: [Step; 3] = [
 ];
 
 /// Whether a frame of the greatest MTU is read there, and each byte of its payload. The block then is empty.
-fn passes_whole(image: &mut Shared, block: &mut Block, start: u64) -> bool {
+fn passes_whole(image: &mut Parts, block: &mut Block, start: u64) -> bool {
     let passed = passes(image, 0, block, (DATA, start, 65_504));
     let filled = block.bytes().iter().all(|byte| *byte == 0x61);
     block.bytes_mut().fill(0);
@@ -189,7 +188,7 @@ fn passes_whole(image: &mut Shared, block: &mut Block, start: u64) -> bool {
 fn whole_mtu(rt: HostRuntime) -> Result<(), Fail> {
     let geometry = Geometry::new(16_777_216, 65_504, 7)?;
     let identity = Identity::new(geometry, 1, 1001);
-    let mut image = Shared::open(rt.alloc(), identity, 0, 8_388_608, 1)?;
+    let mut image = Parts::open(rt.alloc(), identity, 0, 8_388_608, 1)?;
     let mut block = Block::new(rt.alloc(), 65_472)?;
     take_steps(&rt, rt.alloc(), &mut image, &mut block, &WHOLE);
     assert!(rt; passes_whole(&mut image, &mut block, 0));

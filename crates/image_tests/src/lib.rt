@@ -13,12 +13,10 @@ mod images;
 mod map_image;
 mod parties;
 #[cfg(test)]
-mod shared;
+mod parts;
 mod stream_frames;
 #[cfg(test)]
 mod streams;
-#[cfg(test)]
-mod subject;
 
 pub use parties::Party;
 pub use stream_frames::{LONGEST, frame_at, frame_of};

@@ -12,9 +12,9 @@ use Rattle.theory.proofs.Parted.{one_frame}
 use Rattle.position.specs.declared.head.FrameHead.{FrameHead}
 use Rattle.image.specs.Kinds.{head_at}
 use Rattle.image.specs.Seen.{IsFit, IsShown}
-use Rattle.shared_image.specs.Handles.{ImageWords, ReaderSeat}
-use Rattle.rebuilder.specs.Meeting.{AreAlone}
-use Rattle.rebuilder.specs.Seen.{Inserting, IsInserterOf, geometry_of, join_of}
+use Rattle.image.specs.Handles.{ImageWords, ReaderSeat}
+use Rattle.image.specs.Meeting.{AreAlone}
+use Rattle.image.specs.Rebuilding.{Inserting, IsInserterOf, geometry_of, join_of}
 use Rattle.receiver.specs.Receiving.{Opened}
 use Rattle.receiver.specs.Representing.{GoesForward, IsAtEnd, ReadsPast, RepresentsImage, with_reader, words_of}
 

@@ -15,7 +15,7 @@ use agents::{Duty, Named, ReceiverAgent};
 use counters::{CounterWriter, Counters};
 use endpoint::{Datagrams, DeviceError};
 use receiver::{MessageReader, ReceiverCore, reads_a_run};
-use shared_image::Image;
+use image::Image;
 use std::alloc::Global;
 use std::marker::{Brand, Model};
 use std::sync::{Arc, Wait};

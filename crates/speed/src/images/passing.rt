@@ -4,15 +4,13 @@ ghost use Rattle.std.specs.Prelude.{◌≡◌, ◌≤◌, ◌<◌, length};
 ghost use Rattle.theory.specs.Wire.{IsFrame};
 ghost use Rattle.frames.specs.Frames.{wire};
 ghost use Rattle.image.specs.Stored.{IsOfStream, IsUnit};
-ghost use Rattle.shared_image.specs.Handles.{IsReaderOf};
-ghost use Rattle.rebuilder.specs.Seen.{IsInserterOf};
+ghost use Rattle.image.specs.Handles.{IsReaderOf};
+ghost use Rattle.image.specs.Rebuilding.{IsInserterOf};
 
 use block::Block;
 use frames::{Frame, Header};
-use image::Insert;
+use image::{Image, ImageReader, Insert, Inserter, advance, insert, read};
 use position::{FrameHead, align32};
-use rebuilder::{Inserter, insert};
-use shared_image::{Image, ImageReader, advance, read};
 
 /// A sum over what was read, and how many frames were stored.
 #[derive(Clone, Copy)]

@@ -7,7 +7,7 @@ use crate::images::fault::ImageSpeedError;
 use crate::images::passing::{ImageParts, Played, pass_all};
 use block::Block;
 use position::{Geometry, Identity};
-use rebuilder::{deal, open};
+use image::{deal, open};
 use std::alloc::Global;
 use std::time::{Clock, Duration, Instant};
 

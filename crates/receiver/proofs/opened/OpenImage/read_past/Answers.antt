@@ -1,9 +1,9 @@
 use Rattle.std.proofs.Common.{◌≡◌, ◌≤◌, ◌∷◌, [], ◌∙◌, sym, ap, subst}
 use Rattle.theory.specs.Position.{IsGeometry, max_position}
 use Rattle.std.specs.Arc.{arc_value}
-use Rattle.shared_image.specs.Handles.{ImageWords, position_of}
-use Rattle.rebuilder.specs.Meeting.{AreAlone}
-use Rattle.rebuilder.specs.Seen.{Inserting, geometry_of}
+use Rattle.image.specs.Handles.{ImageWords, position_of}
+use Rattle.image.specs.Meeting.{AreAlone}
+use Rattle.image.specs.Rebuilding.{Inserting, geometry_of}
 use Rattle.receiver.proofs.ReadOn.{Passes, alone_of, alone_to, at_end, forward, moved_only, passed_same, reads_past}
 use Rattle.receiver.proofs.Rooms.{open_as, open_same}
 use Rattle.receiver.proofs.opened.OpenImage.read_past.Goals as goal

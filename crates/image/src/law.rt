@@ -1,0 +1,10 @@
+//! What the calls of an inserter are to the images of the definitions.
+
+ghost use Rattle.image.specs.Law.{BeatsAreEvents, InsertsAreEvents};
+
+/// What `insert` and `heartbeat` say is one event of the definitions each, of every image that the inserter shows, whose
+/// consumers stand where this call saw them, or further on; and the inserter shows the image after it.
+pub fn calls_are_events()
+    ensures inserts { InsertsAreEvents }
+    ensures beats { BeatsAreEvents }
+{}
