@@ -12,6 +12,7 @@ ghost use Rattle.image.specs.Rebuilding.{IsInserterOf, Looked, geometry_of, join
 
 pub(crate) mod at_rest;
 pub(crate) mod clearing;
+pub(crate) mod draft;
 pub(crate) mod gap;
 pub(crate) mod hand;
 pub(crate) mod inserting;

@@ -2,30 +2,16 @@
 
 ghost use Rattle.std.specs.Prelude.{◌≡◌, [], ◌∷◌, ◌+◌, ◌-◌, ◌*◌, ◌/◌, ◌^◌, ◌<◌, ◌≤◌, length};
 ghost use Rattle.theory.specs.Position.{max_position};
-ghost use Rattle.frame_words.specs.Words as said;
 ghost use Rattle.image_rule.specs.Frames.{data_place, image_length, ring};
 ghost use Rattle.image_rule.specs.Bits.{IsExact, MayInsert, Wrote};
 ghost use Rattle.image_rule.specs.Steps.{Changes, May};
-ghost use Rattle.image.specs.Spelled.{spelt_frame};
+ghost use Rattle.image.specs.Spelled.{drafted};
 
+use crate::inserter::draft::Draft;
 use crate::inserter::hand::{Hand, store_as};
 use crate::words::Words;
-use frame_words::{last_word, pair_word, whole_word};
-use position::Identity;
+use frame_words::{header_words, last_word, whole_word};
 use std::marker::Brand;
-
-/// The second and the third word of a header at a position; the fourth one is zero.
-fn header_words(identity: &Identity, start: u64) -> (u64, u64)
-    requires { start ≤ max_position identity.now.geometry }
-    ensures { said.header_words identity.now start ≡ result.0 ∷ result.1 ∷ 0 ∷ [] }
-{
-    let place = identity.geometry().term_of(start);
-    let session = identity.session().cast_unsigned();
-    let stream = identity.stream().cast_unsigned();
-    let second = pair_word(place.offset, session);
-    let third = pair_word(stream, place.term_id.cast_unsigned());
-    (second, third)
-}
 
 /// Stores a word of a frame that may be inserted, at its place.
 #[inline(always)]
@@ -48,26 +34,23 @@ fn write_header(
     image: &Words,
     hand: &mut Hand,
     place: usize,
-    unit: u64,
-    units: u64,
-    first: u64,
-    payload: &[u8],
+    draft: &Draft<'_>,
 )
     requires fits { hand.old.seat.table_id ≡ image.now.table.shared.table_id }
-    requires there { place ≡ data_place (ring image.now.key) (4 * unit) }
-    requires in_stream { 32 * unit ≤ max_position image.now.key.identity.geometry }
+    requires there { place ≡ data_place (ring image.now.key) (4 * draft.now.unit) }
+    requires in_stream { 32 * draft.now.unit ≤ max_position image.now.key.identity.geometry }
     requires exact { IsExact image.now.key hand.old.seat.me.0.held }
-    requires may { MayInsert image.now.key hand.old.seat.me.0.held (spelt_frame image.now.key.identity unit units first payload.now) }
+    requires may { MayInsert image.now.key hand.old.seat.me.0.held (drafted image.now.key.identity draft.now) }
     ensures fits { hand.new.seat.table_id ≡ hand.old.seat.table_id }
-    ensures wrote { Wrote image.now.key hand.old.seat.me.0 (spelt_frame image.now.key.identity unit units first payload.now) 4 hand.new.seat.me.0 }
+    ensures wrote { Wrote image.now.key hand.old.seat.me.0 (drafted image.now.key.identity draft.now) 4 hand.new.seat.me.0 }
 {
     let _ = &image.table;
     let _ = &hand.seat;
-    let (second, third) = header_words(&image.key.identity, 32 * unit);
-    write_word(image, hand, place, unit, 0, first);
-    write_word(image, hand, place + 1, unit, 1, second);
-    write_word(image, hand, place + 2, unit, 2, third);
-    write_word(image, hand, place + 3, unit, 3, 0);
+    let (second, third) = header_words(&image.key.identity, 32 * draft.unit);
+    write_word(image, hand, place, draft.unit, 0, draft.first);
+    write_word(image, hand, place + 1, draft.unit, 1, second);
+    write_word(image, hand, place + 2, draft.unit, 2, third);
+    write_word(image, hand, place + 3, draft.unit, 3, 0);
 }
 
 /// Stores words of the payload of a frame that may be inserted, from one on, which has this place, where all before it are
@@ -78,30 +61,25 @@ fn write_stretch(
     place: usize,
     from: usize,
     to: usize,
-    unit: u64,
-    units: u64,
-    first: u64,
-    payload: &[u8],
+    draft: &Draft<'_>,
 )
     requires fits { hand.old.seat.table_id ≡ image.now.table.shared.table_id }
-    requires there { place ≡ data_place (ring image.now.key) (4 * unit + (4 + from)) }
+    requires there { place ≡ data_place (ring image.now.key) (4 * draft.now.unit + (4 + from)) }
     requires near { place + (to - from) ≤ image_length (ring image.now.key) }
     requires some { from ≤ to }
-    requires inside { 8 * to ≤ length payload.now }
+    requires inside { 8 * to ≤ length draft.now.payload.now }
     requires exact { IsExact image.now.key hand.old.seat.me.0.held }
-    requires may { MayInsert image.now.key hand.old.seat.me.0.held (spelt_frame image.now.key.identity unit units first payload.now) }
-    requires wrote { Wrote image.now.key hand.old.seat.me.0 (spelt_frame image.now.key.identity unit units first payload.now) (4 + from) hand.old.seat.me.0 }
+    requires may { MayInsert image.now.key hand.old.seat.me.0.held (drafted image.now.key.identity draft.now) }
+    requires wrote { Wrote image.now.key hand.old.seat.me.0 (drafted image.now.key.identity draft.now) (4 + from) hand.old.seat.me.0 }
     ensures fits { hand.new.seat.table_id ≡ hand.old.seat.table_id }
-    ensures wrote { Wrote image.now.key hand.old.seat.me.0 (spelt_frame image.now.key.identity unit units first payload.now) (4 + to) hand.new.seat.me.0 }
+    ensures wrote { Wrote image.now.key hand.old.seat.me.0 (drafted image.now.key.identity draft.now) (4 + to) hand.new.seat.me.0 }
 {
     let _ = &image.table;
     let _ = &hand.seat;
-    let _ = units;
-    let _ = first;
     for index in from..to {
-        let word = whole_word(payload, 8 * index);
+        let word = whole_word(draft.payload, 8 * index);
         let here = place + (index - from);
-        write_word(image, hand, here, unit, 4 + index as u64, word);
+        write_word(image, hand, here, draft.unit, 4 + index as u64, word);
     }
 }
 
@@ -112,33 +90,28 @@ fn write_unit(
     hand: &mut Hand,
     place: usize,
     index: usize,
-    unit: u64,
-    units: u64,
-    first: u64,
-    payload: &[u8],
+    draft: &Draft<'_>,
 )
     requires fits { hand.old.seat.table_id ≡ image.now.table.shared.table_id }
-    requires there { place ≡ data_place (ring image.now.key) (4 * unit + (4 + 4 * index)) }
-    requires inside { 32 * index + 32 ≤ length payload.now }
+    requires there { place ≡ data_place (ring image.now.key) (4 * draft.now.unit + (4 + 4 * index)) }
+    requires inside { 32 * index + 32 ≤ length draft.now.payload.now }
     requires exact { IsExact image.now.key hand.old.seat.me.0.held }
-    requires may { MayInsert image.now.key hand.old.seat.me.0.held (spelt_frame image.now.key.identity unit units first payload.now) }
-    requires wrote { Wrote image.now.key hand.old.seat.me.0 (spelt_frame image.now.key.identity unit units first payload.now) (4 + 4 * index) hand.old.seat.me.0 }
+    requires may { MayInsert image.now.key hand.old.seat.me.0.held (drafted image.now.key.identity draft.now) }
+    requires wrote { Wrote image.now.key hand.old.seat.me.0 (drafted image.now.key.identity draft.now) (4 + 4 * index) hand.old.seat.me.0 }
     ensures fits { hand.new.seat.table_id ≡ hand.old.seat.table_id }
-    ensures wrote { Wrote image.now.key hand.old.seat.me.0 (spelt_frame image.now.key.identity unit units first payload.now) (4 + 4 * (index + 1)) hand.new.seat.me.0 }
+    ensures wrote { Wrote image.now.key hand.old.seat.me.0 (drafted image.now.key.identity draft.now) (4 + 4 * (index + 1)) hand.new.seat.me.0 }
 {
     let _ = &image.table;
     let _ = &hand.seat;
-    let _ = units;
-    let _ = first;
     let at = 4 * index;
-    let word = whole_word(payload, 8 * at);
-    write_word(image, hand, place, unit, 4 + at as u64, word);
-    let second = whole_word(payload, 8 * (at + 1));
-    write_word(image, hand, place + 1, unit, 4 + (at + 1) as u64, second);
-    let third = whole_word(payload, 8 * (at + 2));
-    write_word(image, hand, place + 2, unit, 4 + (at + 2) as u64, third);
-    let fourth = whole_word(payload, 8 * (at + 3));
-    write_word(image, hand, place + 3, unit, 4 + (at + 3) as u64, fourth);
+    let word = whole_word(draft.payload, 8 * at);
+    write_word(image, hand, place, draft.unit, 4 + at as u64, word);
+    let second = whole_word(draft.payload, 8 * (at + 1));
+    write_word(image, hand, place + 1, draft.unit, 4 + (at + 1) as u64, second);
+    let third = whole_word(draft.payload, 8 * (at + 2));
+    write_word(image, hand, place + 2, draft.unit, 4 + (at + 2) as u64, third);
+    let fourth = whole_word(draft.payload, 8 * (at + 3));
+    write_word(image, hand, place + 3, draft.unit, 4 + (at + 3) as u64, fourth);
 }
 
 /// Stores the payload of a frame that may be inserted as far as it fills units, where the header is stored, which has this
@@ -147,29 +120,26 @@ fn write_units(
     image: &Words,
     hand: &mut Hand,
     place: usize,
-    unit: u64,
-    units: u64,
-    first: u64,
-    payload: &[u8],
+    draft: &Draft<'_>,
 ) -> usize
     requires fits { hand.old.seat.table_id ≡ image.now.table.shared.table_id }
-    requires there { place ≡ data_place (ring image.now.key) (4 * unit) }
-    requires low { unit ≤ 2 ^ 56 }
-    requires short { length payload.now < 2 ^ 32 }
+    requires there { place ≡ data_place (ring image.now.key) (4 * draft.now.unit) }
+    requires low { draft.now.unit ≤ 2 ^ 56 }
+    requires short { length draft.now.payload.now < 2 ^ 32 }
     requires exact { IsExact image.now.key hand.old.seat.me.0.held }
-    requires may { MayInsert image.now.key hand.old.seat.me.0.held (spelt_frame image.now.key.identity unit units first payload.now) }
-    requires wrote { Wrote image.now.key hand.old.seat.me.0 (spelt_frame image.now.key.identity unit units first payload.now) 4 hand.old.seat.me.0 }
+    requires may { MayInsert image.now.key hand.old.seat.me.0.held (drafted image.now.key.identity draft.now) }
+    requires wrote { Wrote image.now.key hand.old.seat.me.0 (drafted image.now.key.identity draft.now) 4 hand.old.seat.me.0 }
     ensures fits { hand.new.seat.table_id ≡ hand.old.seat.table_id }
-    ensures wrote { Wrote image.now.key hand.old.seat.me.0 (spelt_frame image.now.key.identity unit units first payload.now) (4 + 4 * (length payload.now / 32)) hand.new.seat.me.0 }
-    ensures behind { result ≡ data_place (ring image.now.key) (4 * unit + (4 + 4 * (length payload.now / 32))) }
+    ensures wrote { Wrote image.now.key hand.old.seat.me.0 (drafted image.now.key.identity draft.now) (4 + 4 * (length draft.now.payload.now / 32)) hand.new.seat.me.0 }
+    ensures behind { result ≡ data_place (ring image.now.key) (4 * draft.now.unit + (4 + 4 * (length draft.now.payload.now / 32))) }
 {
     let _ = &image.table;
     let _ = &hand.seat;
     let bounds = image.ring();
-    let mut next = image.word_behind(bounds, place, 4 * unit, 4);
-    for index in 0..payload.len() / 32 {
-        write_unit(image, hand, next, index, unit, units, first, payload);
-        let number = 4 * unit + (4 + 4 * index as u64);
+    let mut next = image.word_behind(bounds, place, 4 * draft.unit, 4);
+    for index in 0..draft.payload.len() / 32 {
+        write_unit(image, hand, next, index, draft);
+        let number = 4 * draft.unit + (4 + 4 * index as u64);
         next = image.word_behind(bounds, next, number, 4);
     }
     next
@@ -181,28 +151,25 @@ fn write_whole(
     image: &Words,
     hand: &mut Hand,
     place: usize,
-    unit: u64,
-    units: u64,
-    first: u64,
-    payload: &[u8],
+    draft: &Draft<'_>,
 ) -> usize
     requires fits { hand.old.seat.table_id ≡ image.now.table.shared.table_id }
-    requires there { place ≡ data_place (ring image.now.key) (4 * unit) }
-    requires low { unit ≤ 2 ^ 56 }
-    requires short { length payload.now < 2 ^ 32 }
+    requires there { place ≡ data_place (ring image.now.key) (4 * draft.now.unit) }
+    requires low { draft.now.unit ≤ 2 ^ 56 }
+    requires short { length draft.now.payload.now < 2 ^ 32 }
     requires exact { IsExact image.now.key hand.old.seat.me.0.held }
-    requires may { MayInsert image.now.key hand.old.seat.me.0.held (spelt_frame image.now.key.identity unit units first payload.now) }
-    requires wrote { Wrote image.now.key hand.old.seat.me.0 (spelt_frame image.now.key.identity unit units first payload.now) 4 hand.old.seat.me.0 }
+    requires may { MayInsert image.now.key hand.old.seat.me.0.held (drafted image.now.key.identity draft.now) }
+    requires wrote { Wrote image.now.key hand.old.seat.me.0 (drafted image.now.key.identity draft.now) 4 hand.old.seat.me.0 }
     ensures fits { hand.new.seat.table_id ≡ hand.old.seat.table_id }
-    ensures wrote { Wrote image.now.key hand.old.seat.me.0 (spelt_frame image.now.key.identity unit units first payload.now) (4 + length payload.now / 8) hand.new.seat.me.0 }
-    ensures behind { result ≡ data_place (ring image.now.key) (4 * unit + (4 + length payload.now / 8)) }
+    ensures wrote { Wrote image.now.key hand.old.seat.me.0 (drafted image.now.key.identity draft.now) (4 + length draft.now.payload.now / 8) hand.new.seat.me.0 }
+    ensures behind { result ≡ data_place (ring image.now.key) (4 * draft.now.unit + (4 + length draft.now.payload.now / 8)) }
 {
     let _ = &image.table;
     let _ = &hand.seat;
-    let next = write_units(image, hand, place, unit, units, first, payload);
-    let done = 4 * (payload.len() / 32);
-    let whole = payload.len() / 8;
-    write_stretch(image, hand, next, done, whole, unit, units, first, payload);
+    let next = write_units(image, hand, place, draft);
+    let done = 4 * (draft.payload.len() / 32);
+    let whole = draft.payload.len() / 8;
+    write_stretch(image, hand, next, done, whole, draft);
     next + (whole - done)
 }
 
@@ -211,28 +178,25 @@ pub(crate) fn write_words(
     image: &Words,
     hand: &mut Hand,
     place: usize,
-    unit: u64,
-    units: u64,
-    first: u64,
-    payload: &[u8],
+    draft: &Draft<'_>,
 )
     requires fits { hand.old.seat.table_id ≡ image.now.table.shared.table_id }
-    requires there { place ≡ data_place (ring image.now.key) (4 * unit) }
-    requires in_stream { 32 * unit ≤ max_position image.now.key.identity.geometry }
+    requires there { place ≡ data_place (ring image.now.key) (4 * draft.now.unit) }
+    requires in_stream { 32 * draft.now.unit ≤ max_position image.now.key.identity.geometry }
     requires exact { IsExact image.now.key hand.old.seat.me.0.held }
-    requires short { length payload.now < 2 ^ 32 }
-    requires may { MayInsert image.now.key hand.old.seat.me.0.held (spelt_frame image.now.key.identity unit units first payload.now) }
+    requires short { length draft.now.payload.now < 2 ^ 32 }
+    requires may { MayInsert image.now.key hand.old.seat.me.0.held (drafted image.now.key.identity draft.now) }
     ensures fits { hand.new.seat.table_id ≡ hand.old.seat.table_id }
-    ensures wrote { Wrote image.now.key hand.old.seat.me.0 (spelt_frame image.now.key.identity unit units first payload.now) (length (spelt_frame image.now.key.identity unit units first payload.now).words) hand.new.seat.me.0 }
+    ensures wrote { Wrote image.now.key hand.old.seat.me.0 (drafted image.now.key.identity draft.now) (length (drafted image.now.key.identity draft.now).words) hand.new.seat.me.0 }
 {
     let _ = &image.table;
     let _ = &hand.seat;
-    write_header(image, hand, place, unit, units, first, payload);
-    let next = write_whole(image, hand, place, unit, units, first, payload);
-    if payload.len() % 8 == 0 {
+    write_header(image, hand, place, draft);
+    let next = write_whole(image, hand, place, draft);
+    if draft.payload.len() % 8 == 0 {
         return;
     }
-    let whole = payload.len() / 8;
-    let word = last_word(payload, 8 * whole);
-    write_word(image, hand, next, unit, 4 + whole as u64, word);
+    let whole = draft.payload.len() / 8;
+    let word = last_word(draft.payload, 8 * whole);
+    write_word(image, hand, next, draft.unit, 4 + whole as u64, word);
 }

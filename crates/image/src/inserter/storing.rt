@@ -10,9 +10,10 @@ ghost use Rattle.position.specs.declared.head.FrameKind.TheVariants as kinds;
 ghost use Rattle.image_rule.specs.Frames.{Shows, held_place, image_length, ring, start_place};
 ghost use Rattle.image_rule.specs.Bits.{IsExact, Marked, MayInsert, MaySet, SetsBits, Stored, next_word, rest_end};
 ghost use Rattle.image.specs.Handles.{IsInserterOf};
-ghost use Rattle.image.specs.Spelled.{spelt_frame};
+ghost use Rattle.image.specs.Spelled.{drafted};
 ghost use Rattle.image.specs.Inserting.{MayStore, Stores, kind_number, placed_by};
 
+use crate::inserter::draft::Draft;
 use crate::inserter::hand::{Hand, fetch_as, store_as};
 use crate::inserter::at_rest::HandAtRest;
 use crate::words::image::Image;
@@ -47,42 +48,34 @@ fn set_start(
     image: &Words,
     hand: &mut Hand,
     place: usize,
-    unit: u64,
-    units: u64,
-    first: u64,
-    payload: &[u8],
+    draft: &Draft<'_>,
 )
     requires fits { hand.old.seat.table_id ≡ image.now.table.shared.table_id }
-    requires there { place ≡ start_place (ring image.now.key) unit }
+    requires there { place ≡ start_place (ring image.now.key) draft.now.unit }
     requires inside { place < image_length (ring image.now.key) }
-    requires may { MayInsert image.now.key hand.old.seat.me.0.held (spelt_frame image.now.key.identity unit units first payload.now) }
+    requires may { MayInsert image.now.key hand.old.seat.me.0.held (drafted image.now.key.identity draft.now) }
     requires exact { IsExact image.now.key hand.old.seat.me.0.held }
-    requires shows { Shows (ring image.now.key) hand.old.seat.me.0.held.words (spelt_frame image.now.key.identity unit units first payload.now) }
+    requires shows { Shows (ring image.now.key) hand.old.seat.me.0.held.words (drafted image.now.key.identity draft.now) }
     ensures fits { hand.new.seat.table_id ≡ hand.old.seat.table_id }
-    ensures marked { Marked image.now.key hand.old.seat.me.0 (spelt_frame image.now.key.identity unit units first payload.now) (next_word (spelt_frame image.now.key.identity unit units first payload.now)) (next_word (spelt_frame image.now.key.identity unit units first payload.now)) hand.new.seat.me.0 }
+    ensures marked { Marked image.now.key hand.old.seat.me.0 (drafted image.now.key.identity draft.now) (next_word (drafted image.now.key.identity draft.now)) (next_word (drafted image.now.key.identity draft.now)) hand.new.seat.me.0 }
 {
     let _ = &image.table;
     let _ = &hand.seat;
-    let _ = units;
-    let _ = first;
-    let _ = payload;
-    set_bits_as::<Brand>(image, hand, place, unit, 1);
+    set_bits_as::<Brand>(image, hand, place, draft.unit, 1);
 }
 
 /// Sets the bits of a frame's units that don't lie in its first unit's word.
-fn mark_rest(image: &Words, hand: &mut Hand, unit: u64, units: u64, first: u64, payload: &[u8])
+fn mark_rest(image: &Words, hand: &mut Hand, draft: &Draft<'_>)
     requires fits { hand.old.seat.table_id ≡ image.now.table.shared.table_id }
-    requires may { MayInsert image.now.key hand.old.seat.me.0.held (spelt_frame image.now.key.identity unit units first payload.now) }
-    requires marked { Marked image.now.key hand.old.seat.me.0 (spelt_frame image.now.key.identity unit units first payload.now) (next_word (spelt_frame image.now.key.identity unit units first payload.now)) (next_word (spelt_frame image.now.key.identity unit units first payload.now)) hand.old.seat.me.0 }
+    requires may { MayInsert image.now.key hand.old.seat.me.0.held (drafted image.now.key.identity draft.now) }
+    requires marked { Marked image.now.key hand.old.seat.me.0 (drafted image.now.key.identity draft.now) (next_word (drafted image.now.key.identity draft.now)) (next_word (drafted image.now.key.identity draft.now)) hand.old.seat.me.0 }
     ensures fits { hand.new.seat.table_id ≡ hand.old.seat.table_id }
-    ensures marked { Marked image.now.key hand.old.seat.me.0 (spelt_frame image.now.key.identity unit units first payload.now) (next_word (spelt_frame image.now.key.identity unit units first payload.now)) (rest_end (spelt_frame image.now.key.identity unit units first payload.now)) hand.new.seat.me.0 }
+    ensures marked { Marked image.now.key hand.old.seat.me.0 (drafted image.now.key.identity draft.now) (next_word (drafted image.now.key.identity draft.now)) (rest_end (drafted image.now.key.identity draft.now)) hand.new.seat.me.0 }
 {
     let _ = &image.table;
     let _ = &hand.seat;
-    let _ = first;
-    let _ = payload;
-    let end = unit + units;
-    let mut at = (unit / 64 + 1) * 64;
+    let end = draft.unit + draft.units;
+    let mut at = (draft.unit / 64 + 1) * 64;
     while at < end {
         let count = (end - at).min(64);
         let place = image.held_word(at);
@@ -96,26 +89,21 @@ fn set_first_as<N: Changing>(
     image: &Words,
     hand: &mut Hand,
     place: usize,
-    unit: u64,
-    units: u64,
-    first: u64,
-    payload: &[u8],
+    draft: &Draft<'_>,
 )
     requires fits { hand.old.seat.table_id ≡ image.now.table.shared.table_id }
-    requires there { place ≡ held_place (ring image.now.key) unit }
+    requires there { place ≡ held_place (ring image.now.key) draft.now.unit }
     requires inside { place < image_length (ring image.now.key) }
-    requires may { MayInsert image.now.key hand.old.seat.me.0.held (spelt_frame image.now.key.identity unit units first payload.now) }
-    requires marked { Marked image.now.key hand.old.seat.me.0 (spelt_frame image.now.key.identity unit units first payload.now) (next_word (spelt_frame image.now.key.identity unit units first payload.now)) (rest_end (spelt_frame image.now.key.identity unit units first payload.now)) hand.old.seat.me.0 }
-    requires chosen { (N.place ≡ held_place (ring image.now.key) unit) × (N.floor ≡ hand.old.seat.me.0.held.floor) × (N.got ≡ spelt_frame image.now.key.identity unit units first payload.now ∷ hand.old.seat.me.0.held.got) }
+    requires may { MayInsert image.now.key hand.old.seat.me.0.held (drafted image.now.key.identity draft.now) }
+    requires marked { Marked image.now.key hand.old.seat.me.0 (drafted image.now.key.identity draft.now) (next_word (drafted image.now.key.identity draft.now)) (rest_end (drafted image.now.key.identity draft.now)) hand.old.seat.me.0 }
+    requires chosen { (N.place ≡ held_place (ring image.now.key) draft.now.unit) × (N.floor ≡ hand.old.seat.me.0.held.floor) × (N.got ≡ drafted image.now.key.identity draft.now ∷ hand.old.seat.me.0.held.got) }
     ensures fits { hand.new.seat.table_id ≡ hand.old.seat.table_id }
-    ensures stored { Stored image.now.key hand.old.seat.me.0 (spelt_frame image.now.key.identity unit units first payload.now) hand.new.seat.me.0 }
+    ensures stored { Stored image.now.key hand.old.seat.me.0 (drafted image.now.key.identity draft.now) hand.new.seat.me.0 }
 {
     let _ = &image.table;
     let _ = &hand.seat;
-    let _ = first;
-    let _ = payload;
-    let count = units.min(64 - unit % 64);
-    set_bits_as::<N>(image, hand, place, unit, count);
+    let count = draft.units.min(64 - draft.unit % 64);
+    set_bits_as::<N>(image, hand, place, draft.unit, count);
 }
 
 /// Sets the bits of a frame's units that lie in its first unit's word, which has this place: from then on it is stored.
@@ -123,40 +111,37 @@ fn set_first(
     image: &Words,
     hand: &mut Hand,
     place: usize,
-    unit: u64,
-    units: u64,
-    first: u64,
-    payload: &[u8],
+    draft: &Draft<'_>,
 )
     requires fits { hand.old.seat.table_id ≡ image.now.table.shared.table_id }
-    requires there { place ≡ held_place (ring image.now.key) unit }
+    requires there { place ≡ held_place (ring image.now.key) draft.now.unit }
     requires inside { place < image_length (ring image.now.key) }
-    requires may { MayInsert image.now.key hand.old.seat.me.0.held (spelt_frame image.now.key.identity unit units first payload.now) }
-    requires marked { Marked image.now.key hand.old.seat.me.0 (spelt_frame image.now.key.identity unit units first payload.now) (next_word (spelt_frame image.now.key.identity unit units first payload.now)) (rest_end (spelt_frame image.now.key.identity unit units first payload.now)) hand.old.seat.me.0 }
+    requires may { MayInsert image.now.key hand.old.seat.me.0.held (drafted image.now.key.identity draft.now) }
+    requires marked { Marked image.now.key hand.old.seat.me.0 (drafted image.now.key.identity draft.now) (next_word (drafted image.now.key.identity draft.now)) (rest_end (drafted image.now.key.identity draft.now)) hand.old.seat.me.0 }
     ensures fits { hand.new.seat.table_id ≡ hand.old.seat.table_id }
-    ensures stored { Stored image.now.key hand.old.seat.me.0 (spelt_frame image.now.key.identity unit units first payload.now) hand.new.seat.me.0 }
+    ensures stored { Stored image.now.key hand.old.seat.me.0 (drafted image.now.key.identity draft.now) hand.new.seat.me.0 }
 {
-    set_first_as::<Brand>(image, hand, place, unit, units, first, payload);
+    set_first_as::<Brand>(image, hand, place, draft);
 }
 
 /// Stores a frame that may be inserted.
-fn store(image: &Words, hand: &mut Hand, unit: u64, units: u64, first: u64, payload: &[u8])
+fn store(image: &Words, hand: &mut Hand, draft: &Draft<'_>)
     requires fits { hand.old.seat.table_id ≡ image.now.table.shared.table_id }
-    requires in_stream { 32 * unit ≤ max_position image.now.key.identity.geometry }
-    requires short { length payload.now < 2 ^ 32 }
+    requires in_stream { 32 * draft.now.unit ≤ max_position image.now.key.identity.geometry }
+    requires short { length draft.now.payload.now < 2 ^ 32 }
     requires exact { IsExact image.now.key hand.old.seat.me.0.held }
-    requires may { MayInsert image.now.key hand.old.seat.me.0.held (spelt_frame image.now.key.identity unit units first payload.now) }
+    requires may { MayInsert image.now.key hand.old.seat.me.0.held (drafted image.now.key.identity draft.now) }
     ensures fits { hand.new.seat.table_id ≡ hand.old.seat.table_id }
-    ensures stored { Stored image.now.key hand.old.seat.me.0 (spelt_frame image.now.key.identity unit units first payload.now) hand.new.seat.me.0 }
+    ensures stored { Stored image.now.key hand.old.seat.me.0 (drafted image.now.key.identity draft.now) hand.new.seat.me.0 }
 {
     let _ = &image.table;
-    let place = image.first_word(unit);
-    let start = image.start_word(unit);
-    let held = image.held_word(unit);
-    write_words(image, hand, place, unit, units, first, payload);
-    set_start(image, hand, start, unit, units, first, payload);
-    mark_rest(image, hand, unit, units, first, payload);
-    set_first(image, hand, held, unit, units, first, payload);
+    let place = image.first_word(draft.unit);
+    let start = image.start_word(draft.unit);
+    let held = image.held_word(draft.unit);
+    write_words(image, hand, place, draft);
+    set_start(image, hand, start, draft);
+    mark_rest(image, hand, draft);
+    set_first(image, hand, held, draft);
 }
 
 /// The first word of the frame that a head says.
@@ -196,5 +181,11 @@ pub(crate) fn store_frame(image: &Image, inserter: &mut HandAtRest, head: &Frame
     let units = u64::from(align32(head.frame_length)) / 32;
     let first = first_of(head);
     let part = payload_in(head, payload);
-    store(&image.words, &mut inserter.hand, unit, units, first, part);
+    let draft = Draft {
+        unit,
+        units,
+        first,
+        payload: part,
+    };
+    store(&image.words, &mut inserter.hand, &draft);
 }

@@ -4,7 +4,7 @@ use Rattle.std.specs.Prelude.{FitsSigned}
 use Rattle.std.proofs.lemmas.Int.{to_z-of_z}
 use Rattle.theory.specs.Position.{Geometry, id_of, place_of}
 use Rattle.frame_words.proofs.Fields.{header_is}
-use Rattle.publication.proofs.writing.header_words.Goals as goal
+use Rattle.frame_words.proofs.field_words.header_words.Goals as goal
 
 pub returns-clause-words : goal.returns-clause-words
 returns-clause-words c =
