@@ -12,17 +12,15 @@ use Rattle.position.specs.declared.head.FrameHead.{FrameHead}
 use Rattle.position.specs.declared.head.FrameKind.TheVariants as kinds
 use Rattle.position.specs.Heads.{head_of}
 use Rattle.image.specs.Kinds.{head_at}
-use Rattle.image.specs.Seen.{IsShown}
 use Rattle.image_rule.specs.declared.view.Frame.{Frame}
 use Rattle.image_rule.specs.declared.view.View.{View}
-use Rattle.image_rule.specs.Frames as units
-use Rattle.image_rule.specs.Frames.{IsContent, placed_of}
-use Rattle.image_rule.proofs.Units.{among_placed, placed_among}
+use Rattle.image_rule.specs.Frames.{IsContent}
+use Rattle.image_rule.proofs.Units.{placed_among}
 use Rattle.image.specs.Handles.{ImageWords, IsReaderOf, ReaderSeat, position_of}
-use Rattle.image.specs.Reading.{Advances, FindsNone, ReadsFrame}
-use Rattle.image.specs.Meeting.{AreAlone, IsShort, Meets, number_of}
+use Rattle.image.specs.Reading.{FindsNone, ReadsFrame}
+use Rattle.image.specs.Finding.{FindsHere, FindsNothing, PassesOn}
+use Rattle.image.specs.Meeting.{AreAlone, IsShort, Meets, ReadsPast, StandsAtEnd, number_of}
 use Rattle.image.specs.Rebuilding.{Inserting, join_of}
-use Rattle.image.proofs.Judged.{head_shown}
 
 module _ (image : ImageWords) (i : Inserting) (r : ReaderSeat) (alone : AreAlone image i r) where
   abbrev p : ℕ
@@ -36,14 +34,14 @@ module _ (image : ImageWords) (i : Inserting) (r : ReaderSeat) (alone : AreAlone
   pub met_same : (j : Inserting) (q : ReaderSeat) → Meets i r j q → j ≡ i
   met_same j q met = met.inserter ∙ ap (λ (xs : List ℕ). record i { seen = xs }) (set_there i.seen alone.met ∙ sym alone.met)
 
-  -- of a reader that stands there
-  pub still_alone : (j : Inserting) (q : ReaderSeat) → j ≡ i → IsReaderOf image q → number_of q ≡ number_of r → q.view.reading.unit ≡ r.view.reading.unit → AreAlone image j q
-  still_alone j q same of number unit = record {
-    inserter = record { of = ap (λ (x : Inserting). x.of) same ∙ alone.inserter.of; key = ap (λ (x : Inserting). x.key) same ∙ alone.inserter.key };
+  -- the reader has moved, if at all, and the inserter saw that
+  pub alone_on : (k : Inserting) (y : ReaderSeat) → k ≡ record i { seen = position_of y ∷ [] } → IsReaderOf image y → number_of y ≡ number_of r → AreAlone image k y
+  alone_on k y after of number = record {
+    inserter = record { of = ap (λ (x : Inserting). x.of) after ∙ alone.inserter.of; key = ap (λ (x : Inserting). x.key) after ∙ alone.inserter.key };
     reader = of;
-    one = ap (λ (x : Inserting). x.key.consumers) same ∙ alone.one;
+    one = ap (λ (x : Inserting). x.key.consumers) after ∙ alone.one;
     number = number ∙ alone.number;
-    met = ap (λ (x : Inserting). x.seen) same ∙ alone.met ∙ ap (λ (u : ℕ). 32 * u ∷ []) (sym unit);
+    met = ap (λ (x : Inserting). x.seen) after;
   }
 
   -- a reader that has met the inserter and finds none stands at the contiguous end
@@ -69,6 +67,55 @@ module _ (image : ImageWords) (i : Inserting) (r : ReaderSeat) (alone : AreAlone
           none.none f known.among (omega arith))
           (cases_lt t.at p)
 
+  -- ---- it looks, and finds none
+
+  pub stands_at_end : (j : Inserting) (q x : ReaderSeat) (rebuilt : ℕ) (before after : List ℕ) → Meets i r j q → FindsNothing q before x after → IsContiguous i.stored (join_of i) rebuilt → AllByRecursion (λ y. (join_of i ≤ y) × (y ≤ rebuilt)) i.seen → StandsAtEnd i r before j x after
+  stands_at_end j q x rebuilt before after met none end behind = record {
+    ends = at_end j q x.view rebuilt met none.reads.finds end behind;
+    inserter = met_same j q met;
+    stands = none.stays.stands ∙ ap (λ (u : ℕ). 32 * u) met.stands;
+    misses = none.misses ∙ ap (λ (k : ℕ). k + 1) met.misses;
+    untouched = none.untouched;
+  }
+
+  pub alone_at_end : (j : Inserting) (q x : ReaderSeat) (before after : List ℕ) → Meets i r j q → FindsNothing q before x after → IsReaderOf image x → AreAlone image j x
+  alone_at_end j q x before after met none of =
+      let stands : position_of x ≡ p = none.stays.stands ∙ ap (λ (u : ℕ). 32 * u) met.stands in
+      alone_on j x (met_same j q met ∙ (λ t. record i { seen = (alone.met ∙ ap (λ (u : ℕ). u ∷ []) (sym stands)) t })) of (none.stays.number ∙ met.number)
+
+  -- ---- or it reads a frame, moves past it, and meets the inserter again
+
+  module _ (j k : Inserting) (q x z y : ReaderSeat) (head : FrameHead) (before after : List ℕ) (met : Meets i r j q) (found : FindsHere q before head x after) (past : PassesOn x z) (again : Meets j z k y) where
+    to : position_of y ≡ position_of z
+    to = ap (λ (u : ℕ). 32 * u) again.stands
+
+    same_number : number_of z ≡ number_of r
+    same_number = past.number ∙ found.stays.number ∙ met.number
+
+    stored : Among found.frame i.stored
+    stored = subst (λ (m : Inserting). Among found.frame m.stored) (met_same j q met) ((again.knows found.frame).0 (again.keeps found.frame (past.keeps found.frame found.known)))
+
+    here : found.frame.at ≡ p
+    here = found.here ∙ ap (λ (u : ℕ). 32 * u) met.stands
+
+    seen_now : slice_set j.seen (number_of z) (position_of z) ≡ position_of y ∷ []
+    seen_now = (λ t. slice_set ((ap (λ (m : Inserting). m.seen) (met_same j q met) ∙ alone.met) t) ((same_number ∙ alone.number) t) (position_of z)) ∙ ap (λ (u : ℕ). u ∷ []) (sym to)
+
+    moved : k ≡ record i { seen = position_of y ∷ [] }
+    moved = again.inserter ∙ (λ t. record (met_same j q met t) { seen = seen_now t })
+
+    pub reads_past : ReadsPast i r before head k y after
+    reads_past = record {
+      shown = (found.frame, stored, here, found.head_is ∙ ap (λ (u : ℕ). head_at u found.frame.frame) here, found.payload);
+      short = found.short;
+      past = (found.frame, stored, here, to ∙ past.stands ∙ found.ends);
+      inserter = moved;
+      misses = again.misses ∙ past.misses ∙ found.misses ∙ met.misses;
+    }
+
+    pub alone_past : IsReaderOf image y → AreAlone image k y
+    alone_past of = alone_on k y moved of (again.number ∙ same_number)
+
 pub payload_short : (c : placed.Frame) → IsContent c → length (payload_of c) ≤ 65472
 payload_short (Data flags payload) is = let a = is.1 in omega arith
 payload_short (Pad n) is = omega arith
@@ -86,27 +133,3 @@ pub in_front : (before front after : List ℕ) → length front ≤ length befor
 in_front before front after le e =
     let a = length-append front (drop (length front) before) in let d = length-drop (length front) before in
     e ∙ sym (take_all (length before) (front ++ drop (length front) before) (omega arith))
-
--- what a reader found between two meetings was stored
-pub shown : (i j k : Inserting) (r q x y : ReaderSeat) (head : FrameHead) (before after : List ℕ) → Meets i r j q → j ≡ i → ReadsFrame q head before x after → Meets j x k y → 65472 ≤ length before → IsShown i.stored (position_of r) before head after
-shown i j k r q x y head before after met same reads again room =
-    let f : Frame = reads.finds.frame in let s : Placed = placed_of f in
-    let unit : q.view.reading.unit ≡ r.view.reading.unit = met.stands in
-    let known : units.Among f x.view.reading.known = subst (λ (v : View). units.Among f v.reading.known) (sym reads.finds.after) (inl refl) in
-    let stored : Among s j.stored = (again.knows s).0 (again.keeps s (among_placed f x.view.reading.known known)) in
-    let here : s.at ≡ position_of r = ap (λ (u : ℕ). 32 * u) (reads.finds.here ∙ unit) in (
-      s,
-      subst (λ (m : Inserting). Among s m.stored) same stored,
-      here,
-      reads.finds.shown ∙ head_shown (32 * q.view.reading.unit) s.frame ∙ ap (λ (u : ℕ). head_at (32 * u) s.frame) unit,
-      in_front before (payload_of s.frame) after (let l = payload_short s.frame reads.finds.content in omega arith) reads.copied,
-    )
-
--- a reader that moved on, and then met the inserter
-pub passed : (i j : Inserting) (r x y : ReaderSeat) → Advances r x → Meets i x j y → (s : Placed) × Among s i.stored × (s.at ≡ position_of r) × (position_of x ≡ end_of s)
-passed i j r x y moved met =
-    let f : Frame = moved.past in let s : Placed = placed_of f in
-    let known : units.Among f x.view.reading.known = subst (λ (z : ReaderSeat). units.Among f z.view.reading.known) (sym moved.same) moved.among in
-    let size = met.covers f known in
-    let to : x.view.reading.unit ≡ f.unit + f.units = ap (λ (z : ReaderSeat). z.view.reading.unit) moved.same in
-    (s, (met.knows s).0 (met.keeps s (among_placed f x.view.reading.known known)), ap (λ (u : ℕ). 32 * u) moved.here, omega arith)

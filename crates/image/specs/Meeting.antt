@@ -1,5 +1,5 @@
 -- An inserter and a reader that meet, and one that is in one hand with the one reader.
-use Rattle.std.specs.Prelude.{◌≡◌, ◌↔◌, ℕ, ◌*◌, ◌<◌, ◌≤◌, max, [], ◌∷◌, List, slice_index, slice_set}
+use Rattle.std.specs.Prelude.{◌≡◌, ◌↔◌, ℕ, ◌+◌, ◌*◌, ◌<◌, ◌≤◌, max, [], ◌∷◌, List, slice_index, slice_set}
 use Rattle.position.specs.declared.head.FrameHead.{FrameHead}
 use Rattle.position.specs.declared.head.FrameKind.TheVariants.{Data}
 use Rattle.theory.specs.Placed.{Among, Placed, covered, end_of}
@@ -9,6 +9,7 @@ use Rattle.image_rule.specs.Frames as units
 use Rattle.image_rule.specs.Frames.{placed_of}
 use Rattle.image.specs.Handles.{ImageWords, IsReaderOf, ReaderSeat, known_by, misses_of, position_of}
 use Rattle.image.specs.Rebuilding.{Inserting, IsInserterOf, join_of}
+use Rattle.image.specs.Seen.{IsShown}
 
 abbrev pub number_of : ReaderSeat → ℕ
 number_of r = r.view.reading.number
@@ -39,3 +40,20 @@ pub record AreAlone (image : ImageWords) (i : Inserting) (r : ReaderSeat) : Type
 -- of a DATA frame, whose payload has at most 65,472 bytes
 abbrev pub IsShort : FrameHead → Type 0
 IsShort head = head.kind ≡ Data → (32 ≤ head.frame_length) × (head.frame_length ≤ 65504)
+
+-- the reader stands at the contiguous end, where it has looked once more, and nothing else has changed
+pub record StandsAtEnd (i : Inserting) (r : ReaderSeat) (before : List ℕ) (j : Inserting) (q : ReaderSeat) (after : List ℕ) : Type 0 where
+  pub ends : IsContiguous i.stored (join_of i) (position_of r)
+  pub inserter : j ≡ i
+  pub stands : position_of q ≡ position_of r
+  pub misses : misses_of q ≡ misses_of r + 1
+  pub untouched : after ≡ before
+
+-- it was shown a frame that was stored where it stood, and stands where that ends: there the inserter saw it, and else nothing
+-- has changed
+pub record ReadsPast (i : Inserting) (r : ReaderSeat) (before : List ℕ) (head : FrameHead) (j : Inserting) (q : ReaderSeat) (after : List ℕ) : Type 0 where
+  pub shown : IsShown i.stored (position_of r) before head after
+  pub short : IsShort head
+  pub past : (s : Placed) × Among s i.stored × (s.at ≡ position_of r) × (position_of q ≡ end_of s)
+  pub inserter : j ≡ record i { seen = position_of q ∷ [] }
+  pub misses : misses_of q ≡ misses_of r

@@ -10,7 +10,7 @@ ghost use Rattle.image.specs.Seen.{IsCount, IsFit, IsJoin, least};
 ghost use Rattle.image.specs.Handles.{IsReaderOf, position_of};
 ghost use Rattle.image.specs.Rebuilding.{IsInserterOf, Looked, geometry_of, join_of};
 
-pub(crate) mod at_rest;
+pub(crate) mod store;
 pub(crate) mod clearing;
 pub(crate) mod draft;
 pub(crate) mod gap;
@@ -24,8 +24,8 @@ pub(crate) mod spelling;
 pub(crate) mod storing;
 
 use crate::fault::{CONSUMERS, ImageError};
-use crate::inserter::at_rest::HandAtRest;
-use crate::inserter::clearing::prune;
+use crate::inserter::store::FrameStore;
+use crate::inserter::clearing::{clear_to, sweep};
 use crate::inserter::opening::{deal_reader, open_words};
 use crate::reader::ImageReader;
 use crate::words::image::Image;
@@ -36,7 +36,7 @@ use std::marker::Model;
 /// Who rebuilds a stream in an image that threads share. There is one for each image.
 #[derive(Drop)]
 pub struct Inserter {
-    pub(crate) words: HandAtRest,
+    pub(crate) words: FrameStore,
     pub(crate) window: u32,
     /// The end of what was stored without a gap.
     pub(crate) rebuilt: u64,
@@ -116,7 +116,9 @@ pub fn least(image: &Image, inserter: &mut Inserter) -> u64
 {
     // What always holds of it, for the proof.
     let _ = inserter.words.floor();
-    prune(image, &mut inserter.words)
+    let lowest = sweep(image, &mut inserter.words);
+    clear_to(image, &mut inserter.words, lowest);
+    lowest
 }
 
 impl Inserter {

@@ -11,12 +11,11 @@
 //!
 //! A reader reads the frame where it stands (`read`) and moves behind it (`advance`). Where it and the inserter meet (`meet`),
 //! the reader knows just the frames that were stored, and the inserter has seen it where it stands. So where one hand has
-//! both, `read_alone` and `advance_alone` are exact. What `insert` and `heartbeat` say is an event of the definitions' image
+//! both, `read_past` is exact. What `insert` and `heartbeat` say is an event of the definitions' image
 //! (`calls_are_events`).
 #![tactic(auto)]
 
 mod answer;
-mod crossing;
 mod detector;
 mod fault;
 mod held;
@@ -28,17 +27,15 @@ mod steps;
 mod words;
 
 pub use answer::Insert;
-pub use crossing::crosses_term;
 pub use detector::LossDetector;
 pub use fault::{CONSUMERS, ImageError};
-pub use held::{covered, is_like, measure};
 pub use inserter::gap::{first_gap, held_word};
 pub use inserter::inserting::{heartbeat, insert};
 pub use inserter::{Inserter, deal, least, open};
 pub use law::calls_are_events;
 pub use meeting::meet;
 pub use reader::ImageReader;
-pub use reader::alone::{advance_alone, read_alone};
+pub use reader::alone::read_past;
 pub use reader::reading::{advance, read};
 pub use steps::Steps;
 pub use words::image::Image;

@@ -27,7 +27,7 @@ use crate::positions::Positions;
 use crate::readers::Readers;
 use block::Block;
 use frames::{Frame, Header};
-use image::{Image, ImageError, ImageReader, Insert, Inserter, Steps, advance_alone, first_gap, heartbeat, insert, least, meet, read_alone};
+use image::{Image, ImageError, ImageReader, Insert, Inserter, Steps, first_gap, heartbeat, insert, least, meet, read_past};
 use position::{FrameHead, Gap, Geometry, Identity};
 use std::alloc::{AllocError, Global};
 use std::marker::Model;
@@ -266,10 +266,6 @@ impl OpenImage {
         let _ = self.inserter.high_water();
         let _ = self.geometry();
         let image = &*self.image;
-        let Some(head) = read_alone(image, &mut self.inserter, reader, block) else {
-            return None;
-        };
-        let _ = advance_alone(image, &mut self.inserter, reader);
-        Some(head)
+        read_past(image, &mut self.inserter, reader, block)
     }
 }

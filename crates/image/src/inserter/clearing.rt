@@ -4,10 +4,10 @@ ghost use Rattle.std.specs.Prelude.{◌≡◌, ℕ, ◌+◌, ◌*◌, ◌/◌, �
 ghost use Rattle.image_rule.specs.Frames.{image_length, ring};
 ghost use Rattle.image_rule.specs.Bits.{Cleared, DropsBits, IsExact, MayDrop, MayRise, Sweeps};
 ghost use Rattle.image.specs.Handles.{IsInserterOf, floor_of};
-ghost use Rattle.image.specs.Inserting.{ClearedTo, MayClearTo, Pruned, Swept};
+ghost use Rattle.image.specs.Inserting.{ClearedTo, MayClearTo, Swept};
 
 use crate::inserter::hand::{Hand, change_as, fetch_as, see_as};
-use crate::inserter::at_rest::HandAtRest;
+use crate::inserter::store::FrameStore;
 use crate::words::image::Image;
 use crate::words::mask::mask;
 use crate::words::Words;
@@ -100,7 +100,7 @@ fn clear_units(image: &Words, hand: &mut Hand, to: u64)
 
 /// Loads the position of each consumer once. The answer is the least, in bytes; no frame lies on both sides of it, and all
 /// from the floor to it was stored.
-pub(crate) fn sweep(image: &Image, inserter: &mut HandAtRest) -> u64
+pub(crate) fn sweep(image: &Image, inserter: &mut FrameStore) -> u64
     requires fits { IsInserterOf image.now inserter.old }
     ensures fits { IsInserterOf image.now inserter.new }
     ensures swept { Swept inserter.old result inserter.new }
@@ -111,7 +111,7 @@ pub(crate) fn sweep(image: &Image, inserter: &mut HandAtRest) -> u64
 }
 
 /// Clears the bits of all units below a position, where each consumer was seen there or further on. It is the floor then.
-pub(crate) fn clear_to(image: &Image, inserter: &mut HandAtRest, floor: u64)
+pub(crate) fn clear_to(image: &Image, inserter: &mut FrameStore, floor: u64)
     requires fits { IsInserterOf image.now inserter.old }
     requires may { MayClearTo inserter.old floor }
     ensures fits { IsInserterOf image.now inserter.new }
@@ -120,18 +120,4 @@ pub(crate) fn clear_to(image: &Image, inserter: &mut HandAtRest, floor: u64)
     let _ = &image.words;
     let _ = &inserter.hand;
     clear_units(&image.words, &mut inserter.hand, floor / 32);
-}
-
-/// Looks where the consumers stand, and clears what all of them have passed. The answer is the least position that was read,
-/// in bytes, which is the floor then.
-pub(crate) fn prune(image: &Image, inserter: &mut HandAtRest) -> u64
-    requires fits { IsInserterOf image.now inserter.old }
-    ensures fits { IsInserterOf image.now inserter.new }
-    ensures pruned { Pruned inserter.old result inserter.new }
-{
-    // What always holds of it, for the proof.
-    let _ = &inserter.hand;
-    let least = sweep(image, inserter);
-    clear_to(image, inserter, least);
-    least
 }

@@ -5,7 +5,6 @@ ghost use Rattle.frames.specs.Frames.{wire};
 ghost use Rattle.theory.specs.Insert.{head_of, insert_answer_at};
 ghost use Rattle.theory.specs.Placed.{frame_length, is_padding};
 ghost use Rattle.theory.specs.Wire.{IsFrame};
-ghost use Rattle.image.specs.Kinds.{is_pad};
 ghost use Rattle.image.specs.Seen.{accepts, least};
 ghost use Rattle.image.specs.Stored.{IsOfStream, IsUnit, meant, stream_frame};
 ghost use Rattle.image.specs.Rebuilding.{FitsIn, Inserts, IsInserterOf, Looked, geometry_of, with_frame};
@@ -17,32 +16,6 @@ use crate::inserter::judging::judge;
 use crate::inserter::putting::{put, run_end};
 use crate::words::image::Image;
 use frames::Frame;
-use position::FrameKind;
-
-/// What becomes of a frame, where the consumers were just looked at.
-fn judge_here(
-    image: &Image,
-    inserter: &mut Inserter,
-    position: i64,
-    kind: FrameKind,
-    frame_length: u32,
-) -> Insert
-    requires fits { IsInserterOf image.now inserter.old }
-    requires unit { IsUnit position }
-    requires long { 32 ≤ frame_length }
-    requires length { frame_length ≤ 2 ^ 24 }
-    ensures same { inserter.new ≡ inserter.old }
-    ensures answer { meant result ≡ insert_answer_at (geometry_of inserter.old) (map head_of inserter.old.stored) inserter.old.floor inserter.old.window position (is_pad kind) frame_length }
-{
-    judge(
-        image,
-        &mut inserter.words,
-        inserter.window,
-        position,
-        kind,
-        frame_length,
-    )
-}
 
 /// Stores one more frame.
 fn store(image: &Image, inserter: &mut Inserter, start: u64, frame: &Frame<'_>)
@@ -80,7 +53,7 @@ pub fn insert(image: &Image, inserter: &mut Inserter, position: i64, frame: &Fra
 {
     let (kind, frame_length) = measure(frame);
     let _ = least(image, inserter);
-    let answer = judge_here(image, inserter, position, kind, frame_length);
+    let answer = judge(image, inserter, position, kind, frame_length);
     if answer == Insert::Stored {
         // What always holds of it, for the proof.
         let _ = &inserter.words;

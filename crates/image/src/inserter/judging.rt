@@ -9,12 +9,12 @@ ghost use Rattle.image.specs.Seen.{crosses};
 ghost use Rattle.image.specs.Stored.{IsUnit, meant};
 ghost use Rattle.image.specs.Handles as seats;
 ghost use Rattle.image.specs.Handles.{floor_of, stored_by};
-ghost use Rattle.image.specs.Rebuilding.{AreLaid};
+ghost use Rattle.image.specs.Rebuilding.{AreLaid, IsInserterOf, geometry_of};
 
 use crate::answer::Insert;
-use crate::crossing::crosses_term;
-use crate::held::is_like;
-use crate::inserter::at_rest::HandAtRest;
+use crate::held::{crosses_term, is_like};
+use crate::inserter::Inserter;
+use crate::inserter::store::FrameStore;
 use crate::inserter::looking::{head_at, is_free, starts_at};
 use crate::words::image::Image;
 use position::{FrameKind, align32};
@@ -22,7 +22,7 @@ use position::{FrameKind, align32};
 /// Whether a frame of this kind and length was stored at a position.
 fn has_like(
     image: &Image,
-    words: &mut HandAtRest,
+    words: &mut FrameStore,
     start: u64,
     kind: FrameKind,
     frame_length: u32,
@@ -47,7 +47,7 @@ fn has_like(
 /// looked at.
 fn judge_inside(
     image: &Image,
-    words: &mut HandAtRest,
+    words: &mut FrameStore,
     window: u32,
     start: u64,
     kind: FrameKind,
@@ -90,21 +90,17 @@ fn judge_inside(
 /// What becomes of a frame, where the consumers were just looked at.
 pub(crate) fn judge(
     image: &Image,
-    words: &mut HandAtRest,
-    window: u32,
+    inserter: &mut Inserter,
     position: i64,
     kind: FrameKind,
     frame_length: u32,
 ) -> Insert
-    requires fits { seats.IsInserterOf image.now words.old }
-    requires laid { AreLaid (stored_by words.old) }
-    requires low { floor_of words.old ≤ max_position words.old.key.identity.geometry }
-    requires window { window ≤ words.old.key.identity.geometry.term_length / 2 }
+    requires fits { IsInserterOf image.now inserter.old }
     requires unit { IsUnit position }
     requires long { 32 ≤ frame_length }
     requires length { frame_length ≤ 2 ^ 24 }
-    ensures same { words.new ≡ words.old }
-    ensures answer { meant result ≡ insert_answer_at words.old.key.identity.geometry (map head_of (stored_by words.old)) (floor_of words.old) window position (is_pad kind) frame_length }
+    ensures same { inserter.new ≡ inserter.old }
+    ensures answer { meant result ≡ insert_answer_at (geometry_of inserter.old) (map head_of inserter.old.stored) inserter.old.floor inserter.old.window position (is_pad kind) frame_length }
 {
     let geometry = image.identity().geometry();
     if crosses_term(&geometry, position, align32(frame_length)) {
@@ -113,5 +109,12 @@ pub(crate) fn judge(
     if position < 0 {
         return Insert::Below;
     }
-    judge_inside(image, words, window, position as u64, kind, frame_length)
+    judge_inside(
+        image,
+        &mut inserter.words,
+        inserter.window,
+        position as u64,
+        kind,
+        frame_length,
+    )
 }

@@ -7,7 +7,7 @@ ghost use Rattle.image_rule.specs.Rule.{BeginsAt, Begun, IsKey, dealing_seat, re
 ghost use Rattle.image.specs.Handles.{IsInserterOf, IsReaderOf};
 
 use crate::inserter::hand::Hand;
-use crate::inserter::at_rest::HandAtRest;
+use crate::inserter::store::FrameStore;
 use crate::reader::ImageReader;
 use crate::words::image::Image;
 use crate::reader::standing::Standing;
@@ -61,7 +61,7 @@ pub(crate) fn open_words(
     identity: Identity,
     join: u64,
     consumers: u64,
-) -> Result<(Image, HandAtRest), AllocError>
+) -> Result<(Image, FrameStore), AllocError>
     requires unit { join % 32 ≡ 0 }
     requires within { join ≤ max_position identity.geometry }
     requires some { 0 < consumers }
@@ -85,7 +85,7 @@ pub(crate) fn open_words(
         words: Words { table, key, units },
     };
     let hand = Hand { seat, floor };
-    Ok((image, HandAtRest { hand, key }))
+    Ok((image, FrameStore { hand, key }))
 }
 
 /// The last reader that the inserter has.
@@ -111,7 +111,7 @@ fn deal_as<N: Chosen>(image: &Words, hand: &mut Hand, number: u64, join: u64) ->
 }
 
 /// The last reader that the inserter has, with this number. It stands at the join.
-pub(crate) fn deal_reader(image: &Image, inserter: &mut HandAtRest, number: u64) -> ImageReader
+pub(crate) fn deal_reader(image: &Image, inserter: &mut FrameStore, number: u64) -> ImageReader
     requires fits { IsInserterOf image.now inserter.old }
     requires few { number < 8 }
     requires some { inserter.old.view.undealt ≡ suc number }

@@ -11,7 +11,7 @@ ghost use Rattle.image.specs.Inserting.{Stores};
 ghost use Rattle.image.specs.Runs.{AreBelow, IsRun};
 ghost use Rattle.image.specs.Rebuilding.{AreLaid, FitsIn};
 
-use crate::inserter::at_rest::HandAtRest;
+use crate::inserter::store::FrameStore;
 use crate::inserter::looking::{head_at, starts_at};
 use crate::inserter::storing::store_frame;
 use crate::words::image::Image;
@@ -19,7 +19,7 @@ use frames::Frame;
 use position::{FrameHead, FrameKind, UNFRAGMENTED, align32};
 
 /// Stores a frame that fits.
-pub(crate) fn put(image: &Image, words: &mut HandAtRest, start: u64, frame: &Frame<'_>)
+pub(crate) fn put(image: &Image, words: &mut FrameStore, start: u64, frame: &Frame<'_>)
     requires fits { seats.IsInserterOf image.now words.old }
     requires frame { IsFrame (wire frame.now) }
     requires of_stream { IsOfStream frame.now }
@@ -52,7 +52,7 @@ pub(crate) fn put(image: &Image, words: &mut HandAtRest, start: u64, frame: &Fra
 /// The end of what was stored without a gap, which lies from a position on, at the high-water mark or below.
 pub(crate) fn run_end(
     image: &Image,
-    words: &mut HandAtRest,
+    words: &mut FrameStore,
     from: u64,
     high_water: u64,
 ) -> u64

@@ -15,7 +15,7 @@ ghost use Rattle.image.specs.Inserting.{MayStore, Stores, kind_number, placed_by
 
 use crate::inserter::draft::Draft;
 use crate::inserter::hand::{Hand, fetch_as, store_as};
-use crate::inserter::at_rest::HandAtRest;
+use crate::inserter::store::FrameStore;
 use crate::words::image::Image;
 use crate::words::mask::mask;
 use crate::inserter::spelling::write_words;
@@ -169,7 +169,7 @@ fn payload_in<'a>(head: &FrameHead, payload: &'a [u8]) -> &'a [u8]
 /// Stores a frame that lies at or above the floor, at most three terms above it, where none of its units was stored: a DATA
 /// frame with this payload, or a padding. It counts as stored from the store of its first unit's held bit on, which comes
 /// last.
-pub(crate) fn store_frame(image: &Image, inserter: &mut HandAtRest, head: &FrameHead, payload: &[u8])
+pub(crate) fn store_frame(image: &Image, inserter: &mut FrameStore, head: &FrameHead, payload: &[u8])
     requires fits { IsInserterOf image.now inserter.old }
     requires may { MayStore inserter.old head.now payload.now }
     ensures fits { IsInserterOf image.now inserter.new }

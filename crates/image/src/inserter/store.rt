@@ -1,4 +1,4 @@
-//! The inserter's hand between two calls.
+//! The frames of an image, as who stores them has them between two calls.
 
 ghost use Rattle.std.specs.Prelude.{◌≡◌, ◌*◌};
 ghost use Rattle.image.specs.Handles.{IsInserting, floor_of};
@@ -9,13 +9,13 @@ use std::marker::Model;
 
 /// Who stores the words of an image, between two calls: the bits from the floor on are those of what was stored.
 #[derive(Drop)]
-pub(crate) struct HandAtRest {
+pub(crate) struct FrameStore {
     pub(crate) hand: Hand,
     /// What the image's table was told.
     pub(crate) key: Key,
 }
 
-impl Model for HandAtRest {
+impl Model for FrameStore {
     ghost use Rattle.image.specs.Handles.{InserterSeat, IsInserting};
 
     ghost Value = { InserterSeat };
@@ -25,7 +25,7 @@ impl Model for HandAtRest {
     ghost invariant = { λ n. IsInserting n.key n.hand.seat.me.0 };
 }
 
-impl HandAtRest {
+impl FrameStore {
     /// The position below which nothing is held any more: the least that was cleared to, or the join. What holds of each
     /// inserter at rest: the image's bits from here on are those of the frames that were stored.
     pub(crate) fn floor(&self) -> u64

@@ -5,7 +5,7 @@ use Rattle.image_rule.specs.Reads.{Meets}
 use Rattle.image_rule.specs.Rule.{attending_seat, told_seat}
 use Rattle.image_rule.specs.Steps.{Mine}
 use Rattle.image_rule.proofs.Dealing.{attends, confirm, findings, meets, news, settle, tells}
-use Rattle.image.proofs.meeting.learning.learn.Goals as goal
+use Rattle.image.proofs.meeting.learn.Goals as goal
 
 pub split_seat-news-requires : goal.split_seat-news-requires
 split_seat-news-requires c = let i = c.image.inside.words in let n = c.inserter.inside.hand in let wide = i.wide in (search rules, omega arith, news i.table.shared.key _ n.seat.me.0 n.inserts)
