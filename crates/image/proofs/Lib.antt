@@ -22,3 +22,4 @@ pub mod Stores
 pub mod Swept
 pub mod WordBits
 pub mod Worded
+pub mod Units

@@ -22,7 +22,7 @@ key_of identity join consumers = record { identity = identity; join = join / 32;
 abbrev pub first : ImageWords → ℕ → ℕ → ℕ → Inserting
 first image window join consumers = record { of = image.of; key = image.key; window = window; stored = []; high = join; floor = join; seen = replicate consumers join; looks = replicate consumers 0; undealt = consumers }
 
-module _ (image : ImageWords) (n : InserterSeat) (identity : Identity) (join window consumers : ℕ) (key : image.key ≡ key_of identity join consumers) (fits : words.IsInserterOf image n) (whole : n.view ≡ whole_seat image.key) (unit : join % 32 ≡ 0) where
+module _ (image : ImageWords) (n : InserterSeat) (identity : Identity) (join window consumers : ℕ) (key : image.key ≡ key_of identity join consumers) (fits : words.IsStoreOf image n) (whole : n.view ≡ whole_seat image.key) (unit : join % 32 ≡ 0) where
   whole_view : n.view ≡ whole_seat (key_of identity join consumers)
   whole_view = whole ∙ ap whole_seat key
 

@@ -27,7 +27,7 @@ pub record ReaderSeat : Type 0 where
   pub view : View
   pub read_to : ℕ
 
-pub record IsInserterOf (image : ImageWords) (n : InserterSeat) : Type 0 where
+pub record IsStoreOf (image : ImageWords) (n : InserterSeat) : Type 0 where
   pub of : n.of ≡ image.of
   pub key : n.key ≡ image.key
 

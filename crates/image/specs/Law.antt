@@ -1,10 +1,11 @@
 -- What the calls of an inserter are to the images of the definitions.
-use Rattle.std.specs.Prelude.{◌≡◌, ℕ, ◌<◌, ◌≤◌, ⊤, true, false, List, [], ◌∷◌, length, map, pos}
+use Rattle.std.specs.Prelude.{◌≡◌, ℕ, ◌<◌, ◌≤◌, ◌⊎◌, ◌↔◌, ⊤, true, false, List, [], ◌∷◌, length, map, pos}
 use Rattle.std.specs.List.{AllByRecursion}
 use Rattle.theory.specs.Consumer.{Consumer}
 use Rattle.theory.specs.Image.{Heartbeat, Image, ImageEvent, ImageStep, Inserted}
 use Rattle.theory.specs.Insert.{head_of, insert_answer}
 use Rattle.theory.specs.Placed.{Placed}
+use Rattle.theory.specs.Units.{HasUnit, IsContiguous}
 use Rattle.image.specs.declared.answer.Insert.{Insert}
 use Rattle.image.specs.declared.answer.Insert.TheVariants as answers
 use Rattle.image.specs.Seen.{accepts, least}
@@ -48,3 +49,11 @@ InsertsAreEvents = (i j : Inserting) (s : Placed) (a : Insert) (o : Image) → H
 abbrev pub BeatsAreEvents : Type 0
 BeatsAreEvents = (i j : Inserting) (p : ℕ) (o : Image) → HasSeen j → Shows (record i { seen = j.seen }) o
     → (accepts (geometry_of i) i.high (least j.seen) (pos p) ≡ true → Looked i i.stored p j) → (accepts (geometry_of i) i.high (least j.seen) (pos p) ≡ false → Looked i i.stored i.high j) → IsEvent j o [] (Heartbeat (least j.seen) (pos p))
+
+-- the units are those that were stored and those of the frame
+abbrev pub StoringAddsUnits : Type 0
+StoringAddsUnits = (s : Placed) (frames : List Placed) (p : ℕ) → HasUnit (s ∷ frames) p ↔ (HasUnit frames p ⊎ HasUnit (s ∷ []) p)
+
+-- whatever the frames are
+abbrev pub MoreUnitsReachFurther : Type 0
+MoreUnitsReachFurther = (old new : List Placed) (j p q : ℕ) → ((u : ℕ) → HasUnit old u → HasUnit new u) → IsContiguous old j p → IsContiguous new j q → p ≤ q

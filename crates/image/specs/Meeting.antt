@@ -1,5 +1,5 @@
 -- An inserter and a reader that meet, and one that is in one hand with the one reader.
-use Rattle.std.specs.Prelude.{◌≡◌, ◌↔◌, ℕ, ◌+◌, ◌*◌, ◌<◌, ◌≤◌, max, [], ◌∷◌, List, slice_index, slice_set}
+use Rattle.std.specs.Prelude.{◌≡◌, ◌↔◌, ℕ, ◌+◌, ◌*◌, ◌<◌, ◌≤◌, [], ◌∷◌, List, slice_index, slice_set}
 use Rattle.position.specs.declared.head.FrameHead.{FrameHead}
 use Rattle.position.specs.declared.head.FrameKind.TheVariants.{Data}
 use Rattle.theory.specs.Placed.{Among, Placed, covered, end_of}

@@ -10,7 +10,6 @@ ghost use Rattle.image.specs.Seen.{IsCount, IsFit, IsJoin, least};
 ghost use Rattle.image.specs.Handles.{IsReaderOf, position_of};
 ghost use Rattle.image.specs.Rebuilding.{IsInserterOf, Looked, geometry_of, join_of};
 
-pub(crate) mod store;
 pub(crate) mod clearing;
 pub(crate) mod draft;
 pub(crate) mod gap;
@@ -21,12 +20,13 @@ pub(crate) mod looking;
 pub(crate) mod opening;
 pub(crate) mod putting;
 pub(crate) mod spelling;
+pub(crate) mod store;
 pub(crate) mod storing;
 
 use crate::fault::{CONSUMERS, ImageError};
-use crate::inserter::store::FrameStore;
 use crate::inserter::clearing::{clear_to, sweep};
 use crate::inserter::opening::{deal_reader, open_words};
+use crate::inserter::store::FrameStore;
 use crate::reader::ImageReader;
 use crate::words::image::Image;
 use position::Identity;

@@ -12,7 +12,7 @@
 //! A reader reads the frame where it stands (`read`) and moves behind it (`advance`). Where it and the inserter meet (`meet`),
 //! the reader knows just the frames that were stored, and the inserter has seen it where it stands. So where one hand has
 //! both, `read_past` is exact. What `insert` and `heartbeat` say is an event of the definitions' image
-//! (`calls_are_events`).
+//! (`calls_are_events`), and with more units the contiguous end is no smaller (`units_grow`).
 #![tactic(auto)]
 
 mod answer;
@@ -32,7 +32,7 @@ pub use fault::{CONSUMERS, ImageError};
 pub use inserter::gap::{first_gap, held_word};
 pub use inserter::inserting::{heartbeat, insert};
 pub use inserter::{Inserter, deal, least, open};
-pub use law::calls_are_events;
+pub use law::{calls_are_events, units_grow};
 pub use meeting::meet;
 pub use reader::ImageReader;
 pub use reader::alone::read_past;

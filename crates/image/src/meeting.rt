@@ -17,8 +17,8 @@ use image_rule::{Attend, Confirm, Findings, News, Settle, Tell};
 /// it knew was stored by this inserter, and that the inserter has seen it where it stands.
 fn learn(image: &Image, reader: &mut ImageReader, inserter: &mut FrameStore)
     requires reader { IsReaderOf image.now reader.old }
-    requires inserter { seats.IsInserterOf image.now inserter.old }
-    ensures fits { IsReaderOf image.now reader.new × seats.IsInserterOf image.now inserter.new }
+    requires inserter { seats.IsStoreOf image.now inserter.old }
+    ensures fits { IsReaderOf image.now reader.new × seats.IsStoreOf image.now inserter.new }
     ensures meets { rule.Meets inserter.old.view reader.old.view inserter.new.view reader.new.view }
     ensures inserter { inserter.new ≡ record inserter.old { view = inserter.new.view } }
     ensures reader { reader.new ≡ record reader.old { view = reader.new.view } }

@@ -13,4 +13,4 @@ pub mod Dealing
 pub mod Found
 pub mod Units
 pub mod Events
-pub mod Misses
+pub mod MissRows

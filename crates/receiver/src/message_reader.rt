@@ -85,7 +85,8 @@ impl MessageReader {
 
     /// Reads on behind the message that was given last, up to the frame that completes the next one, at which its reader then
     /// stands until it passes it, or until no frame is left: none then. The fault is `A2` exactly where the message would be
-    /// longer than the greatest, else `A1`; its reader has passed that frame. It takes no lock, and looks once for each frame.
+    /// longer than the greatest, else `A1`; its reader has passed that frame. It takes no lock, and looks once for each frame and,
+    /// where it answers none, once more.
     pub fn next(&mut self) -> Result<Option<Message<Global>>, AssemblyError>
         ensures answers { Answers self.old result self.new }
         ensures small { IfOk result (λ m. IfSome m (λ m. length m.bytes.items ≤ self.old.assembler.greatest)) }

@@ -27,7 +27,10 @@ use crate::positions::Positions;
 use crate::readers::Readers;
 use block::Block;
 use frames::{Frame, Header};
-use image::{Image, ImageError, ImageReader, Insert, Inserter, Steps, first_gap, heartbeat, insert, least, meet, read_past};
+use image::{
+    Image, ImageError, ImageReader, Insert, Inserter, Steps, first_gap, heartbeat, insert, least,
+    meet, read_past,
+};
 use position::{FrameHead, Gap, Geometry, Identity};
 use std::alloc::{AllocError, Global};
 use std::marker::Model;

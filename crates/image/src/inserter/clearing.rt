@@ -3,14 +3,14 @@
 ghost use Rattle.std.specs.Prelude.{◌≡◌, ℕ, ◌+◌, ◌*◌, ◌/◌, ◌%◌, ◌^◌, ◌<◌, ◌≤◌, length, slice_index};
 ghost use Rattle.image_rule.specs.Frames.{image_length, ring};
 ghost use Rattle.image_rule.specs.Bits.{Cleared, DropsBits, IsExact, MayDrop, MayRise, Sweeps};
-ghost use Rattle.image.specs.Handles.{IsInserterOf, floor_of};
+ghost use Rattle.image.specs.Handles.{IsStoreOf, floor_of};
 ghost use Rattle.image.specs.Inserting.{ClearedTo, MayClearTo, Swept};
 
 use crate::inserter::hand::{Hand, change_as, fetch_as, see_as};
 use crate::inserter::store::FrameStore;
+use crate::words::Words;
 use crate::words::image::Image;
 use crate::words::mask::mask;
-use crate::words::Words;
 use image_rule::Changing;
 use std::marker::Brand;
 
@@ -101,8 +101,8 @@ fn clear_units(image: &Words, hand: &mut Hand, to: u64)
 /// Loads the position of each consumer once. The answer is the least, in bytes; no frame lies on both sides of it, and all
 /// from the floor to it was stored.
 pub(crate) fn sweep(image: &Image, inserter: &mut FrameStore) -> u64
-    requires fits { IsInserterOf image.now inserter.old }
-    ensures fits { IsInserterOf image.now inserter.new }
+    requires fits { IsStoreOf image.now inserter.old }
+    ensures fits { IsStoreOf image.now inserter.new }
     ensures swept { Swept inserter.old result inserter.new }
 {
     let _ = &image.words;
@@ -112,9 +112,9 @@ pub(crate) fn sweep(image: &Image, inserter: &mut FrameStore) -> u64
 
 /// Clears the bits of all units below a position, where each consumer was seen there or further on. It is the floor then.
 pub(crate) fn clear_to(image: &Image, inserter: &mut FrameStore, floor: u64)
-    requires fits { IsInserterOf image.now inserter.old }
+    requires fits { IsStoreOf image.now inserter.old }
     requires may { MayClearTo inserter.old floor }
-    ensures fits { IsInserterOf image.now inserter.new }
+    ensures fits { IsStoreOf image.now inserter.new }
     ensures cleared { ClearedTo inserter.old floor inserter.new }
 {
     let _ = &image.words;

@@ -11,9 +11,9 @@ ghost use Rattle.image.specs.Rebuilding.{FitsIn, Inserts, IsInserterOf, Looked, 
 
 use crate::answer::Insert;
 use crate::held::{covered, measure};
-use crate::inserter::{Inserter, least};
 use crate::inserter::judging::judge;
 use crate::inserter::putting::{put, run_end};
+use crate::inserter::{Inserter, least};
 use crate::words::image::Image;
 use frames::Frame;
 

@@ -14,8 +14,8 @@ ghost use Rattle.image.specs.Rebuilding.{AreLaid, IsInserterOf, geometry_of};
 use crate::answer::Insert;
 use crate::held::{crosses_term, is_like};
 use crate::inserter::Inserter;
-use crate::inserter::store::FrameStore;
 use crate::inserter::looking::{head_at, is_free, starts_at};
+use crate::inserter::store::FrameStore;
 use crate::words::image::Image;
 use position::{FrameKind, align32};
 
@@ -27,7 +27,7 @@ fn has_like(
     kind: FrameKind,
     frame_length: u32,
 ) -> bool
-    requires fits { seats.IsInserterOf image.now words.old }
+    requires fits { seats.IsStoreOf image.now words.old }
     requires laid { AreLaid (stored_by words.old) }
     requires unit { start % 32 ≡ 0 }
     requires from { floor_of words.old ≤ start }
@@ -53,7 +53,7 @@ fn judge_inside(
     kind: FrameKind,
     frame_length: u32,
 ) -> Insert
-    requires fits { seats.IsInserterOf image.now words.old }
+    requires fits { seats.IsStoreOf image.now words.old }
     requires laid { AreLaid (stored_by words.old) }
     requires low { floor_of words.old ≤ max_position words.old.key.identity.geometry }
     requires window { window ≤ words.old.key.identity.geometry.term_length / 2 }

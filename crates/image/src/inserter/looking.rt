@@ -4,14 +4,14 @@ ghost use Rattle.std.specs.Prelude.{◌≡◌, ◌+◌, ◌*◌, ◌/◌, ◌%�
 ghost use Rattle.image_rule.specs.Frames.{HasStart, ring};
 ghost use Rattle.image_rule.specs.Bits as bits;
 ghost use Rattle.image_rule.specs.Bits.{IsExact};
-ghost use Rattle.image.specs.Handles.{IsInserterOf, floor_of, stored_by};
+ghost use Rattle.image.specs.Handles.{IsStoreOf, floor_of, stored_by};
 ghost use Rattle.image.specs.Looking.{AreFree, IsFirstWord, IsHeadOf, TellsUnits};
 
 use crate::inserter::hand::{Hand, fetch_as};
 use crate::inserter::store::FrameStore;
+use crate::words::Words;
 use crate::words::image::Image;
 use crate::words::mask::mask;
-use crate::words::Words;
 use frame_words::head_in;
 use position::FrameHead;
 use std::marker::Brand;
@@ -43,7 +43,7 @@ fn units_free(image: &Words, hand: &mut Hand, from: u64, to: u64) -> bool
 
 /// Whether none of the units between two positions was stored, from the floor on and at most three terms above it.
 pub(crate) fn is_free(image: &Image, inserter: &mut FrameStore, from: u64, to: u64) -> bool
-    requires fits { IsInserterOf image.now inserter.old }
+    requires fits { IsStoreOf image.now inserter.old }
     requires units { (from % 32 ≡ 0) × (to % 32 ≡ 0) }
     requires low { floor_of inserter.old ≤ from }
     requires near { to ≤ floor_of inserter.old + 3 * inserter.old.key.identity.geometry.term_length }
@@ -58,7 +58,7 @@ pub(crate) fn is_free(image: &Image, inserter: &mut FrameStore, from: u64, to: u
 /// A word of the bits that say which units were stored, 64 in a word: bit `p % 2048 / 32` of word `p % (3 * T) / 2048` is
 /// set exactly where the unit at p was stored, for each p from the floor on, below three terms T more.
 pub(crate) fn held_bits(image: &Image, inserter: &mut FrameStore, index: usize) -> u64
-    requires fits { IsInserterOf image.now inserter.old }
+    requires fits { IsStoreOf image.now inserter.old }
     requires index { index < 3 * inserter.old.key.identity.geometry.term_length / 2048 }
     ensures same { inserter.new ≡ inserter.old }
     ensures units { TellsUnits inserter.old index result }
@@ -70,7 +70,7 @@ pub(crate) fn held_bits(image: &Image, inserter: &mut FrameStore, index: usize) 
 
 /// Whether a frame that was stored starts at a position from the floor on, below three terms more.
 pub(crate) fn starts_at(image: &Image, inserter: &mut FrameStore, position: u64) -> bool
-    requires fits { IsInserterOf image.now inserter.old }
+    requires fits { IsStoreOf image.now inserter.old }
     requires unit { position % 32 ≡ 0 }
     requires low { floor_of inserter.old ≤ position }
     requires near { position < floor_of inserter.old + 3 * inserter.old.key.identity.geometry.term_length }
@@ -87,7 +87,7 @@ pub(crate) fn starts_at(image: &Image, inserter: &mut FrameStore, position: u64)
 
 /// The first word of the frame that was stored at a position from the floor on.
 pub(crate) fn first_word_at(image: &Image, inserter: &mut FrameStore, position: u64) -> u64
-    requires fits { IsInserterOf image.now inserter.old }
+    requires fits { IsStoreOf image.now inserter.old }
     requires unit { position % 32 ≡ 0 }
     requires low { floor_of inserter.old ≤ position }
     requires below { position < 2 ^ 62 }
@@ -103,7 +103,7 @@ pub(crate) fn first_word_at(image: &Image, inserter: &mut FrameStore, position: 
 
 /// The head of the frame that was stored at a position from the floor on.
 pub(crate) fn head_at(image: &Image, inserter: &mut FrameStore, position: u64) -> FrameHead
-    requires fits { IsInserterOf image.now inserter.old }
+    requires fits { IsStoreOf image.now inserter.old }
     requires unit { position % 32 ≡ 0 }
     requires low { floor_of inserter.old ≤ position }
     requires below { position < 2 ^ 62 }

@@ -4,13 +4,13 @@ ghost use Rattle.std.specs.Prelude.{◌≡◌, [], ◌+◌, ◌-◌, ◌*◌, �
 ghost use Rattle.theory.specs.Position.{max_position};
 ghost use Rattle.image_rule.specs.Frames.{ring};
 ghost use Rattle.image_rule.specs.Rule.{BeginsAt, Begun, IsKey, dealing_seat, reader_seat, whole_seat};
-ghost use Rattle.image.specs.Handles.{IsInserterOf, IsReaderOf};
+ghost use Rattle.image.specs.Handles.{IsStoreOf, IsReaderOf};
 
 use crate::inserter::hand::Hand;
 use crate::inserter::store::FrameStore;
 use crate::reader::ImageReader;
-use crate::words::image::Image;
 use crate::reader::standing::Standing;
+use crate::words::image::Image;
 use crate::words::{IMAGE, Words};
 use atomic_table::Table;
 use image_rule::{Chosen, Deal, Key};
@@ -67,7 +67,7 @@ pub(crate) fn open_words(
     requires some { 0 < consumers }
     requires few { consumers ≤ 8 }
     ensures key { IfOk result (λ r. r.0.key ≡ record { identity = identity; join = join / 32; consumers = consumers }) }
-    ensures fits { IfOk result (λ r. IsInserterOf r.0 r.1) }
+    ensures fits { IfOk result (λ r. IsStoreOf r.0 r.1) }
     ensures whole { IfOk result (λ r. r.1.view ≡ whole_seat r.0.key) }
 {
     // What always holds of it, for the proof.
@@ -112,10 +112,10 @@ fn deal_as<N: Chosen>(image: &Words, hand: &mut Hand, number: u64, join: u64) ->
 
 /// The last reader that the inserter has, with this number. It stands at the join.
 pub(crate) fn deal_reader(image: &Image, inserter: &mut FrameStore, number: u64) -> ImageReader
-    requires fits { IsInserterOf image.now inserter.old }
+    requires fits { IsStoreOf image.now inserter.old }
     requires few { number < 8 }
     requires some { inserter.old.view.undealt ≡ suc number }
-    ensures fits { IsInserterOf image.now inserter.new × IsReaderOf image.now result }
+    ensures fits { IsStoreOf image.now inserter.new × IsReaderOf image.now result }
     ensures left { inserter.new ≡ record inserter.old { view = dealing_seat inserter.old.view } }
     ensures reader { result ≡ record { of = inserter.old.of; view = reader_seat image.now.key.join inserter.old.view; read_to = image.now.key.join } }
 {

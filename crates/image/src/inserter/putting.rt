@@ -11,8 +11,8 @@ ghost use Rattle.image.specs.Inserting.{Stores};
 ghost use Rattle.image.specs.Runs.{AreBelow, IsRun};
 ghost use Rattle.image.specs.Rebuilding.{AreLaid, FitsIn};
 
-use crate::inserter::store::FrameStore;
 use crate::inserter::looking::{head_at, starts_at};
+use crate::inserter::store::FrameStore;
 use crate::inserter::storing::store_frame;
 use crate::words::image::Image;
 use frames::Frame;
@@ -20,7 +20,7 @@ use position::{FrameHead, FrameKind, UNFRAGMENTED, align32};
 
 /// Stores a frame that fits.
 pub(crate) fn put(image: &Image, words: &mut FrameStore, start: u64, frame: &Frame<'_>)
-    requires fits { seats.IsInserterOf image.now words.old }
+    requires fits { seats.IsStoreOf image.now words.old }
     requires frame { IsFrame (wire frame.now) }
     requires of_stream { IsOfStream frame.now }
     requires may { FitsIn words.old.key.identity.geometry (floor_of words.old) (stored_by words.old) (record { at = start; frame = stream_frame frame.now }) }
@@ -50,13 +50,8 @@ pub(crate) fn put(image: &Image, words: &mut FrameStore, start: u64, frame: &Fra
 }
 
 /// The end of what was stored without a gap, which lies from a position on, at the high-water mark or below.
-pub(crate) fn run_end(
-    image: &Image,
-    words: &mut FrameStore,
-    from: u64,
-    high_water: u64,
-) -> u64
-    requires fits { seats.IsInserterOf image.now words.old }
+pub(crate) fn run_end(image: &Image, words: &mut FrameStore, from: u64, high_water: u64) -> u64
+    requires fits { seats.IsStoreOf image.now words.old }
     requires laid { AreLaid (stored_by words.old) }
     requires below { AreBelow (stored_by words.old) high_water }
     requires near { high_water < floor_of words.old + 3 * words.old.key.identity.geometry.term_length }

@@ -30,12 +30,7 @@ fn write_word(image: &Words, hand: &mut Hand, place: usize, unit: u64, index: u6
 }
 
 /// Stores the words of the header of a frame that may be inserted. They lie in one unit, so the ring doesn't end among them.
-fn write_header(
-    image: &Words,
-    hand: &mut Hand,
-    place: usize,
-    draft: &Draft<'_>,
-)
+fn write_header(image: &Words, hand: &mut Hand, place: usize, draft: &Draft<'_>)
     requires fits { hand.old.seat.table_id ≡ image.now.table.shared.table_id }
     requires there { place ≡ data_place (ring image.now.key) (4 * draft.now.unit) }
     requires in_stream { 32 * draft.now.unit ≤ max_position image.now.key.identity.geometry }
@@ -85,13 +80,7 @@ fn write_stretch(
 
 /// Stores four words of the payload of a frame that may be inserted, those of one unit, which has this place, where all before
 /// them are stored. The ring doesn't end among them.
-fn write_unit(
-    image: &Words,
-    hand: &mut Hand,
-    place: usize,
-    index: usize,
-    draft: &Draft<'_>,
-)
+fn write_unit(image: &Words, hand: &mut Hand, place: usize, index: usize, draft: &Draft<'_>)
     requires fits { hand.old.seat.table_id ≡ image.now.table.shared.table_id }
     requires there { place ≡ data_place (ring image.now.key) (4 * draft.now.unit + (4 + 4 * index)) }
     requires inside { 32 * index + 32 ≤ length draft.now.payload.now }
@@ -107,21 +96,37 @@ fn write_unit(
     let word = whole_word(draft.payload, 8 * at);
     write_word(image, hand, place, draft.unit, 4 + at as u64, word);
     let second = whole_word(draft.payload, 8 * (at + 1));
-    write_word(image, hand, place + 1, draft.unit, 4 + (at + 1) as u64, second);
+    write_word(
+        image,
+        hand,
+        place + 1,
+        draft.unit,
+        4 + (at + 1) as u64,
+        second,
+    );
     let third = whole_word(draft.payload, 8 * (at + 2));
-    write_word(image, hand, place + 2, draft.unit, 4 + (at + 2) as u64, third);
+    write_word(
+        image,
+        hand,
+        place + 2,
+        draft.unit,
+        4 + (at + 2) as u64,
+        third,
+    );
     let fourth = whole_word(draft.payload, 8 * (at + 3));
-    write_word(image, hand, place + 3, draft.unit, 4 + (at + 3) as u64, fourth);
+    write_word(
+        image,
+        hand,
+        place + 3,
+        draft.unit,
+        4 + (at + 3) as u64,
+        fourth,
+    );
 }
 
 /// Stores the payload of a frame that may be inserted as far as it fills units, where the header is stored, which has this
 /// place. The answer is the place of the unit behind these.
-fn write_units(
-    image: &Words,
-    hand: &mut Hand,
-    place: usize,
-    draft: &Draft<'_>,
-) -> usize
+fn write_units(image: &Words, hand: &mut Hand, place: usize, draft: &Draft<'_>) -> usize
     requires fits { hand.old.seat.table_id ≡ image.now.table.shared.table_id }
     requires there { place ≡ data_place (ring image.now.key) (4 * draft.now.unit) }
     requires low { draft.now.unit ≤ 2 ^ 56 }
@@ -147,12 +152,7 @@ fn write_units(
 
 /// Stores the whole words of the payload of a frame that may be inserted, where the header is stored, which has this place. The
 /// answer is the place of the word behind these, which lies in a unit with those behind the last whole unit.
-fn write_whole(
-    image: &Words,
-    hand: &mut Hand,
-    place: usize,
-    draft: &Draft<'_>,
-) -> usize
+fn write_whole(image: &Words, hand: &mut Hand, place: usize, draft: &Draft<'_>) -> usize
     requires fits { hand.old.seat.table_id ≡ image.now.table.shared.table_id }
     requires there { place ≡ data_place (ring image.now.key) (4 * draft.now.unit) }
     requires low { draft.now.unit ≤ 2 ^ 56 }
@@ -174,12 +174,7 @@ fn write_whole(
 }
 
 /// Stores the words of a frame that may be inserted, whose first word has this place.
-pub(crate) fn write_words(
-    image: &Words,
-    hand: &mut Hand,
-    place: usize,
-    draft: &Draft<'_>,
-)
+pub(crate) fn write_words(image: &Words, hand: &mut Hand, place: usize, draft: &Draft<'_>)
     requires fits { hand.old.seat.table_id ≡ image.now.table.shared.table_id }
     requires there { place ≡ data_place (ring image.now.key) (4 * draft.now.unit) }
     requires in_stream { 32 * draft.now.unit ≤ max_position image.now.key.identity.geometry }

@@ -9,17 +9,17 @@ ghost use Rattle.theory.specs.Wire.{front};
 ghost use Rattle.position.specs.declared.head.FrameKind.TheVariants as kinds;
 ghost use Rattle.image_rule.specs.Frames.{Shows, held_place, image_length, ring, start_place};
 ghost use Rattle.image_rule.specs.Bits.{IsExact, Marked, MayInsert, MaySet, SetsBits, Stored, next_word, rest_end};
-ghost use Rattle.image.specs.Handles.{IsInserterOf};
+ghost use Rattle.image.specs.Handles.{IsStoreOf};
 ghost use Rattle.image.specs.Spelled.{drafted};
 ghost use Rattle.image.specs.Inserting.{MayStore, Stores, kind_number, placed_by};
 
 use crate::inserter::draft::Draft;
 use crate::inserter::hand::{Hand, fetch_as, store_as};
+use crate::inserter::spelling::write_words;
 use crate::inserter::store::FrameStore;
+use crate::words::Words;
 use crate::words::image::Image;
 use crate::words::mask::mask;
-use crate::inserter::spelling::write_words;
-use crate::words::Words;
 use frame_words::first_word;
 use image_rule::Changing;
 use position::{FrameHead, FrameKind, align32};
@@ -44,12 +44,7 @@ fn set_bits_as<N: Changing>(image: &Words, hand: &mut Hand, place: usize, at: u6
 }
 
 /// Sets a frame's start bit, in the word at this place.
-fn set_start(
-    image: &Words,
-    hand: &mut Hand,
-    place: usize,
-    draft: &Draft<'_>,
-)
+fn set_start(image: &Words, hand: &mut Hand, place: usize, draft: &Draft<'_>)
     requires fits { hand.old.seat.table_id ≡ image.now.table.shared.table_id }
     requires there { place ≡ start_place (ring image.now.key) draft.now.unit }
     requires inside { place < image_length (ring image.now.key) }
@@ -85,12 +80,7 @@ fn mark_rest(image: &Words, hand: &mut Hand, draft: &Draft<'_>)
 }
 
 /// Sets the bits of a frame's units that lie in its first unit's word, which has this place: from then on it is stored.
-fn set_first_as<N: Changing>(
-    image: &Words,
-    hand: &mut Hand,
-    place: usize,
-    draft: &Draft<'_>,
-)
+fn set_first_as<N: Changing>(image: &Words, hand: &mut Hand, place: usize, draft: &Draft<'_>)
     requires fits { hand.old.seat.table_id ≡ image.now.table.shared.table_id }
     requires there { place ≡ held_place (ring image.now.key) draft.now.unit }
     requires inside { place < image_length (ring image.now.key) }
@@ -107,12 +97,7 @@ fn set_first_as<N: Changing>(
 }
 
 /// Sets the bits of a frame's units that lie in its first unit's word, which has this place: from then on it is stored.
-fn set_first(
-    image: &Words,
-    hand: &mut Hand,
-    place: usize,
-    draft: &Draft<'_>,
-)
+fn set_first(image: &Words, hand: &mut Hand, place: usize, draft: &Draft<'_>)
     requires fits { hand.old.seat.table_id ≡ image.now.table.shared.table_id }
     requires there { place ≡ held_place (ring image.now.key) draft.now.unit }
     requires inside { place < image_length (ring image.now.key) }
@@ -169,10 +154,15 @@ fn payload_in<'a>(head: &FrameHead, payload: &'a [u8]) -> &'a [u8]
 /// Stores a frame that lies at or above the floor, at most three terms above it, where none of its units was stored: a DATA
 /// frame with this payload, or a padding. It counts as stored from the store of its first unit's held bit on, which comes
 /// last.
-pub(crate) fn store_frame(image: &Image, inserter: &mut FrameStore, head: &FrameHead, payload: &[u8])
-    requires fits { IsInserterOf image.now inserter.old }
+pub(crate) fn store_frame(
+    image: &Image,
+    inserter: &mut FrameStore,
+    head: &FrameHead,
+    payload: &[u8],
+)
+    requires fits { IsStoreOf image.now inserter.old }
     requires may { MayStore inserter.old head.now payload.now }
-    ensures fits { IsInserterOf image.now inserter.new }
+    ensures fits { IsStoreOf image.now inserter.new }
     ensures stored { Stores inserter.old (placed_by head.now payload.now) inserter.new }
 {
     let _ = &image.words;

@@ -10,9 +10,9 @@ ghost use Rattle.image.specs.Handles.{IsReaderOf, position_of};
 ghost use Rattle.image.specs.Reading.{Copied, Finds, FindsNone, MayAdvance};
 
 use crate::reader::ImageReader;
-use crate::words::image::Image;
 use crate::reader::standing::{Standing, look, move_as, word_as};
 use crate::words::Words;
+use crate::words::image::Image;
 use block::Block;
 use frame_words::{head_in, put_bytes, put_word};
 use position::{FrameHead, FrameKind, align32};
