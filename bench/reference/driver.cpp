@@ -82,7 +82,7 @@ struct Stage {
     }
 
     // Polls until the tally is complete, and then stops all.
-    void subscribe(SharedImage &image, Tally &tally) {
+    void subscribe(Image &image, Tally &tally) {
         Subscriber subscriber(image, 0);
         auto take = [&](Bytes message) { tally.take(message.data(), message.size()); };
         for (Idle idle; !tally.is_complete();) idle.after(subscriber.poll(take));
@@ -97,7 +97,7 @@ struct Stage {
             std::uint64_t moment = now();
             bool heard = receive(replies, room, [&](Bytes datagram) { receiver.on_datagram(datagram); });
             bool sent = receiver.tick(moment, replies);
-            if (SharedImage *image = receiver.opened()) {
+            if (Image *image = receiver.opened()) {
                 if (!subscriber.joinable()) subscriber = std::thread([&, image] { subscribe(*image, tally); });
                 counters.publish(receiver.positions());
             }

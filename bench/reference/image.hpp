@@ -1,77 +1,186 @@
-// An image: the frames of one stream in the bytes of three cyclic terms, with a bit for each unit at which a frame starts,
-// and for each that a frame covers.
+// An image, which one inserter and its consumers share without a lock, in the words of a table. The words: a consumer's
+// position on a line of its own, then a bit for each unit that a frame covers, one for each at which a frame starts, and four
+// words for each unit's bytes. Each store of held bits publishes, since a reader that finds its bit may find others with it.
 #pragma once
 #include "frames.hpp"
 #include "insert.hpp"
 #include "occupancy.hpp"
-#include <memory>
-#include <vector>
+#include "words.hpp"
+#include <optional>
 
-class Image {
+// It has cache lines of its own: what its inserter counts beside it lies on none that consumers read.
+class alignas(8 * LINE) Image {
+    static constexpr std::size_t BEHIND = 8 * LINE; // eight consumers
+
     Geometry geometry;
-    std::uint32_t window;
-    std::uint64_t least, rebuilt;
-    std::vector<std::uint64_t> consumers;
-    std::unique_ptr<std::uint8_t[]> bytes;
-    Occupancy starts, units;
+    std::uint64_t join;
+    std::size_t consumers;
+    std::size_t bits; // how many words of each of the two kinds
+    Words words;
 
     std::size_t unit(std::uint64_t position) const { return geometry.ring_place(position) / UNIT; }
 
-    Front front_at(std::uint64_t position) const { return fields_at<Front>(&bytes[geometry.ring_place(position)]); }
+    // By the number of a word of bits.
+    Word &held(std::size_t number) { return words[BEHIND + number]; }
+    Word &starts(std::size_t number) { return words[BEHIND + bits + number]; }
 
-    Insert judge(std::int64_t position, const Front &frame) const {
-        std::uint32_t covered = align32(frame.length);
-        if (geometry.offset_of(position) + covered > geometry.term_length) return Insert::CrossesTerm;
-        if (position < static_cast<std::int64_t>(least)) return Insert::Below;
-        std::uint64_t start = position, needed = start + size_on_wire(frame);
-        if (needed > std::min(least + window, geometry.max_position())) return Insert::OverWindow;
-        std::size_t first = unit(start), last = first + covered / UNIT;
-        if (starts.holds(first)) {
-            Front held = front_at(start);
-            if (held.kind == frame.kind && held.length == frame.length) return Insert::Duplicate;
-        }
-        return units.first_set(first, last) < last ? Insert::Overlap : Insert::Stored;
+    // The words of the stream from a position on. They go on up to the end of its term.
+    Word *at(std::uint64_t position) { return &words[BEHIND + 2 * bits + geometry.ring_place(position) / 8]; }
+
+    // Looks once where each consumer stands.
+    std::uint64_t least_consumer() {
+        std::uint64_t least = words[0];
+        for (std::size_t number = 1; number < consumers; number++) least = std::min(least, words[LINE * number].load());
+        return least;
     }
 
-    // Forgets the frames below all consumers.
-    void forget_to(std::uint64_t end) {
-        while (least < end) {
-            std::uint64_t to = std::min(end, geometry.term_end(least));
-            std::size_t from = unit(least), count = (to - least) / UNIT;
-            starts.clear(from, from + count);
-            units.clear(from, from + count);
-            least = to;
-        }
-    }
+    static bool holds(const Word &word, std::size_t unit) { return word >> unit % 64 & 1; }
+
+    static Front front_of(const Word *frame) { return std::bit_cast<Front>(frame->load()); }
 
   public:
-    Image(const Geometry &geometry, std::uint64_t join, std::uint32_t window, std::size_t count)
-        : geometry(geometry), window(window), least(join), rebuilt(join), consumers(count, join),
-          bytes(std::make_unique_for_overwrite<std::uint8_t[]>(3 * std::size_t{geometry.term_length})),
-          starts(3 * geometry.term_length / UNIT), units(3 * geometry.term_length / UNIT) {}
-
-    // Takes a DATA frame or a padding as it stands in a datagram.
-    Insert insert(std::int64_t position, const std::uint8_t *frame) {
-        auto front = fields_at<Front>(frame);
-        Insert answer = judge(position, front);
-        if (answer != Insert::Stored) return answer;
-        std::size_t first = unit(position);
-        std::memcpy(&bytes[first * UNIT], frame, size_on_wire(front));
-        starts.set(first);
-        units.set(first, first + align32(front.length) / UNIT);
-        while (starts.holds(unit(rebuilt))) rebuilt += align32(front_at(rebuilt).length);
-        return answer;
+    Image(const Geometry &geometry, std::uint64_t join, std::size_t consumers)
+        : geometry(geometry), join(join), consumers(consumers), bits(3 * std::size_t{geometry.term_length} / UNIT / 64),
+          words(BEHIND + 2 * bits + 3 * std::size_t{geometry.term_length} / 8) {
+        for (std::size_t number = 0; number < consumers; number++) words[LINE * number] = join;
     }
 
-    // The frame at a consumer's position; null where it stands at the rebuilt one.
-    const std::uint8_t *frame_of(std::size_t consumer) const {
-        std::uint64_t position = consumers[consumer];
-        return position == rebuilt ? nullptr : &bytes[geometry.ring_place(position)];
-    }
+    const Geometry &shape() const { return geometry; }
 
-    // Moves a consumer past the frame at its position, where there is one.
-    void advance(std::size_t consumer) {
-        consumers[consumer] += align32(front_at(consumers[consumer]).length);
-        forget_to(*std::min_element(consumers.begin(), consumers.end()));
-    }
+    // Who stores what the image holds.
+    class Inserter {
+        Image &image;
+        std::uint32_t window;
+        std::uint64_t floor, rebuilt, high_water;
+
+        // Clears the bits of the units from the floor to a position in its term.
+        void clear_to(std::uint64_t end) {
+            std::size_t from = image.unit(floor);
+            each_word(from, from + (end - floor) / UNIT, [&](std::size_t number, std::uint64_t ones) {
+                Word &starts = image.starts(number), &held = image.held(number);
+                starts.store(starts & ~ones, FILLS);
+                held.store(held & ~ones, PUBLISHES);
+            });
+            floor = end;
+        }
+
+        bool starts_at(std::uint64_t position) const {
+            std::size_t unit = image.unit(position);
+            return holds(image.starts(unit / 64), unit);
+        }
+
+        Front front_at(std::uint64_t position) const { return front_of(image.at(position)); }
+
+        // The first unit of a run that is held, or the run's end.
+        std::size_t first_held(std::size_t from, std::size_t to) const {
+            return first_set(from, to, [&](std::size_t number) { return image.held(number).load(); });
+        }
+
+        Insert judge(std::int64_t position, const Front &frame) const {
+            std::uint32_t covered = align32(frame.length);
+            if (image.geometry.offset_of(position) + covered > image.geometry.term_length) return Insert::CrossesTerm;
+            if (position < static_cast<std::int64_t>(floor)) return Insert::Below;
+            std::uint64_t start = position, needed = start + size_on_wire(frame);
+            if (needed > std::min(floor + window, image.geometry.max_position())) return Insert::OverWindow;
+            if (starts_at(start)) {
+                Front stored = front_at(start);
+                if (stored.kind == frame.kind && stored.length == frame.length) return Insert::Duplicate;
+            }
+            std::size_t first = image.unit(start), last = first + covered / UNIT;
+            return first_held(first, last) < last ? Insert::Overlap : Insert::Stored;
+        }
+
+        // Sets a frame's start bit and then its held bits, those of the first word last.
+        void mark(std::size_t first, std::size_t end) {
+            auto hold = [&](std::size_t number, std::uint64_t ones) {
+                Word &held = image.held(number);
+                held.store(held | ones, PUBLISHES);
+            };
+            Word &starts = image.starts(first / 64);
+            starts.store(starts | mask(first % 64, 1), FILLS);
+            std::size_t next = std::min(end, (first / 64 + 1) * 64);
+            each_word(next, end, hold);
+            hold(first / 64, mask(first % 64, next - first));
+        }
+
+        void store(std::uint64_t position, const Front &front, const std::uint8_t *frame) {
+            std::size_t size = front.kind == Kind::Data ? front.length : HEADER, first = image.unit(position);
+            Word *into = image.at(position);
+            for (std::size_t at = 0; at < size; at += 8) (into++)->store(fields_at<std::uint64_t>(frame + at), FILLS);
+            mark(first, first + align32(front.length) / UNIT);
+        }
+
+      public:
+        Inserter(Image &image, std::uint32_t window)
+            : image(image), window(window), floor(image.join), rebuilt(image.join), high_water(image.join) {}
+
+        // As the consumers were seen last.
+        Positions positions() const { return {floor, rebuilt, high_water}; }
+
+        // Looks once where each consumer stands, and clears what all of them have passed. The answer is the least position.
+        std::uint64_t prune() {
+            std::uint64_t least = image.least_consumer();
+            while (floor < least) clear_to(std::min(least, image.geometry.term_end(floor)));
+            return least;
+        }
+
+        // Takes a DATA frame or a padding as it stands in a datagram. The consumers are looked at once.
+        Insert insert(std::int64_t position, const std::uint8_t *frame) {
+            auto front = fields_at<Front>(frame);
+            prune();
+            Insert answer = judge(position, front);
+            if (answer != Insert::Stored) return answer;
+            store(position, front, frame);
+            high_water = std::max(high_water, position + std::uint64_t{align32(front.length)});
+            while (rebuilt < high_water && starts_at(rebuilt)) rebuilt += align32(front_at(rebuilt).length);
+            return answer;
+        }
+
+        // Takes a sender's position, up to three quarters of a term ahead of the consumers, which are looked at once.
+        void heartbeat(std::int64_t position) {
+            std::uint64_t greatest = std::min(prune() + image.geometry.term_length / 4 * 3, image.geometry.max_position());
+            if (position >= 0 && static_cast<std::uint64_t>(position) <= greatest)
+                high_water = std::max(high_water, static_cast<std::uint64_t>(position));
+        }
+
+        // From the rebuilt position to what is held next, the mark or the term's end.
+        std::optional<Gap> first_gap() const {
+            if (rebuilt == high_water) return std::nullopt;
+            std::uint64_t bound = std::min(high_water, image.geometry.term_end(rebuilt));
+            std::size_t from = image.unit(rebuilt), next = first_held(from, from + (bound - rebuilt) / UNIT);
+            return Gap{rebuilt, static_cast<std::uint32_t>(next - from) * UNIT};
+        }
+    };
+
+    // One of the consumers.
+    class Reader {
+        Image &image;
+        Word &told;
+        std::uint64_t position;
+
+      public:
+        Reader(Image &image, std::size_t number)
+            : image(image), told(image.words[LINE * number]), position(image.join) {}
+
+        // Copies the payload of the frame where the consumer stands, in whole words; none where its bit is zero.
+        std::optional<Front> read(std::uint8_t *block) {
+            std::size_t unit = image.unit(position);
+            if (!holds(image.held(unit / 64), unit)) return std::nullopt;
+            const Word *word = image.at(position);
+            Front front = front_of(word);
+            std::int32_t end = front.kind == Kind::Data ? front.length : 0;
+            word += HEADER / 8;
+            for (std::int32_t at = HEADER; at < end; at += 8, block += 8) {
+                std::uint64_t bytes = *word++;
+                std::memcpy(block, &bytes, 8);
+            }
+            return front;
+        }
+
+        // Moves the consumer past a frame that it has read.
+        void advance(const Front &front) {
+            position += align32(front.length);
+            told.store(position, PUBLISHES);
+        }
+    };
 };

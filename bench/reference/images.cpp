@@ -1,5 +1,4 @@
-// Inserts frames of 1,408 bytes into an image and reads them, of which some come eight frames late, and prints the time for
-// each.
+// Inserts frames into an image and reads each at once, and prints the time for each frame.
 #include "image.hpp"
 #include <array>
 #include <chrono>
@@ -8,62 +7,51 @@
 
 using Clock = std::chrono::steady_clock;
 
-constexpr std::uint32_t SIZE = 1408;
 constexpr std::int32_t ID = 7;
-constexpr std::uint64_t LATE = 8, NONE = ~std::uint64_t{0};
+constexpr std::uint32_t TERM = 65'536;
 
 struct Figures {
     std::uint64_t sum = 0, stored = 0;
 };
 
-// Inserts so many data frames, each read as soon as all before it have come. The result is a sum of what was read, and how
-// many frames were stored.
-Figures run(Image &image, std::uint64_t term, std::uint64_t frames, std::uint64_t missing) {
+// Gives an image that begins at 0 so many data frames of this length, and reads each at once.
+Figures run(std::uint32_t length, std::uint64_t frames) {
+    Image image({TERM, 1408, ID}, 0, 1);
+    Image::Inserter inserter(image, TERM / 2);
+    Image::Reader reader(image, 0);
     Figures figures;
-    std::array<std::uint8_t, SIZE> data, block{};
+    std::array<std::uint8_t, 1408> data, block{};
     data.fill(97);
-    DataHeader header{{SIZE, 0, UNFRAGMENTED, Kind::Data}, 0, 7, 1001, ID, 0};
+    DataHeader header{{static_cast<std::int32_t>(length), 0, UNFRAGMENTED, Kind::Data}, 0, 7, 1001, ID, 0};
     std::memcpy(data.data(), &header, sizeof header);
-    auto insert = [&](std::uint64_t position, const std::uint8_t *frame) {
-        if (image.insert(static_cast<std::int64_t>(position), frame) == Insert::Stored) figures.stored++;
+    auto pass = [&](std::uint64_t position, const std::uint8_t *frame) {
+        if (inserter.insert(static_cast<std::int64_t>(position), frame) == Insert::Stored) figures.stored++;
+        if (auto front = reader.read(block.data())) {
+            figures.sum += front->length + block[5];
+            reader.advance(*front);
+        }
     };
-    std::array<std::uint64_t, LATE> late;
-    late.fill(NONE);
-    std::uint64_t draw = 12345, position = 0;
+    std::uint64_t covered = align32(length), position = 0;
     for (std::uint64_t index = 0; index < frames; index++) {
-        std::uint64_t rest = term - position % term;
-        if (rest < SIZE) {
+        std::uint64_t rest = TERM - position % TERM;
+        if (rest < covered) {
             DataHeader padding{{static_cast<std::int32_t>(rest), 0, UNFRAGMENTED, Kind::Pad}, 0, 7, 1001, ID, 0};
-            insert(position, bytes_of(padding).data());
+            pass(position, bytes_of(padding).data());
             position += rest;
         }
-        std::uint64_t &slot = late[index % LATE];
-        if (slot != NONE) insert(slot, data.data());
-        draw = draw * 6364136223846793005u + 1442695040888963407u;
-        bool is_missing = (draw >> 33) % 100 < missing;
-        slot = is_missing ? position : NONE;
-        if (!is_missing) insert(position, data.data());
-        position += SIZE;
-        while (const std::uint8_t *frame = image.frame_of(0)) {
-            auto front = fields_at<Front>(frame);
-            if (front.kind == Kind::Data) std::memcpy(block.data(), frame + HEADER, front.length - HEADER);
-            figures.sum += front.length + block[5];
-            image.advance(0);
-        }
+        pass(position, data.data());
+        position += covered;
     }
     return figures;
 }
 
 int main(int count, char **words) {
     std::uint64_t frames = count > 1 ? std::strtoull(words[1], nullptr, 10) : 200'000;
-    for (std::uint32_t term : {65'536u, 1'048'576u})
-        for (std::uint64_t missing : {0, 1, 10}) {
-            Image image({term, SIZE, ID}, 0, term / 2, 1);
-            auto began = Clock::now();
-            Figures figures = run(image, term, frames, missing);
-            std::uint64_t nanos = std::chrono::nanoseconds(Clock::now() - began).count();
-            std::printf("image %u %llu %llu %llu %llu\n", term, static_cast<unsigned long long>(missing),
-                        static_cast<unsigned long long>(nanos * 10 / frames), static_cast<unsigned long long>(figures.sum),
-                        static_cast<unsigned long long>(figures.stored));
-        }
+    for (std::uint32_t length : {1'408u, 200u}) {
+        auto began = Clock::now();
+        Figures figures = run(length, frames);
+        std::uint64_t nanos = std::chrono::nanoseconds(Clock::now() - began).count();
+        std::printf("image %u %llu %llu %llu\n", length, static_cast<unsigned long long>(nanos * 10 / frames),
+                    static_cast<unsigned long long>(figures.sum), static_cast<unsigned long long>(figures.stored));
+    }
 }

@@ -2,7 +2,7 @@
 #pragma once
 #include "frames.hpp"
 #include "loss_detector.hpp"
-#include "shared_image.hpp"
+#include "image.hpp"
 #include "udp.hpp"
 
 class ReceiverCore {
@@ -15,8 +15,8 @@ class ReceiverCore {
     std::int32_t session, stream;
     std::uint32_t window;
     std::int64_t id;
-    std::optional<SharedImage> image;
-    std::optional<SharedImage::Inserter> inserter; // of the image
+    std::optional<Image> image;
+    std::optional<Image::Inserter> inserter; // of the image
     std::optional<DataHeader> unmet; // the last frame that met no image
     std::optional<Told> told;
     LossDetector detector;
@@ -92,7 +92,7 @@ class ReceiverCore {
         : session(session), stream(stream), window(window), id(id) {}
 
     // The image, for its subscriber; null before a SETUP has opened it.
-    SharedImage *opened() { return image ? &*image : nullptr; }
+    Image *opened() { return image ? &*image : nullptr; }
 
     // Of an image that is open.
     Positions positions() const { return inserter->positions(); }

@@ -1,15 +1,15 @@
 // The subscriber of a stream: reads an image as one of its consumers, and joins frames to messages.
 #pragma once
 #include "assembler.hpp"
-#include "shared_image.hpp"
+#include "image.hpp"
 
 class Subscriber {
-    SharedImage::Reader reader;
+    Image::Reader reader;
     Assembler assembler;
     std::vector<std::uint8_t> block; // has room for each frame's payload
 
   public:
-    Subscriber(SharedImage &image, std::size_t number)
+    Subscriber(Image &image, std::size_t number)
         : reader(image, number), assembler(image.shape().max_message()), block(GREATEST_DATA - HEADER) {}
 
     // Reads on until a message is whole, which is handed over, or no frame is left. Whether there was a message.

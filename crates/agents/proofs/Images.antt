@@ -12,7 +12,7 @@ use Rattle.theory.specs.Image.{Image, after_heartbeat, after_insert, image_at, i
 use Rattle.counters.specs.Order.{IsAtMost, zeros}
 use Rattle.counters.specs.Parties.{WriterSeen}
 use Rattle.counters.specs.declared.readings.Readings.{Readings}
-use Rattle.rebuilder.specs.Seen.{Inserting, join_of}
+use Rattle.image.specs.Rebuilding.{Inserting, join_of}
 use Rattle.receiver.specs.Polling.{TellsImage}
 use Rattle.receiver.specs.Receiving.{Opened, answer_at, given_at}
 use Rattle.receiver.specs.Representing.{Core}

@@ -5,7 +5,7 @@ use Rattle.endpoint.specs.Devices.{Device}
 use Rattle.agents.specs.Cycles.{Cycle, Fault, HearsAll, TicksBehind}
 use Rattle.agents.specs.Parties.{CoreHears, CoreTicks}
 use Rattle.endpoint.specs.declared.device_error.DeviceError.{DeviceError}
-use Rattle.shared_image.specs.Handles.{ReaderSeat}
+use Rattle.image.specs.Handles.{ReaderSeat}
 use Rattle.theory.specs.Consumer.{Consumer, consumer_at, least_of}
 use Rattle.theory.specs.Control.{named_by}
 use Rattle.theory.specs.Placed as placed
@@ -13,7 +13,7 @@ use Rattle.theory.specs.Placed.{Placed}
 use Rattle.theory.specs.Units.{HasUnit}
 use Rattle.theory.specs.Wire.{DATA, HEARTBEAT, Header, NAK, PAD, SETUP, SM, Setup, Wire}
 use Rattle.counters.specs.declared.readings.Readings.{Readings}
-use Rattle.rebuilder.specs.Seen.{Inserting, geometry_of, join_of}
+use Rattle.image.specs.Rebuilding.{Inserting, geometry_of, join_of}
 use Rattle.receiver.specs.declared.receiver_core.Outcome.{Outcome}
 use Rattle.receiver.specs.Dealt.{Learns}
 use Rattle.receiver.specs.Receiving.{IfOurs, Meets, MeetsFrame, MeetsHeartbeat, MeetsSetup, Opened, Receiver, ticked}

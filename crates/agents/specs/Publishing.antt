@@ -7,7 +7,7 @@ use Rattle.agents.specs.Cycles.{DutyState}
 use Rattle.counters.specs.Order.{IsAtMost, zeros}
 use Rattle.counters.specs.Parties.{WriterSeen}
 use Rattle.counters.specs.declared.readings.Readings.{Readings}
-use Rattle.rebuilder.specs.Seen.{Inserting, join_of}
+use Rattle.image.specs.Rebuilding.{Inserting, join_of}
 use Rattle.receiver.specs.Polling.{TellsImage}
 use Rattle.receiver.specs.Representing.{Core}
 use Rattle.receiver.specs.declared.positions.Positions.{Positions}

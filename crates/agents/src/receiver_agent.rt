@@ -17,7 +17,7 @@ use crate::receiver_agent::publishing::publish;
 use counters::{CounterReader, CounterWriter, Counters, Readings};
 use endpoint::{Datagrams, DeviceError};
 use receiver::{Positions, Readers, ReceiverCore};
-use shared_image::ImageReader;
+use image::ImageReader;
 use std::marker::{Model, PhantomData};
 use std::sync::Wait;
 

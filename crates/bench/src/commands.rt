@@ -6,8 +6,8 @@ use command_line::{LineFault, process_words};
 use latency::{HEADER, Row, time_driver, time_log};
 use position::Geometry;
 use speed::{
-    Figures, ImageFigures, PassedFigures, measure, measure_claims, measure_image, measure_passed,
-    measure_stream, play_claims, play_round, play_stream,
+    Figures, ImageFigures, measure, measure_claims, measure_image, measure_stream, play_claims,
+    play_round, play_stream,
 };
 use std::alloc::{AllocGlobal, Global};
 use std::env::Env;
@@ -45,8 +45,6 @@ fn command<R: Threads + Wait + Clock + Net + Print + Sync>(
         [_, "claims", rounds, ..] => claims(rt, alloc, *rounds),
         [_, "images"] => images(rt, alloc, "200000"),
         [_, "images", frames, ..] => images(rt, alloc, *frames),
-        [_, "shared_images"] => shared_images(rt, alloc, "200000"),
-        [_, "shared_images", frames, ..] => shared_images(rt, alloc, *frames),
         [_, "stream", rounds, messages, ..] => streams(rt, alloc, *rounds, *messages),
         [_, "stream", ..] => streams(rt, alloc, "11", "400000"),
         [_, rounds, ..] => large(rt, alloc, *rounds),
@@ -118,54 +116,23 @@ fn latencies<R: Threads + Wait + Clock + Net + Print + Sync>(
     Ok(())
 }
 
-/// The term lengths of images, and how many frames of a hundred come late.
-const IMAGES: [(u32, u64); 6] = [
-    (65_536, 0),
-    (65_536, 1),
-    (65_536, 10),
-    (1_048_576, 0),
-    (1_048_576, 1),
-    (1_048_576, 10),
-];
-
-/// Gives so many frames to images and reads them, and prints what each took.
+/// Gives an image so many frames of 1,408 and of 200 bytes, reads each at once, and prints what each took.
 fn images<R: Clock + Print>(rt: &R, alloc: Global, word: &str) -> Result<(), Error> {
     let frames: u32 = word.parse()?;
-    for (term_length, missing) in IMAGES {
-        image_line(rt, &measure_image(rt, alloc, term_length, missing, frames)?)?;
-    }
-    Ok(())
-}
-
-/// One line of an image: tenths of a nanosecond for each frame, and two numbers by which to see that the work was done.
-fn image_line(rt: &impl Print, figures: &ImageFigures) -> io::Result<()> {
-    let ImageFigures {
-        term_length,
-        missing,
-        tenths,
-        sum,
-        stored,
-    } = *figures;
-    println!(rt; "image {term_length} {missing} {tenths} {sum} {stored}")
-}
-
-/// Gives so many frames of 1,408 and of 200 bytes to the plain image and to the one that threads share, reads each at once, and
-/// prints what each took.
-fn shared_images<R: Clock + Print>(rt: &R, alloc: Global, word: &str) -> Result<(), Error> {
-    let frames: u32 = word.parse()?;
-    for shared in [false, true] {
-        passed_line(rt, &measure_passed(rt, alloc, shared, &[97; 1376], frames)?)?;
-        passed_line(rt, &measure_passed(rt, alloc, shared, &[97; 168], frames)?)?;
-    }
+    image_line(rt, &measure_image(rt, alloc, &[97; 1376], frames)?)?;
+    image_line(rt, &measure_image(rt, alloc, &[97; 168], frames)?)?;
     Ok(())
 }
 
 /// One line of it: the frame's length, tenths of nanoseconds for each, and two numbers by which to see that the work was done.
-fn passed_line(rt: &impl Print, figures: &PassedFigures) -> io::Result<()> {
-    let kind = if figures.shared { "shared" } else { "plain" };
-    let length = figures.size.wrapping_add(32);
-    let (tenths, sum, stored) = (figures.tenths, figures.played.sum, figures.played.stored);
-    println!(rt; "{kind} image {length} {tenths} {sum} {stored}")
+fn image_line(rt: &impl Print, figures: &ImageFigures) -> io::Result<()> {
+    let ImageFigures {
+        length,
+        tenths,
+        played,
+    } = *figures;
+    let (sum, stored) = (played.sum, played.stored);
+    println!(rt; "image {length} {tenths} {sum} {stored}")
 }
 
 /// Plays small rounds.
@@ -189,23 +156,10 @@ fn small<R: Threads + Wait + Clock + Net + Print + Sync>(
         let (sent, read) = (played.sent, played.read);
         println!(rt; "stream of {publishers}: {sent} sent, {read} read")?;
     }
-    for missing in [0, 10] {
-        let played = measure_image(rt, alloc, 65_536, missing, 1000)?;
-        println!(rt;
-            "image with {missing} of 100 late: {} stored",
-            played.stored
-        )?;
-    }
-    for shared in [false, true] {
-        let passed = measure_passed(rt, alloc, shared, &[97; 168], 1000)?;
-        let kind = if shared { "shared" } else { "plain" };
-        println!(rt; "{kind} image: {} stored", passed.played.stored)?;
-    }
+    let passed = measure_image(rt, alloc, &[97; 168], 1000)?;
+    println!(rt; "image: {} stored", passed.played.stored)?;
     latencies(rt, alloc)?;
     println!(rt; "bench ROUNDS measures so many rounds, bench images FRAMES so many frames")?;
-    println!(rt;
-        "bench shared_images FRAMES measures the plain image and the one that threads share"
-    )?;
     println!(rt;
         "bench claims ROUNDS measures so many rounds of claims that are written and committed"
     )?;

@@ -1,9 +1,8 @@
 //! Measures what is to be fast: `bench ROUNDS` prints medians of so many rounds of the log that threads share, `bench
 //! claims ROUNDS` those of claims that are written and committed, `bench stream ROUNDS MESSAGES` how long publishers and
-//! a reader take for a message, `bench images FRAMES` how long an image takes for a frame, `bench shared_images FRAMES` how
-//! long the plain image and the one that threads share take for one that is read at once, `bench log OPTIONS` and
-//! `bench driver OPTIONS` a row on the time from a message's offer to its poll, of which `bench header` prints the head,
-//! and `bench` plays small rounds and prints no figures.
+//! a reader take for a message, `bench images FRAMES` how long an image takes for a frame that is read at once, `bench log
+//! OPTIONS` and `bench driver OPTIONS` a row on the time from a message's offer to its poll, of which `bench header` prints
+//! the head, and `bench` plays small rounds and prints no figures.
 //!
 //! It is proved safe, and what its lines tell (`timing_options`, `timing_plan`).
 #![tactic(auto)]

@@ -1,7 +1,7 @@
 -- A run's subscriber that has tallied as many messages as its stream has.
 use Rattle.std.proofs.Common.{◌≡◌, ◌∙◌, ℕ, ◌≤◌, List, [], ◌∷◌, ◌++◌, Option, None, Some, length, length-append, append-nil, refl, sym, subst, arith}
 use Rattle.theory.specs.Messages.{messages}
-use Rattle.rebuilder.specs.Seen.{Inserting, join_of}
+use Rattle.image.specs.Rebuilding.{Inserting, join_of}
 use Rattle.receiver.specs.Lives.{IsStream, Stream}
 use Rattle.run_parties.specs.Runs.{GivesARun, TalliesARun}
 use Rattle.run_parties.specs.Tallies.{Counted, IsTallyOf}

@@ -1,8 +1,12 @@
 //! The words of a header's fields.
 
-ghost use Rattle.std.specs.Prelude.{◌≡◌, ◌<◌, ◌++◌, if◌then◌else◌};
+ghost use Rattle.std.specs.Prelude.{◌≡◌, ◌^◌, ◌<◌, ◌≤◌, [], ◌∷◌, ◌++◌, if◌then◌else◌};
 ghost use Rattle.std.specs.Int.{w32, w64, from_le_bytes, to_le_bytes};
+ghost use Rattle.theory.specs.Position.{max_position};
 ghost use Rattle.theory.specs.Wire.{front};
+ghost use Rattle.frame_words.specs.Words as said;
+
+use position::Identity;
 
 /// The first word of a DATA frame or a padding: its length, version 0, the flags and the type.
 pub fn first_word(padding: bool, flags: u8, frame_length: u32) -> u64
@@ -19,4 +23,19 @@ pub fn pair_word(low: u32, high: u32) -> u64
     ensures { result ≡ from_le_bytes w64 (to_le_bytes w32 low ++ to_le_bytes w32 high) }
 {
     u64::from(low) + u64::from(high) * 0x1_0000_0000
+}
+
+/// The second and the third word of a header at a position; the fourth one is zero.
+#[inline(always)]
+pub fn header_words(identity: &Identity, start: u64) -> (u64, u64)
+    requires { start ≤ max_position identity.now.geometry }
+    ensures words { said.header_words identity.now start ≡ result.0 ∷ result.1 ∷ 0 ∷ [] }
+    ensures below { start < 2 ^ 56 }
+{
+    let place = identity.geometry().term_of(start);
+    let session = identity.session().cast_unsigned();
+    let stream = identity.stream().cast_unsigned();
+    let second = pair_word(place.offset, session);
+    let third = pair_word(stream, place.term_id.cast_unsigned());
+    (second, third)
 }

@@ -1,177 +1,160 @@
--- What a ring is asked: which frame starts at a position, and whether one meets a range.
-use Rattle.std.proofs.Common.{◌≡◌, ℕ, ◌+◌, ◌-◌, ◌*◌, ◌/◌, ◌%◌, ◌<◌, ◌≤◌, ◌⊎◌, ⊎_elim, List, length, drop, max, take, map, Bool, true, false, refl, sym, ap, ◌∙◌, subst, arith}
-use Rattle.std.specs.Prelude.{nat_eq, nat_lt, slice_index, IsTrue, ◌&&◌, ◌↔◌}
-use Rattle.std.specs.Int.{bit_at}
-use Rattle.std.specs.List.{list_any}
-use Rattle.std.proofs.lemmas.Bool.{and_from, and_left, and_parts, and_right, both_ways, cases_Bool, cases_eq, cases_lt, eq-eqb, eqb-true, le-ltb, lt-ltb, ne_eqb}
-use Rattle.image.specs.Bits.{HoldsSome, holds}
-use Rattle.theory.specs.Insert.{Head, head_end, head_of, is_duplicate, same_kind}
-use Rattle.theory.specs.Placed.{Among, Placed, covered, end_of, frame_length, is_padding}
-use Rattle.theory.specs.Units.{HasUnit}
-use Rattle.theory.specs.Wire.{Wire}
-use Rattle.theory.proofs.Lists.{all_at, any_here}
-use Rattle.frames.specs.Frames.{wire}
-use Rattle.frames.specs.Fronts.{BeginsWith, IsStreamWire}
-use Rattle.frames.specs.Reading.{reading}
-use Rattle.frames.specs.declared.frame.Frame.{Frame}
-use Rattle.frames.specs.declared.frame.Frame.TheVariants.{Data, Pad, Heartbeat, Nak, Status, Setup}
-use Rattle.frames.proofs.FrameSteps.{slice_to_end}
-use Rattle.image.specs.Held.{AreLaid, StartsAt}
-use Rattle.image.specs.Ring.{IsRing, IsPiece, Ring, StandsAt, TellsUnits, found, frame_in, frame_read, frames_in}
-use Rattle.image.specs.Stored.{IsOfStream, stream_frame}
-use Rattle.image.proofs.Lists.{none_here}
-use Rattle.image.proofs.Listed.{listed_among}
-use Rattle.image.proofs.Order.{apart, at_least}
-use Rattle.image.proofs.Places.{in_ring, inside_place, unit_place, word_place}
-use Rattle.image.proofs.Rings.{bit_frame, found_bit, full_ring}
+-- A frame that a reader finds.
+use Rattle.std.proofs.Common.{◌≡◌, ℕ, zero, suc, ◌+◌, ◌-◌, ◌*◌, ◌/◌, ◌<◌, ◌≤◌, List, [], ◌∷◌, ◌++◌, length, take, drop, sym, refl, ap, ◌∙◌, subst, arith}
+use Rattle.std.specs.Prelude.{Bool, true, false, nat_eq, if◌then◌else◌, slice_index}
+use Rattle.std.specs.Int.{w32, w64, from_le_bytes, to_le_bytes}
+use Rattle.theory.specs.Placed as placed
+use Rattle.theory.specs.Placed.{Data, Pad, covered, frame_length, payload_of}
+use Rattle.theory.specs.Position.{aligned}
+use Rattle.position.specs.declared.head.FrameHead.{FrameHead}
+use Rattle.position.specs.declared.head.FrameKind.{FrameKind}
+use Rattle.position.specs.declared.head.FrameKind.TheVariants as kinds
+use Rattle.position.specs.Heads.{head_of}
+use Rattle.frame_words.specs.Contents.{bytes_in, frame_of, head_by}
+use Rattle.image_rule.specs.declared.view.Frame.{Frame}
+use Rattle.image_rule.specs.declared.view.View.{View}
+use Rattle.image_rule.specs.Frames.{IsContent, Says, end_of, placed_of, stored_count}
+use Rattle.image_rule.specs.Reads.{IsFound, first_of}
+use Rattle.atomic_table.specs.Seated.{TableId}
+use Rattle.image.specs.Handles.{ReaderSeat}
+use Rattle.image.specs.Reading.{Copied, Finds, ReadsFrame}
 
--- ---- frames of the code and of the wire
+pub head_length : (p : ℕ) (c : placed.Frame) → (head_of p c).frame_length ≡ frame_length c
+head_length p (Data flags payload) = refl
+head_length p (Pad n) = refl
 
-pub of_wire : (f : Frame) → IsOfStream f → IsStreamWire (wire f) × (frame_in (wire f) ≡ stream_frame f)
-of_wire (Data header flags payload) s = (tt, refl)
-of_wire (Pad header n) s = (tt, refl)
-of_wire (Heartbeat header) s = absurd s
-of_wire (Nak f) s = absurd s
-of_wire (Status asks f) s = absurd s
-of_wire (Setup f) s = absurd s
+pub content_short : (c : placed.Frame) → IsContent c → frame_length c ≤ 16777216
+content_short (Data flags payload) is = let a = is.1 in omega arith
+content_short (Pad n) is = is.1
 
--- ---- the frame at a position
+pub content_long : (c : placed.Frame) → IsContent c → 32 ≤ frame_length c
+content_long (Data flags payload) is = omega arith
+content_long (Pad n) is = is.0
 
--- where a bit says that one starts
-pub starts_there : (term low : ℕ) (bytes starts units : List ℕ) (p : ℕ) → IsRing term low bytes starts units (frames_in term low bytes starts) → p % 32 ≡ 0 → low ≤ p → p < low + 3 * term → holds starts (p % (3 * term) / 32) ≡ true → StartsAt (frames_in term low bytes starts) p
-starts_there term low bytes starts units p k unit l h bit = (record { at = p; frame = frame_read (reading (drop (p % (3 * term)) bytes)) }, bit_frame term low bytes starts p k.whole k.from unit l h bit, refl)
+-- the first word of a frame says its head
+pub head_here : (f : Frame) (p first : ℕ) (head : FrameHead) → Says f → first ≡ slice_index f.words 0 → head ≡ head_by p (to_le_bytes w64 first) → head ≡ head_of p (frame_of f.words)
+head_here f p first head s word is = is ∙ ap (λ (n : ℕ). head_by p (to_le_bytes w64 n)) word ∙ s.head p
 
--- the bytes from its place on
-pub record ReadsThere (ring : Ring) (p : ℕ) (bytes : List ℕ) : Type 0 where
-  pub wire : Wire
-  pub begins : BeginsWith bytes wire
-  pub among : Among (record { at = p; frame = frame_in wire }) ring.frames
+pub length_here : (f : Frame) (p : ℕ) (head : FrameHead) → head ≡ head_of p (frame_of f.words) → head.frame_length ≡ frame_length (frame_of f.words)
+length_here f p head is = ap (λ (h : FrameHead). h.frame_length) is ∙ head_length p (frame_of f.words)
 
-pub reads_there : (term low : ℕ) (bytes starts units now : List ℕ) (ring : Ring) (p place : ℕ) → IsRing term low bytes starts units (frames_in term low bytes starts) → record { term_length = term; low = low; frames = frames_in term low bytes starts } ≡ ring → now ≡ bytes → (place ≡ p % (3 * ring.term_length)) × StartsAt ring.frames p → ReadsThere ring p (take (length now - place) (drop place now))
-reads_there term low bytes starts units now ring p place k view same found =
-    subst (λ (r : Ring). (place ≡ p % (3 * r.term_length)) × StartsAt r.frames p → ReadsThere r p (take (length now - place) (drop place now))) view here found
-  where
-    here : (place ≡ p % (3 * term)) × StartsAt (frames_in term low bytes starts) p → ReadsThere (record { term_length = term; low = low; frames = frames_in term low bytes starts }) p (take (length now - place) (drop place now))
-    here (at, (s, a, e)) =
-        let st : StandsAt term low bytes s = all_at (StandsAt term low bytes) s (frames_in term low bytes starts) k.stand a in
-        let place_is : s.at % (3 * term) ≡ place = ap (λ q. q % (3 * term)) e ∙ sym at in
-        let begins : BeginsWith (drop place now) st.wire = subst (λ (x : List ℕ). BeginsWith (drop place x) st.wire) (sym same) (subst (λ q. BeginsWith (drop q bytes) st.wire) place_is st.begins) in
-        record {
-          wire = st.wire;
-          begins = subst (λ (x : List ℕ). BeginsWith x st.wire) (sym (slice_to_end now place)) begins;
-          among = subst (λ q. Among (record { at = q; frame = frame_in st.wire }) (frames_in term low bytes starts)) e (subst (λ f. Among (record { at = s.at; frame = f }) (frames_in term low bytes starts)) (sym st.same) a);
-        }
+pub short_here : (f : Frame) (p : ℕ) (head : FrameHead) → Says f → head ≡ head_of p (frame_of f.words) → head.frame_length ≤ 2147483648
+short_here f p head s is = let e = length_here f p head is in let l = content_short (frame_of f.words) s.content in omega arith
 
-pub none_there : (term low : ℕ) (bytes starts units : List ℕ) (p : ℕ) → IsRing term low bytes starts units (frames_in term low bytes starts) → holds starts (p % (3 * term) / 32) ≡ false → StartsAt (frames_in term low bytes starts) p → ⊥
-none_there term low bytes starts units p k bit (s, a, e) =
-    let l = listed_among (found (3 * term) bytes starts) (3 * term / 32) low s a in
-    both_ways (holds starts (p % (3 * term) / 32)) bit (subst (λ x. holds starts (x % (3 * term) / 32) ≡ true) e (found_bit (3 * term) bytes starts s.at s.frame l.starts))
+pub ends_here : (f : Frame) (p u size : ℕ) (head : FrameHead) → Says f → head ≡ head_of p (frame_of f.words) → f.unit ≡ u → size ≡ aligned head.frame_length → u + size / 32 ≡ end_of f
+ends_here f p u size head s is at e =
+    let n : size ≡ 32 * f.units = e ∙ ap aligned (length_here f p head is) ∙ sym s.covered in omega arith
 
-pub none_outside : (term low : ℕ) (bytes starts units : List ℕ) (p : ℕ) → IsRing term low bytes starts units (frames_in term low bytes starts) → (p < low) ⊎ (low + 3 * term ≤ p) → StartsAt (frames_in term low bytes starts) p → ⊥
-none_outside term low bytes starts units p k side (s, a, e) =
-    let st : StandsAt term low bytes s = all_at (StandsAt term low bytes) s (frames_in term low bytes starts) k.stand a in
-    let near : end_of s ≤ low + 3 * term = st.near in
-    let full : 0 < covered s = all_at (λ (x : Placed). 0 < covered x) s (frames_in term low bytes starts) (full_ring term low bytes (frames_in term low bytes starts) k.stand) a in
-    let from : low ≤ s.at = at_least low (frames_in term low bytes starts) s k.order a in
-    ⊎_elim (λ (l : p < low). omega arith) (λ (l : low + 3 * term ≤ p). omega arith) side
+pub some_units : (f : Frame) → Says f → 0 < f.units
+some_units f s = let c = s.covered in let l = content_long (frame_of f.words) s.content in omega arith
 
--- ---- whether a frame is like another
+-- ---- a payload
 
-pub like_none : (start : ℕ) (padding : Bool) (n : ℕ) (ss : List Placed) → (StartsAt ss start → ⊥) → false ≡ list_any (is_duplicate (record { at = start; padding = padding; length = n })) (map head_of ss)
-like_none start padding n ss f =
-    sym (none_here (is_duplicate (record { at = start; padding = padding; length = n })) head_of ss (λ t a. and_left (nat_eq start t.at && same_kind padding (is_padding t.frame)) (nat_eq n (frame_length t.frame)) (and_left (nat_eq start t.at) (same_kind padding (is_padding t.frame)) (ne_eqb start t.at (λ e. f (t, a, sym e))))))
+abbrev is_data : FrameKind → Type 0
+is_data kinds.Data = Unit
+is_data kinds.Pad = ⊥
 
-same_start : (ss : List Placed) (s t : Placed) → AreLaid ss → Among s ss → Among t ss → s.at ≡ t.at → s ≡ t
-same_start ss s t laid a b e =
-    let full_s : 0 < covered s = all_at (λ (x : Placed). 0 < covered x) s ss laid.full a in
-    let full_t : 0 < covered t = all_at (λ (x : Placed). 0 < covered x) t ss laid.full b in
-    ⊎_elim (λ (d : s ≡ t). d) (λ (o : (end_of s ≤ t.at) ⊎ (end_of t ≤ s.at)). ⊎_elim (λ (h : end_of s ≤ t.at). absurd (omega arith)) (λ (h : end_of t ≤ s.at). absurd (omega arith)) o) (apart 0 ss s t laid.order a b)
+kinds_apart : kinds.Data ≡ kinds.Pad → ⊥
+kinds_apart e = subst is_data e tt
 
--- the one frame that starts there
-pub like_only : (start : ℕ) (padding : Bool) (n : ℕ) (ss : List Placed) (s : Placed) → ((t : Placed) → Among t ss → start ≡ t.at → s ≡ t) → Among s ss → s.at ≡ start → (same_kind padding (is_padding s.frame) && nat_eq n (frame_length s.frame)) ≡ list_any (is_duplicate (record { at = start; padding = padding; length = n })) (map head_of ss)
-like_only start padding n ss s one a e =
-    ⊎_elim
-    (λ (y : (same_kind padding (is_padding s.frame) && nat_eq n (frame_length s.frame)) ≡ true).
-    let parts = and_parts (same_kind padding (is_padding s.frame)) (nat_eq n (frame_length s.frame)) y in
-    y ∙ sym (any_here (is_duplicate (record { at = start; padding = padding; length = n })) head_of s ss a (and_from (nat_eq start s.at && same_kind padding (is_padding s.frame)) (nat_eq n (frame_length s.frame)) (and_from (nat_eq start s.at) (same_kind padding (is_padding s.frame)) (eq-eqb start s.at (sym e)) parts.0) parts.1)))
-    (λ (differs : (same_kind padding (is_padding s.frame) && nat_eq n (frame_length s.frame)) ≡ false). differs ∙ sym (none_here (is_duplicate (record { at = start; padding = padding; length = n })) head_of ss (λ t b. unlike t b differs)))
-    (cases_Bool (same_kind padding (is_padding s.frame) && nat_eq n (frame_length s.frame)))
-  where
-    splits : (x y z : Bool) → (y && z) ≡ false → ((x && y) && z) ≡ false
-    splits true y z h = h
-    splits false y z h = refl
+-- of the frame that a first word's bytes say, with the bytes behind the header
+abbrev said : Bool → ℕ → ℕ → ℕ → List ℕ → placed.Frame
+said b n flags m xs = if b then Pad n else Data flags (take m xs)
 
-    unlike : (t : Placed) → Among t ss → (same_kind padding (is_padding s.frame) && nat_eq n (frame_length s.frame)) ≡ false → is_duplicate (record { at = start; padding = padding; length = n }) (head_of t) ≡ false
-    unlike t b differs =
-        ⊎_elim
-        (λ (d : start ≡ t.at). let same : s ≡ t = one t b d in splits (nat_eq start t.at) (same_kind padding (is_padding t.frame)) (nat_eq n (frame_length t.frame)) (subst (λ (x : Placed). (same_kind padding (is_padding x.frame) && nat_eq n (frame_length x.frame)) ≡ false) same differs))
-        (λ (d : start ≡ t.at → ⊥). and_left (nat_eq start t.at && same_kind padding (is_padding t.frame)) (nat_eq n (frame_length t.frame)) (and_left (nat_eq start t.at) (same_kind padding (is_padding t.frame)) (ne_eqb start t.at d)))
-        (cases_eq start t.at)
+take_again : (m : ℕ) (xs : List ℕ) → take (length (take m xs)) xs ≡ take m xs
+take_again zero xs = refl
+take_again (suc m) [] = refl
+take_again (suc m) (x ∷ xs) = ap (λ (ys : List ℕ). x ∷ ys) (take_again m xs)
 
-pub like_found : (start : ℕ) (padding : Bool) (n : ℕ) (ss : List Placed) (s : Placed) → AreLaid ss → Among s ss → s.at ≡ start → (same_kind padding (is_padding s.frame) && nat_eq n (frame_length s.frame)) ≡ list_any (is_duplicate (record { at = start; padding = padding; length = n })) (map head_of ss)
-like_found start padding n ss s laid a e = like_only start padding n ss s (λ t b d. same_start ss s t laid a b (e ∙ d)) a e
+taken : (b : Bool) (p n flags m : ℕ) (xs : List ℕ) → (head_of p (said b n flags m xs)).kind ≡ kinds.Data
+    → (take (frame_length (said b n flags m xs) - 32) xs ≡ payload_of (said b n flags m xs)) × (frame_length (said b n flags m xs) - 32 ≡ length (payload_of (said b n flags m xs)))
+taken true p n flags m xs e = absurd (kinds_apart (sym e))
+taken false p n flags m xs e = let l : 32 + length (take m xs) - 32 ≡ length (take m xs) = omega arith in (ap (λ (k : ℕ). take k xs) l ∙ take_again m xs, l)
 
--- ---- whether a frame meets a range
+none_taken : (b : Bool) (p n flags m : ℕ) (xs : List ℕ) → (head_of p (said b n flags m xs)).kind ≡ kinds.Pad → payload_of (said b n flags m xs) ≡ []
+none_taken true p n flags m xs e = refl
+none_taken false p n flags m xs e = absurd (kinds_apart e)
 
-abbrev pub meets_head : ℕ → ℕ → Head → Bool
-meets_head start end h = nat_lt start (head_end h) && nat_lt h.at end
+counted : (b : Bool) (p n flags m : ℕ) (xs : List ℕ) → (head_of p (said b n flags m xs)).kind ≡ kinds.Data → stored_count (said b n flags m xs) ≡ 4 + (frame_length (said b n flags m xs) - 32 + 7) / 8
+counted true p n flags m xs e = absurd (kinds_apart (sym e))
+counted false p n flags m xs e = let l : 32 + length (take m xs) - 32 ≡ length (take m xs) = omega arith in ap (λ (k : ℕ). 4 + (k + 7) / 8) (sym l)
 
--- the units of the range, as bits
-met : (term low : ℕ) (bytes starts units : List ℕ) (start size : ℕ) → IsRing term low bytes starts units (frames_in term low bytes starts) → IsPiece (record { term_length = term; low = low; frames = frames_in term low bytes starts }) start size → HoldsSome units (start % (3 * term) / 32) (start % (3 * term) / 32 + size / 32) → list_any (meets_head start (start + size)) (map head_of (frames_in term low bytes starts)) ≡ true
-met term low bytes starts units start size k is some =
-    let least : 65536 ≤ term = k.some in
-    let from : low ≤ start = is.from in
-    let near : start + size ≤ low + 3 * term = is.near in
-    let fits : start % (3 * term) + size ≤ 3 * term = in_ring term start size (omega arith) is.in_term in
-    let round : start % (3 * term) % 32 ≡ 0 = unit_place term start k.whole (omega arith) is.unit in
-    let above : start % (3 * term) / 32 ≤ some.unit = some.above in
-    let below : some.unit < start % (3 * term) / 32 + size / 32 = some.below in
-    let d : ℕ = 32 * (some.unit - start % (3 * term) / 32) in
-    let at : (start + d) % (3 * term) ≡ start % (3 * term) + d = inside_place (3 * term) start size d (omega arith) fits (omega arith) in
-    let bit : holds units ((start + d) % (3 * term) / 32) ≡ true = ap (λ i. holds units i) (omega arith) ∙ some.held in
-    let u : HasUnit (frames_in term low bytes starts) (start + d) = (k.bits (start + d) (omega (arith, is.unit)) (omega arith) (omega arith)).0 bit in
-    let here : start + d ≡ u.frame.at + 32 * u.unit = u.here in
-    let inside : 32 * u.unit < covered u.frame = u.inside in
-    any_here (meets_head start (start + size)) head_of u.frame (frames_in term low bytes starts) u.among (and_from (nat_lt start (end_of u.frame)) (nat_lt u.frame.at (start + size)) (lt-ltb start (end_of u.frame) (omega arith)) (lt-ltb u.frame.at (start + size) (omega arith)))
+small : (b : Bool) (p n flags m : ℕ) (xs : List ℕ) → (head_of p (said b n flags m xs)).kind ≡ kinds.Data → IsContent (said b n flags m xs) → frame_length (said b n flags m xs) ≤ 65504
+small true p n flags m xs e is = absurd (kinds_apart (sym e))
+small false p n flags m xs e is = is.1
 
-not_met : (term low : ℕ) (bytes starts units : List ℕ) (start size : ℕ) → IsRing term low bytes starts units (frames_in term low bytes starts) → IsPiece (record { term_length = term; low = low; frames = frames_in term low bytes starts }) start size → (HoldsSome units (start % (3 * term) / 32) (start % (3 * term) / 32 + size / 32) → ⊥) → list_any (meets_head start (start + size)) (map head_of (frames_in term low bytes starts)) ≡ false
-not_met term low bytes starts units start size k is none =
-    none_here (meets_head start (start + size)) head_of (frames_in term low bytes starts) (λ t a.
-    ⊎_elim
-    (λ (l : start < end_of t). ⊎_elim (λ (h : t.at < start + size). absurd (none (here t a l h))) (λ (h : start + size ≤ t.at). and_right (nat_lt start (end_of t)) (nat_lt t.at (start + size)) (le-ltb t.at (start + size) h)) (cases_lt t.at (start + size)))
-    (λ (l : end_of t ≤ start). and_left (nat_lt start (end_of t)) (nat_lt t.at (start + size)) (le-ltb start (end_of t) l))
-    (cases_lt start (end_of t)))
-  where
-    here : (t : Placed) → Among t (frames_in term low bytes starts) → start < end_of t → t.at < start + size → HoldsSome units (start % (3 * term) / 32) (start % (3 * term) / 32 + size / 32)
-    here t a l h =
-        let least : 65536 ≤ term = k.some in
-        let st : StandsAt term low bytes t = all_at (StandsAt term low bytes) t (frames_in term low bytes starts) k.stand a in
-        let near_t : end_of t ≤ low + 3 * term = st.near in
-        let full : 0 < covered t = all_at (λ (x : Placed). 0 < covered x) t (frames_in term low bytes starts) (full_ring term low bytes (frames_in term low bytes starts) k.stand) a in
-        let from : low ≤ start = is.from in
-        let near : start + size ≤ low + 3 * term = is.near in
-        let some : 32 ≤ size = is.some in
-        let fits : start % (3 * term) + size ≤ 3 * term = in_ring term start size (omega arith) is.in_term in
-        let round : start % (3 * term) % 32 ≡ 0 = unit_place term start k.whole (omega arith) is.unit in
-        let q : ℕ = max start t.at in
-        let unit : q % 32 ≡ 0 = omega (arith, is.unit, st.unit) in
-        let u : HasUnit (frames_in term low bytes starts) q = record { frame = t; among = a; unit = (q - t.at) / 32; inside = omega arith; here = omega (arith, st.unit) } in
-        let further : start + (q - start) ≡ q = omega arith in
-        let at : q % (3 * term) ≡ start % (3 * term) + (q - start) = ap (λ x. x % (3 * term)) (sym further) ∙ inside_place (3 * term) start size (q - start) (omega arith) fits (omega arith) in
-        record { unit = q % (3 * term) / 32; above = omega arith; below = omega (arith, is.whole, is.unit, unit); held = (k.bits q unit (omega arith) (omega arith)).1 u }
+module _ (f : Frame) (p : ℕ) (head : FrameHead) (s : Says f) (is : head ≡ head_of p (frame_of f.words)) where
+  abbrev bytes : List ℕ
+  bytes = to_le_bytes w64 (slice_index f.words 0)
 
-pub meets_is : (term low : ℕ) (bytes starts units : List ℕ) (start size : ℕ) (answer : Bool) → IsRing term low bytes starts units (frames_in term low bytes starts) → IsPiece (record { term_length = term; low = low; frames = frames_in term low bytes starts }) start size → (IsTrue answer ↔ HoldsSome units (start % (3 * term) / 32) (start % (3 * term) / 32 + size / 32)) → answer ≡ list_any (meets_head start (start + size)) (map head_of (frames_in term low bytes starts))
-meets_is term low bytes starts units start size true k is said = sym (met term low bytes starts units start size k is (said.0 refl))
-meets_is term low bytes starts units start size false k is said = sym (not_met term low bytes starts units start size k is (λ h. both_ways false refl (said.1 h)))
+  abbrev pad : Bool
+  pad = nat_eq (slice_index bytes 6) 0
 
--- ---- a word of bits
+  abbrev size : ℕ
+  size = from_le_bytes w32 (take 4 bytes)
 
-pub word_tells : (term low : ℕ) (bytes starts units : List ℕ) (index word : ℕ) → IsRing term low bytes starts units (frames_in term low bytes starts) → word ≡ slice_index units index → TellsUnits term low (frames_in term low bytes starts) index word
-word_tells term low bytes starts units index word k e p unit l h at =
-    let least : 65536 ≤ term = k.some in
-    let same : p % (3 * term) % 2048 ≡ p % 2048 = word_place term p k.whole (omega arith) in
-    let word_of : p % (3 * term) / 32 / 64 ≡ index = omega arith in
-    let bit_of : p % (3 * term) / 32 % 64 ≡ p % 2048 / 32 = omega arith in
-    let bits = k.bits p unit l h in
-    let read : bit_at (slice_index units (p % (3 * term) / 32 / 64)) (p % (3 * term) / 32 % 64) ≡ bit_at word (p % 2048 / 32) = ap (λ i. bit_at (slice_index units i) (p % (3 * term) / 32 % 64)) word_of ∙ ap (λ w. bit_at w (p % (3 * term) / 32 % 64)) (sym e) ∙ ap (λ i. bit_at word i) bit_of in
-    (λ one. bits.0 (eq-eqb _ 1 (read ∙ one)), λ u. sym read ∙ eqb-true _ 1 (bits.1 u))
+  length_is : head.frame_length ≡ frame_length (frame_of f.words)
+  length_is = length_here f p head is
+
+  kind_is : head.kind ≡ (head_of p (frame_of f.words)).kind
+  kind_is = ap (λ (h : FrameHead). h.kind) is
+
+  module _ (of_data : head.kind ≡ kinds.Data) where
+    data_is : (head_of p (frame_of f.words)).kind ≡ kinds.Data
+    data_is = sym kind_is ∙ of_data
+
+    -- all its words are there
+    pub data_words : 4 + (head.frame_length - 32 + 7) / 8 ≤ length f.words
+    data_words =
+        let c = counted pad p size (slice_index bytes 5) (size - 32) (bytes_in (drop 4 f.words)) data_is in let n = s.count in let l = length_is in
+        let e : length f.words ≡ 4 + (frame_length (frame_of f.words) - 32 + 7) / 8 = n ∙ c in
+        let k : 4 + (head.frame_length - 32 + 7) / 8 ≡ 4 + (frame_length (frame_of f.words) - 32 + 7) / 8 = ap (λ (x : ℕ). 4 + (x - 32 + 7) / 8) l in
+        omega arith
+
+    pub data_low : (32 ≤ head.frame_length) × (head.frame_length ≤ 65504)
+    data_low = let l = length_is in let a = content_long (frame_of f.words) s.content in let b = small pad p size (slice_index bytes 5) (size - 32) (bytes_in (drop 4 f.words)) data_is s.content in (omega arith, omega arith)
+
+    pub data_copied : (before after : List ℕ) → Copied f (head.frame_length - 32) before after → after ≡ payload_of (frame_of f.words) ++ drop (length (payload_of (frame_of f.words))) before
+    data_copied before after copied =
+        let t = taken pad p size (slice_index bytes 5) (size - 32) (bytes_in (drop 4 f.words)) data_is in
+        copied ∙ ap (λ (n : ℕ). take (n - 32) (bytes_in (drop 4 f.words)) ++ drop (n - 32) before) length_is ∙ (λ j. t.0 j ++ drop (t.1 j) before)
+
+  -- a padding has none
+  pub pad_copied : head.kind ≡ kinds.Pad → (block : List ℕ) → block ≡ payload_of (frame_of f.words) ++ drop (length (payload_of (frame_of f.words))) block
+  pad_copied is_pad block = let e = none_taken pad p size (slice_index bytes 5) (size - 32) (bytes_in (drop 4 f.words)) (sym kind_is ∙ is_pad) in ap (λ (xs : List ℕ). xs ++ drop (length xs) block) (sym e)
+
+-- ---- what a reader reads
+
+module _ (r : ReaderSeat) (head : FrameHead) (w w' : View) (of : TableId) (read_to : ℕ) (finds : Finds r.view head w) (found : IsFound w) (same : w' ≡ w) (table : of ≡ r.of) (ends : read_to ≡ end_of (first_of w.reading.known)) where
+  abbrev q : ReaderSeat
+  q = record { of = of; view = w'; read_to = read_to }
+
+  first_is : first_of w.reading.known ≡ finds.frame
+  first_is = ap (λ (x : View). first_of x.reading.known) finds.after
+
+  shown_first : head ≡ head_of (32 * r.view.reading.unit) (frame_of (first_of w.reading.known).words)
+  shown_first = finds.shown ∙ ap (λ (f : Frame). head_of (32 * r.view.reading.unit) (frame_of f.words)) (sym first_is)
+
+  reads : (before after : List ℕ) → after ≡ payload_of (frame_of (first_of w.reading.known).words) ++ drop (length (payload_of (frame_of (first_of w.reading.known).words))) before → ReadsFrame r head before q after
+  reads before after copied = record {
+    finds = record { frame = finds.frame; here = finds.here; content = finds.content; shown = finds.shown; only = finds.only; after = same ∙ finds.after };
+    copied = copied ∙ ap (λ (f : Frame). payload_of (frame_of f.words) ++ drop (length (payload_of (frame_of f.words))) before) first_is;
+    read_to = ends ∙ ap end_of first_is;
+    covers = subst (λ (f : Frame). 32 * f.units ≡ covered (placed_of f)) first_is found.says.covered;
+    same = (λ j. record { of = table j; view = w'; read_to = read_to });
+  }
+
+  pub reads_data : (before after : List ℕ) → head.kind ≡ kinds.Data → Copied (first_of w.reading.known) (head.frame_length - 32) before after → ReadsFrame r head before q after
+  reads_data before after k copied = reads before after (data_copied (first_of w.reading.known) (32 * r.view.reading.unit) head found.says shown_first k before after copied)
+
+  pub reads_pad : (block : List ℕ) → head.kind ≡ kinds.Pad → ReadsFrame r head block q block
+  reads_pad block k = reads block block (pad_copied (first_of w.reading.known) (32 * r.view.reading.unit) head found.says shown_first k block)
+
+  -- the payload's words are all there
+  pub reads_words : head.kind ≡ kinds.Data → 4 + (head.frame_length - 32 + 7) / 8 ≤ length (first_of w.reading.known).words
+  reads_words k = data_words (first_of w.reading.known) (32 * r.view.reading.unit) head found.says shown_first k
+
+  pub reads_low : head.kind ≡ kinds.Data → (32 ≤ head.frame_length) × (head.frame_length ≤ 65504)
+  reads_low k = data_low (first_of w.reading.known) (32 * r.view.reading.unit) head found.says shown_first k
+
+  pub reads_on : r.view.reading.unit < read_to
+  reads_on = let e = ends in let n = some_units (first_of w.reading.known) found.says in let h = finds.here in let u = ap (λ (f : Frame). f.unit) first_is in omega arith

@@ -1,71 +1,67 @@
--- What an opening that fails says of its arguments.
-use Rattle.std.proofs.Common.{◌≡◌, ◌≢◌, ℕ, ◌<◌, ◌≤◌, Ok, Err, refl, arith}
-use Rattle.std.specs.Prelude.{◌↔◌, IsErrOf, Result}
-use Rattle.theory.specs.Position.{Geometry}
+-- An image that opens.
+use Rattle.std.proofs.Common.{◌≡◌, ℕ, ◌*◌, ◌/◌, ◌%◌, ◌≤◌, [], sym, ap, ◌∙◌, subst, arith}
+use Rattle.std.specs.Prelude.{replicate}
+use Rattle.std.proofs.lemmas.List.{length-replicate}
+use Rattle.theory.specs.Bytes.{Identity}
 use Rattle.theory.specs.Image.{IsWindow}
-use Rattle.image.specs.declared.fault.ImageError.{ImageError}
-use Rattle.image.specs.declared.fault.ImageError.TheVariants.{Join, Window, Consumers, Memory}
+use Rattle.theory.specs.Position.{IsGeometry}
+use Rattle.theory.proofs.Lists.{all_replicate}
 use Rattle.image.specs.Seen.{IsCount, IsJoin}
+use Rattle.image_rule.specs.declared.view.Key.{Key}
+use Rattle.image_rule.specs.declared.view.View.{View}
+use Rattle.image_rule.specs.Frames.{placed_all}
+use Rattle.image_rule.specs.Rule.{whole_seat}
+use Rattle.image.specs.Handles.{ImageWords, InserterSeat}
+use Rattle.image.specs.Handles as words
+use Rattle.image.specs.Rebuilding.{Inserting, IsRebuilding, inserting}
+use Rattle.image.proofs.Leasts.{bytes_of, replicate_bytes}
 
-pub some_one : (n : ℕ) → n ≢ 0 → 0 < n
-some_one n some = omega (arith, some)
+abbrev pub key_of : Identity → ℕ → ℕ → Key
+key_of identity join consumers = record { identity = identity; join = join / 32; consumers = consumers }
 
-pub no_more : (m n : ℕ) → m ≡ n → m ≤ n
-no_more m n e = omega (arith, e)
+abbrev pub first : ImageWords → ℕ → ℕ → ℕ → Inserting
+first image window join consumers = record { of = image.of; key = image.key; window = window; stored = []; high = join; floor = join; seen = replicate consumers join; looks = replicate consumers 0; undealt = consumers }
 
-pub none_between : (m n : ℕ) → m < n → n ≤ m → ⊥
-none_between m n l h = omega (arith, l, h)
+module _ (image : ImageWords) (n : InserterSeat) (identity : Identity) (join window consumers : ℕ) (key : image.key ≡ key_of identity join consumers) (fits : words.IsStoreOf image n) (whole : n.view ≡ whole_seat image.key) (unit : join % 32 ≡ 0) where
+  whole_view : n.view ≡ whole_seat (key_of identity join consumers)
+  whole_view = whole ∙ ap whole_seat key
 
-pub not_denied : {T E : Type 0} {x : T} {e : E} → ◌≡◌ {A = Result T E} (Ok x) (Err e) → ⊥
-not_denied h = cc
+  aligned_join : 32 * (join / 32) ≡ join
+  aligned_join = omega arith
 
-abbrev pub Tells : (T : Type 0) → Geometry → ℕ → ℕ → ℕ → ImageError → Type 0
-Tells T g join window consumers why = record {
-  opened : Unit {0};
-  legal : Unit {0};
-  asked : IsErrOf {T = T} {E = ImageError} (Err why) Memory → IsJoin g join × IsWindow g.term_length g.mtu window × IsCount consumers;
-  bad_join : IsErrOf {T = T} {E = ImageError} (Err why) Join ↔ (¬ IsJoin g join);
-  bad_window : IsErrOf {T = T} {E = ImageError} (Err why) Window ↔ (IsJoin g join × (¬ IsWindow g.term_length g.mtu window));
-  bad_count : IsErrOf {T = T} {E = ImageError} (Err why) Consumers ↔ (IsJoin g join × IsWindow g.term_length g.mtu window × (¬ IsCount consumers));
-}
+  pub is_first : inserting n window join ≡ first image window join consumers
+  is_first =
+      let floor : 32 * n.view.held.floor ≡ join = ap (λ (v : View). 32 * v.held.floor) whole_view ∙ aligned_join in
+      let seen : bytes_of n.view.seen ≡ replicate consumers join = ap (λ (v : View). bytes_of v.seen) whole_view ∙ replicate_bytes consumers (join / 32) join aligned_join in
+      (λ j. record {
+        of = fits.of j;
+        key = fits.key j;
+        window = window;
+        stored = placed_all (whole_view j).held.got;
+        high = join;
+        floor = floor j;
+        seen = seen j;
+        looks = (whole_view j).looks;
+        undealt = (whole_view j).undealt;
+      })
 
-module _ (T : Type 0) (g : Geometry) (join window consumers : ℕ) where
-  pub join_refused : ¬ IsJoin g join → Tells T g join window consumers Join
-  join_refused wrong = record {
-    opened = tt;
-    legal = tt;
-    asked = λ h. absurd (cc h);
-    bad_join = (λ _. wrong, λ _. refl);
-    bad_window = (λ h. absurd (cc h), λ b. absurd (wrong b.0));
-    bad_count = (λ h. absurd (cc h), λ b. absurd (wrong b.0));
-  }
-
-  pub window_refused : IsJoin g join → ¬ IsWindow g.term_length g.mtu window → Tells T g join window consumers Window
-  window_refused joined wrong = record {
-    opened = tt;
-    legal = tt;
-    asked = λ h. absurd (cc h);
-    bad_join = (λ h. absurd (cc h), λ no. absurd (no joined));
-    bad_window = (λ _. (joined, wrong), λ _. refl);
-    bad_count = (λ h. absurd (cc h), λ b. absurd (wrong b.1));
-  }
-
-  pub count_refused : IsJoin g join → IsWindow g.term_length g.mtu window → ¬ IsCount consumers → Tells T g join window consumers Consumers
-  count_refused joined wide wrong = record {
-    opened = tt;
-    legal = tt;
-    asked = λ h. absurd (cc h);
-    bad_join = (λ h. absurd (cc h), λ no. absurd (no joined));
-    bad_window = (λ h. absurd (cc h), λ b. absurd (b.1 wide));
-    bad_count = (λ _. (joined, wide, wrong), λ _. refl);
-  }
-
-  pub memory_refused : IsJoin g join → IsWindow g.term_length g.mtu window → IsCount consumers → Tells T g join window consumers Memory
-  memory_refused joined wide count = record {
-    opened = tt;
-    legal = tt;
-    asked = λ _. (joined, wide, count);
-    bad_join = (λ h. absurd (cc h), λ no. absurd (no joined));
-    bad_window = (λ h. absurd (cc h), λ b. absurd (b.1 wide));
-    bad_count = (λ h. absurd (cc h), λ b. absurd (b.2 count));
-  }
+  pub opens : IsGeometry identity.geometry → IsJoin identity.geometry join → IsWindow identity.geometry.term_length identity.geometry.mtu window → IsCount consumers → IsRebuilding (inserting n window join) join
+  opens legal joined wide count =
+      let same : inserting n window join ≡ record (first image window join consumers) { key = key_of identity join consumers } = is_first ∙ (λ j. record (first image window join consumers) { key = key j }) in
+      subst (λ (i : Inserting). IsRebuilding i join) (sym same) record {
+        geometry = legal;
+        joined = record { unit = omega arith; within = (let w = joined.within in omega arith) };
+        window = wide;
+        fit = tt;
+        apart = tt;
+        from = tt;
+        contiguous = record { units = 0; end = omega arith; all = λ k lt. absurd (omega arith); next = λ u. absurd u.among };
+        floor_from = omega arith;
+        floor = omega arith;
+        mark = omega arith;
+        high = joined.within;
+        near = omega arith;
+        count = length-replicate consumers join;
+        some = count.0;
+        behind = all_replicate (λ q. (32 * (join / 32) ≤ q) × (q ≤ join)) consumers join (omega arith, omega arith);
+      }

@@ -3,19 +3,17 @@ use Rattle.std.proofs.Common.{◌≡◌, ℕ, ◌+◌, ◌*◌, ◌<◌, ◌≤�
 use Rattle.std.proofs.lemmas.Bool.{cases_lt}
 use Rattle.theory.specs.Placed.{Among, Placed}
 use Rattle.theory.specs.Units.{HasUnit}
-use Rattle.image.specs.Held.{put}
-use Rattle.image.specs.Laws.{MoreUnitsReachFurther, PutAddsUnits}
-use Rattle.image.proofs.Order.{among_put, put_among}
+use Rattle.image.specs.Law.{MoreUnitsReachFurther, StoringAddsUnits}
 
 unit_in : (a b : List Placed) (p : ℕ) (u : HasUnit a p) → Among u.frame b → HasUnit b p
 unit_in a b p u m = record { frame = u.frame; among = m; unit = u.unit; inside = u.inside; here = u.here }
 
-pub put_adds_units : PutAddsUnits
-put_adds_units s frames p =
-    (λ u. ⊎_elim (λ (e : u.frame ≡ s). inr (unit_in (put s frames) (s ∷ []) p u (inl e))) (λ (m : Among u.frame frames). inl (unit_in (put s frames) frames p u m)) (among_put s u.frame frames u.among), λ o. ⊎_elim (λ (u : HasUnit frames p). unit_in frames (put s frames) p u (put_among s u.frame frames (inr u.among))) (λ (u : HasUnit (s ∷ []) p). unit_in (s ∷ []) (put s frames) p u (only u.frame u.among)) o)
+pub storing_adds_units : StoringAddsUnits
+storing_adds_units s frames p =
+    (λ u. ⊎_elim (λ (e : u.frame ≡ s). inr (unit_in (s ∷ frames) (s ∷ []) p u (inl e))) (λ (m : Among u.frame frames). inl (unit_in (s ∷ frames) frames p u m)) u.among, λ o. ⊎_elim (λ (u : HasUnit frames p). unit_in frames (s ∷ frames) p u (inr u.among)) (λ (u : HasUnit (s ∷ []) p). unit_in (s ∷ []) (s ∷ frames) p u (only u.frame u.among)) o)
   where
-    only : (t : Placed) → Among t (s ∷ []) → Among t (put s frames)
-    only t (inl e) = put_among s t frames (inl e)
+    only : (t : Placed) → Among t (s ∷ []) → Among t (s ∷ frames)
+    only t (inl e) = inl e
     only t (inr m) = absurd m
 
 pub more_units_reach_further : MoreUnitsReachFurther

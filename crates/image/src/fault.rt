@@ -4,6 +4,9 @@ ghost use Rattle.image.specs.Codes.{code_of};
 use std::fmt;
 use thiserror::Error;
 
+/// How many consumers an image has at the most.
+pub const CONSUMERS: usize = 8;
+
 /// Why an image can't be opened. Nothing was made then.
 #[derive(Clone, Copy, Debug, PartialEq, Eq, Error)]
 pub enum ImageError {

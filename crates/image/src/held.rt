@@ -1,21 +1,19 @@
-//! Frames of a stream: what is kept of one, and what is shown.
-ghost use Rattle.std.specs.Prelude.{◌≡◌, ◌≤◌, ◌^◌, ◌&&◌, nat_eq, if◌then◌else◌};
+//! Frames of a stream: what is kept of one, and whether it lies in one term.
+ghost use Rattle.std.specs.Prelude.{◌≡◌, ◌≤◌, ◌^◌, ◌&&◌, nat_eq};
 ghost use Rattle.theory.specs.Insert.{same_kind};
 ghost use Rattle.theory.specs.Placed.{frame_length, is_padding};
 ghost use Rattle.theory.specs.Position.{aligned};
-ghost use Rattle.theory.specs.Wire.{IsFrame, Wire};
-ghost use Rattle.frames.specs.Fronts.{BeginsWith};
+ghost use Rattle.theory.specs.Wire.{IsFrame};
 ghost use Rattle.frames.specs.Frames.{wire};
-ghost use Rattle.position.specs.declared.head.FrameKind.TheVariants.{Data, Pad};
-ghost use Rattle.image.specs.Kinds.{head_at, is_pad};
-ghost use Rattle.image.specs.Ring.{frame_in};
+ghost use Rattle.image.specs.Kinds.{is_pad};
+ghost use Rattle.image.specs.Seen.{crosses};
 ghost use Rattle.image.specs.Stored.{IsOfStream, stream_frame};
 
-use frames::{Frame, front_of};
-use position::{FrameHead, FrameKind, align32};
+use frames::Frame;
+use position::{FrameHead, FrameKind, Geometry, align32, split_by};
 
 /// The kind and the length of a frame of a stream.
-pub fn measure(frame: &Frame<'_>) -> (FrameKind, u32)
+pub(crate) fn measure(frame: &Frame<'_>) -> (FrameKind, u32)
     requires frame { IsFrame (wire frame.now) }
     requires stored { IsOfStream frame.now }
     ensures kind { is_pad result.0 ≡ is_padding (stream_frame frame.now) }
@@ -31,7 +29,7 @@ pub fn measure(frame: &Frame<'_>) -> (FrameKind, u32)
 }
 
 /// The bytes of the stream that it covers.
-pub fn covered(frame: &Frame<'_>) -> u32
+pub(crate) fn covered(frame: &Frame<'_>) -> u32
     requires frame { IsFrame (wire frame.now) }
     requires stored { IsOfStream frame.now }
     ensures value { result ≡ aligned (frame_length (stream_frame frame.now)) }
@@ -42,36 +40,22 @@ pub fn covered(frame: &Frame<'_>) -> u32
     align32(frame_length)
 }
 
-fn kind_of(is_padding: bool) -> FrameKind
-    ensures { result ≡ (if is_padding then Pad else Data) }
-{
-    if is_padding {
-        FrameKind::Pad
-    } else {
-        FrameKind::Data
-    }
-}
-
-/// What a reader is shown of the frame that the bytes begin with, where it starts at this position.
-pub(crate) fn read_head(start: u64, bytes: &[u8]) -> FrameHead
-    requires { (w : Wire) × BeginsWith bytes.now w }
-    ensures value { (w : Wire) → BeginsWith bytes.now w → result ≡ head_at start (frame_in w) }
-    ensures least { 32 ≤ result.frame_length }
-    ensures greatest { result.frame_length ≤ 2 ^ 24 }
-    ensures data { result.kind ≡ Data → result.frame_length ≤ 65504 }
-{
-    let front = front_of(bytes);
-    FrameHead {
-        start,
-        kind: kind_of(front.is_padding),
-        flags: front.flags,
-        frame_length: front.frame_length,
-    }
-}
-
 /// Whether it is of this kind and length.
-pub fn is_like(head: &FrameHead, kind: FrameKind, length: u32) -> bool
+pub(crate) fn is_like(head: &FrameHead, kind: FrameKind, length: u32) -> bool
     ensures { result ≡ (same_kind (is_pad kind) (is_pad head.now.kind) && nat_eq length head.now.frame_length) }
 {
     kind == head.kind && length == head.frame_length
+}
+
+/// Whether so many bytes from a position on would pass the end of their term, whose offsets are counted from 0 up.
+pub(crate) fn crosses_term(geometry: &Geometry, position: i64, covered: u32) -> bool
+    requires { covered ≤ 2 ^ 24 }
+    ensures { result ≡ crosses geometry.now.term_length position covered }
+{
+    let length = geometry.term_length();
+    if position < 0 {
+        return position.rem_euclid(i64::from(length)) + i64::from(covered) > i64::from(length);
+    }
+    let (_, offset) = split_by(position as u64, length);
+    offset + covered > length
 }

@@ -1,42 +1,41 @@
-//! An image: what a receiver has rebuilt of a stream, where its consumers stand, what it misses, and when to tell of
-//! that.
+//! The image that a receiver rebuilds of a stream, in a ring of three terms, by one inserter and for up to eight readers, which
+//! share it without a lock.
 //!
-//! It holds whole frames by their positions, in the bytes of three cyclic terms and the bits of their units, 64 in a
-//! word; it takes that memory when it is opened, and no other call asks for any. An image is its join, window, held
-//! frames, high-water mark and consumers, and every call is exact (`Image::open`, `insert`, `heartbeat`, `rebuilt`,
-//! `read`, `advance`): `open`'s four faults in order, memory's only where the three others aren't met; what is
-//! answered to any frame and what is held after it; which heartbeats are accepted; what `read` shows of the one frame
-//! that is held there; what `advance` forgets. The rebuilt position is the contiguous end of what is held, never
-//! above the mark nor below a consumer; the mark is at most two terms above the least consumer. Held frames never
-//! overlap and end within their terms (`Image::held_apart`), and with more units the contiguous end is no smaller
-//! (`units_grow`). Nothing is asked of what comes but that a frame is readable and a position in whole units.
-//! `Occupancy` says of its bits which are set or cleared by a call, to the last one, and that the others stay.
+//! `open` gives an image and its inserter, with its refusals in order, memory's last; it takes all memory that is ever needed,
+//! and no call waits. `deal` gives a reader. `insert`, `heartbeat` and `least` look once at each consumer, let go of what all
+//! of them have passed, and answer by the least position that this very call read. The inserter's value is all frames that
+//! were ever stored, the high-water mark, the floor below which nothing is held any more, and where it saw the consumers and
+//! how often it looked at each. Stored frames never overlap (`stored_apart`). The first gap is the defined one, and finding it
+//! takes at most two looks at words of bits and one for each 2,048 of its bytes (`first_gap`, `held_word`, `Steps`).
+//! `LossDetector::scan` says when a gap is told.
 //!
-//! The first gap is the computed one of what the image holds, and so the defined one for every contiguous end
-//! (`first_gap`). Finding it takes at most two looks at words of bits and one for each 2,048 of its bytes, as far as
-//! looks are counted in the `Steps` that it was handed, and none where there is no gap. A scan tells exactly what the
-//! definition tells, for all moments (`LossDetector::scan`).
+//! A reader reads the frame where it stands (`read`) and moves behind it (`advance`). Where it and the inserter meet (`meet`),
+//! the reader knows just the frames that were stored, and the inserter has seen it where it stands. So where one hand has
+//! both, `read_past` is exact. What `insert` and `heartbeat` say is an event of the definitions' image
+//! (`calls_are_events`), and with more units the contiguous end is no smaller (`units_grow`).
 #![tactic(auto)]
 
 mod answer;
 mod detector;
 mod fault;
-mod gap;
 mod held;
-mod held_frames;
-mod image;
-mod insert;
-mod laws;
-mod occupancy;
-mod read;
+mod inserter;
+mod law;
+mod meeting;
+mod reader;
 mod steps;
+mod words;
 
 pub use answer::Insert;
 pub use detector::LossDetector;
-pub use fault::ImageError;
-pub use gap::first_gap;
-pub use held::{covered, is_like, measure};
-pub use image::{CONSUMERS, Image};
-pub use insert::crosses_term;
-pub use laws::units_grow;
+pub use fault::{CONSUMERS, ImageError};
+pub use inserter::gap::{first_gap, held_word};
+pub use inserter::inserting::{heartbeat, insert};
+pub use inserter::{Inserter, deal, least, open};
+pub use law::{calls_are_events, units_grow};
+pub use meeting::meet;
+pub use reader::ImageReader;
+pub use reader::alone::read_past;
+pub use reader::reading::{advance, read};
 pub use steps::Steps;
+pub use words::image::Image;

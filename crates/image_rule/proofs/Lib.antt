@@ -13,3 +13,4 @@ pub mod Dealing
 pub mod Found
 pub mod Units
 pub mod Events
+pub mod MissRows

@@ -1,7 +1,7 @@
 -- The threads' parts of an image.
 use Rattle.std.specs.Prelude.{◌≤◌, length}
-use Rattle.shared_image.specs.Handles.{ImageWords, IsReaderOf}
-use Rattle.rebuilder.specs.Seen.{IsInserterOf}
+use Rattle.image.specs.Handles.{ImageWords, IsReaderOf}
+use Rattle.image.specs.Rebuilding.{IsInserterOf}
 use Rattle.image_tests.specs.declared.parties.Party.{Party}
 use Rattle.image_tests.specs.declared.parties.Party.TheVariants.{Inserting, Reading}
 

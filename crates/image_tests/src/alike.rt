@@ -2,10 +2,8 @@ ghost use Rattle.std.specs.Prelude.{◌<◌};
 
 use crate::images::{DATA, PAD, filled};
 use crate::map_image::{Kept, MapImage, TERM};
-use crate::shared::{OneHand, Shared};
-use crate::subject::Subject;
+use crate::parts::Parts;
 use block::Block;
-use image::Image;
 use position::{Geometry, Identity};
 use rand_core::utils::NextWord;
 use rand_pcg::Pcg32;
@@ -64,10 +62,10 @@ fn draw_frame(draws: &mut Pcg32, position: i64) -> Kept {
 }
 
 /// Gives both a frame. Whether they answer alike.
-fn give<S: Subject>(
+fn give(
     alloc: Global,
     draws: &mut Pcg32,
-    image: &mut S,
+    image: &mut Parts,
     map: &mut MapImage,
 ) -> Result<bool, Fail> {
     let position = draw_position(draws, map);
@@ -77,13 +75,13 @@ fn give<S: Subject>(
 }
 
 /// Gives both a heartbeat. Whether they answer alike.
-fn beat<S: Subject>(draws: &mut Pcg32, image: &mut S, map: &mut MapImage) -> bool {
+fn beat(draws: &mut Pcg32, image: &mut Parts, map: &mut MapImage) -> bool {
     let position = draw_position(draws, map);
     position.rem_euclid(32) == 0 && image.heartbeat(position) == map.heartbeat(position)
 }
 
 /// Reads the frame at a consumer's position from both, and moves past it. Whether they answer alike.
-fn pass<S: Subject>(image: &mut S, map: &mut MapImage, consumer: usize, block: &mut Block) -> bool {
+fn pass(image: &mut Parts, map: &mut MapImage, consumer: usize, block: &mut Block) -> bool {
     let head = image.pass(consumer, block);
     match map.pass(consumer) {
         None => head.is_none(),
@@ -100,7 +98,7 @@ fn pass<S: Subject>(image: &mut S, map: &mut MapImage, consumer: usize, block: &
 }
 
 /// Whether both stand alike, with the same first gap.
-fn stand<S: Subject>(image: &mut S, map: &MapImage) -> bool {
+fn stand(image: &mut Parts, map: &MapImage) -> bool {
     let standing = image.stand();
     standing.least == map.least().cast_unsigned()
         && standing.rebuilt == map.rebuilt().cast_unsigned()
@@ -109,10 +107,10 @@ fn stand<S: Subject>(image: &mut S, map: &MapImage) -> bool {
 }
 
 /// One step of a list: a frame, a heartbeat or a read. Whether both answer alike, and stand alike then.
-fn step<S: Subject>(
+fn step(
     alloc: Global,
     draws: &mut Pcg32,
-    image: &mut S,
+    image: &mut Parts,
     map: &mut MapImage,
     block: &mut Block,
 ) -> Result<bool, Fail> {
@@ -128,10 +126,10 @@ fn step<S: Subject>(
 }
 
 /// Gives both all lists. Whether they always answer alike.
-fn stay_alike<S: Subject>(
+fn stay_alike(
     alloc: Global,
     draws: &mut Pcg32,
-    image: &mut S,
+    image: &mut Parts,
     map: &mut MapImage,
     block: &mut Block,
 ) -> Result<bool, Fail> {
@@ -142,16 +140,6 @@ fn stay_alike<S: Subject>(
     Ok(alike)
 }
 
-/// Which image is tried.
-#[derive(Clone, Copy)]
-enum Tried {
-    Plain,
-    /// The one that threads share.
-    Shared,
-    /// The same, with one consumer that meets the inserter in each call.
-    OneHand,
-}
-
 /// What an image is opened with.
 #[derive(Clone, Copy)]
 struct Opening {
@@ -160,27 +148,18 @@ struct Opening {
     consumers: usize,
 }
 
-fn draw_opening(draws: &mut Pcg32, tried: Tried) -> Opening {
-    let most = match tried {
-        Tried::OneHand => 1,
-        Tried::Plain | Tried::Shared => 3,
-    };
+fn draw_opening(draws: &mut Pcg32) -> Opening {
     Opening {
         join: below(draws, 8192),
         window: 1408 + 32 * below(draws, 981),
-        consumers: 1 + below(draws, most) as usize,
+        consumers: 1 + below(draws, 3) as usize,
     }
 }
 
 /// Opens both by these draws, and gives them all lists. Whether they always answer alike.
-fn are_alike(
-    alloc: Global,
-    draws: &mut Pcg32,
-    tried: Tried,
-    block: &mut Block,
-) -> Result<bool, Fail> {
+fn are_alike(alloc: Global, draws: &mut Pcg32, block: &mut Block) -> Result<bool, Fail> {
     let geometry = Geometry::new(65_536, 1408, 7)?;
-    let opening = draw_opening(draws, tried);
+    let opening = draw_opening(draws);
     let join = 32 * u64::from(opening.join);
     let mut map = MapImage::open(
         alloc,
@@ -189,50 +168,16 @@ fn are_alike(
         opening.consumers,
     )?;
     let identity = Identity::new(geometry, 1, 1001);
-    match tried {
-        Tried::Plain => {
-            let mut image = Image::open(alloc, geometry, join, opening.window, opening.consumers)?;
-            stay_alike(alloc, draws, &mut image, &mut map, block)
-        }
-        Tried::Shared => {
-            let mut image = Shared::open(alloc, identity, join, opening.window, opening.consumers)?;
-            stay_alike(alloc, draws, &mut image, &mut map, block)
-        }
-        Tried::OneHand => {
-            let mut image = OneHand::open(alloc, identity, join, opening.window)?;
-            stay_alike(alloc, draws, &mut image, &mut map, block)
-        }
-    }
+    let mut image = Parts::open(alloc, identity, join, opening.window, opening.consumers)?;
+    stay_alike(alloc, draws, &mut image, &mut map, block)
 }
 
-/// Whether they answer alike for each of the images.
-fn all_alike(alloc: Global, tried: Tried) -> Result<bool, Fail> {
-    let mut block = Block::new(alloc, 65_472)?;
-    let mut alike = true;
-    for number in 0..IMAGES {
-        alike &= are_alike(alloc, &mut Pcg32::new(number, 0), tried, &mut block)?;
-    }
-    Ok(alike)
-}
-
-/// An image in three terms and one by a map give the same answers to ten thousand lists, from any join on, also round the
-/// three terms.
+/// An image and one by a map give the same answers to ten thousand lists, from any join on, also round the three terms.
 #[test]
 fn alike(rt: HostRuntime) -> Result<(), Fail> {
-    assert!(rt; all_alike(rt.alloc(), Tried::Plain)?);
-    Ok(())
-}
-
-/// So do an image that threads share and one by a map.
-#[test]
-fn shared_alike(rt: HostRuntime) -> Result<(), Fail> {
-    assert!(rt; all_alike(rt.alloc(), Tried::Shared)?);
-    Ok(())
-}
-
-/// And the same in one hand.
-#[test]
-fn alike_in_one_hand(rt: HostRuntime) -> Result<(), Fail> {
-    assert!(rt; all_alike(rt.alloc(), Tried::OneHand)?);
+    let mut block = Block::new(rt.alloc(), 65_472)?;
+    for number in 0..IMAGES {
+        assert!(rt; are_alike(rt.alloc(), &mut Pcg32::new(number, 0), &mut block)?);
+    }
     Ok(())
 }

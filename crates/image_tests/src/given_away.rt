@@ -2,14 +2,13 @@
 
 ghost use Rattle.std.specs.Prelude.{◌≡◌, ◌≤◌, IfSome, length};
 ghost use Rattle.std.specs.Arc.{arc_value};
-ghost use Rattle.shared_image.specs.Handles.{IsReaderOf};
+ghost use Rattle.image.specs.Handles.{IsReaderOf};
 
 use block::Block;
 use frames::{Frame, Header, Setup, write_frame};
-use image::Insert;
+use image::{ImageReader, Insert, advance, read};
 use position::UNFRAGMENTED;
 use receiver::{Outcome, Readers, ReceiverCore};
-use shared_image::{ImageReader, advance, read};
 use std::alloc::{AllocError, Global};
 use std::test::Fail;
 

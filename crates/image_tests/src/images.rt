@@ -1,7 +1,7 @@
-use crate::subject::Subject;
+use crate::parts::Parts;
 use block::Block;
 use frames::{Frame, read_frame};
-use image::{Image, ImageError, Insert};
+use image::{ImageError, Insert};
 use position::{FrameHead, FrameKind, Geometry, GeometryError, Identity};
 use std::alloc::{AllocError, Global};
 use std::process::Abort;
@@ -10,14 +10,6 @@ use std::test::*;
 pub(crate) const DATA: FrameKind = FrameKind::Data;
 
 pub(crate) const PAD: FrameKind = FrameKind::Pad;
-
-/// An image of terms of 65,536 bytes and an MTU of 1408.
-fn opened(alloc: Global, join: u64, window: u32, consumers: usize) -> Result<Image, ImageError> {
-    let Ok(geometry) = Geometry::new(65_536, 1408, 7) else {
-        return Err(ImageError::Memory);
-    };
-    Image::open(alloc, geometry, join, window, consumers)
-}
 
 /// The bytes of a frame of this length, header counted: a whole message with one byte over and over, or a padding.
 fn spelled(alloc: Global, kind: FrameKind, length: u32, byte: u8) -> Result<Vec<u8>, AllocError> {
@@ -34,9 +26,9 @@ fn spelled(alloc: Global, kind: FrameKind, length: u32, byte: u8) -> Result<Vec<
 }
 
 /// What becomes of such a frame, whose payload bytes are all the same. There is none where it can't be had.
-pub(crate) fn filled<S: Subject>(
+pub(crate) fn filled(
     alloc: Global,
-    image: &mut S,
+    image: &mut Parts,
     kind: FrameKind,
     position: i64,
     length: u32,
@@ -53,13 +45,13 @@ pub(crate) fn filled<S: Subject>(
 }
 
 /// Whether an image answers so to such a frame.
-fn answers(alloc: Global, image: &mut Image, frame: (FrameKind, i64, u32), answer: Insert) -> bool {
+fn answers(alloc: Global, image: &mut Parts, frame: (FrameKind, i64, u32), answer: Insert) -> bool {
     filled(alloc, image, frame.0, frame.1, frame.2, 0x61) == Some(answer)
 }
 
 /// Whether a whole message or a padding starts where a consumer stands, which then is moved past it.
 fn passes(
-    image: &mut Image,
+    image: &mut Parts,
     consumer: usize,
     block: &mut Block,
     frame: (FrameKind, u64, u32),
@@ -74,7 +66,7 @@ fn passes(
 }
 
 /// Whether all up to the high-water mark is rebuilt, and the least consumer stands there.
-fn stands(image: &mut Image, rebuilt: u64, least: u64) -> bool {
+fn stands(image: &mut Parts, rebuilt: u64, least: u64) -> bool {
     let standing = image.stand();
     standing.rebuilt == rebuilt
         && standing.high_water == rebuilt
@@ -82,8 +74,8 @@ fn stands(image: &mut Image, rebuilt: u64, least: u64) -> bool {
         && standing.gap.is_none()
 }
 
-/// Why an image that threads share isn't opened.
-fn not_shared(
+/// Why an image isn't opened.
+fn refusal(
     alloc: Global,
     join: u64,
     window: u32,
@@ -91,7 +83,7 @@ fn not_shared(
 ) -> Result<Option<ImageError>, GeometryError> {
     let geometry = Geometry::new(65_536, 1408, 7)?;
     let identity = Identity::new(geometry, 1, 1001);
-    Ok(rebuilder::open(alloc, identity, join, window, consumers).err())
+    Ok(image::open(alloc, identity, join, window, consumers).err())
 }
 
 /// Joins, windows and numbers of consumers, and what is wrong with them.
@@ -109,8 +101,7 @@ fn openings(rt: HostRuntime) -> Result<(), Fail> {
         (0, 32_768, 0, Some(ImageError::Consumers)),
         (0, 32_768, 9, Some(ImageError::Consumers)),
     ] {
-        assert!(rt; opened(rt.alloc(), join, window, consumers).err() == fault);
-        assert!(rt; not_shared(rt.alloc(), join, window, consumers)? == fault);
+        assert!(rt; refusal(rt.alloc(), join, window, consumers)? == fault);
     }
     Ok(())
 }
@@ -129,7 +120,7 @@ enum Step {
 }
 
 /// Whether a step ends as it says.
-fn is_met(alloc: Global, image: &mut Image, block: &mut Block, step: &Step) -> bool {
+fn is_met(alloc: Global, image: &mut Parts, block: &mut Block, step: &Step) -> bool {
     match step {
         Step::Comes(kind, position, length, answer) => {
             answers(alloc, image, (*kind, *position, *length), *answer)
@@ -146,7 +137,7 @@ fn is_met(alloc: Global, image: &mut Image, block: &mut Block, step: &Step) -> b
 fn take_steps<R: Abort>(
     rt: &R,
     alloc: Global,
-    image: &mut Image,
+    image: &mut Parts,
     block: &mut Block,
     steps: &[Step],
 ) {
@@ -170,11 +161,11 @@ const ONE_BEHIND: [Step; 9] = [
 /// Two consumers: what the slower one has yet to read is kept.
 #[test]
 fn slower_consumer(rt: HostRuntime) -> Result<(), Fail> {
-    let mut image = opened(rt.alloc(), 64, 4096, 2)?;
+    let identity = Identity::new(Geometry::new(65_536, 1408, 7)?, 1, 1001);
+    let mut image = Parts::open(rt.alloc(), identity, 64, 4096, 2)?;
     let mut block = Block::new(rt.alloc(), 65_472)?;
     take_steps(&rt, rt.alloc(), &mut image, &mut block, &ONE_BEHIND);
     assert!(rt; image.consumers() == 2);
-    assert!(rt; image.position(1) == 4160);
     Ok(())
 }
 
@@ -185,7 +176,7 @@ const WHOLE: [Step; 3] = [
 ];
 
 /// Whether a frame of the greatest MTU is read there, and each byte of its payload. The block then is empty.
-fn passes_whole(image: &mut Image, block: &mut Block, start: u64) -> bool {
+fn passes_whole(image: &mut Parts, block: &mut Block, start: u64) -> bool {
     let passed = passes(image, 0, block, (DATA, start, 65_504));
     let filled = block.bytes().iter().all(|byte| *byte == 0x61);
     block.bytes_mut().fill(0);
@@ -196,41 +187,12 @@ fn passes_whole(image: &mut Image, block: &mut Block, start: u64) -> bool {
 #[test]
 fn whole_mtu(rt: HostRuntime) -> Result<(), Fail> {
     let geometry = Geometry::new(16_777_216, 65_504, 7)?;
-    let mut image = Image::open(rt.alloc(), geometry, 0, 8_388_608, 1)?;
+    let identity = Identity::new(geometry, 1, 1001);
+    let mut image = Parts::open(rt.alloc(), identity, 0, 8_388_608, 1)?;
     let mut block = Block::new(rt.alloc(), 65_472)?;
     take_steps(&rt, rt.alloc(), &mut image, &mut block, &WHOLE);
     assert!(rt; passes_whole(&mut image, &mut block, 0));
     assert!(rt; passes_whole(&mut image, &mut block, 65_504));
     assert!(rt; image.pass(0, &mut block).is_none());
-    Ok(())
-}
-
-const FIRST: [Step; 1] = [Step::Comes(DATA, 131_136, 1408, Insert::Stored)];
-
-const LAST: [Step; 2] = [
-    Step::Comes(DATA, 131_136, 1408, Insert::Below),
-    Step::Stands(132_544, 132_544),
-];
-
-/// Eight consumers pass a frame one after the other, which is there until the last of them has.
-fn pass_in_turn<R: Abort>(rt: &R, alloc: Global, image: &mut Image, block: &mut Block) {
-    for consumer in 0..8 {
-        let steps = [
-            Step::Comes(DATA, 131_136, 1408, Insert::Duplicate),
-            Step::Stands(132_544, 131_136),
-            Step::Passes(consumer, DATA, 131_136, 1408),
-        ];
-        take_steps(rt, alloc, image, block, &steps);
-    }
-}
-
-/// Eight consumers at a later join: a frame is kept until the last of them has passed it.
-#[test]
-fn eight_consumers(rt: HostRuntime) -> Result<(), Fail> {
-    let mut image = opened(rt.alloc(), 131_136, 4096, 8)?;
-    let mut block = Block::new(rt.alloc(), 65_472)?;
-    take_steps(&rt, rt.alloc(), &mut image, &mut block, &FIRST);
-    pass_in_turn(&rt, rt.alloc(), &mut image, &mut block);
-    take_steps(&rt, rt.alloc(), &mut image, &mut block, &LAST);
     Ok(())
 }

@@ -1,6 +1,6 @@
-//! Tests of a receiver's images, the plain one and the one that threads share: each and one by a map of whole frames answer
-//! drawn frames, heartbeats and reads alike; one inserter and two readers, in threads of their own, go round the ring many
-//! times; and a receiver's core gives its image's readers away once.
+//! Tests of a receiver's image: it and one by a map of whole frames answer drawn frames, heartbeats and reads alike; one
+//! inserter and two readers, in threads of their own, go round the ring many times; and a receiver's core gives its image's
+//! readers away once.
 #![tactic(auto)]
 
 #[cfg(test)]
@@ -13,12 +13,10 @@ mod images;
 mod map_image;
 mod parties;
 #[cfg(test)]
-mod shared;
+mod parts;
 mod stream_frames;
 #[cfg(test)]
 mod streams;
-#[cfg(test)]
-mod subject;
 
 pub use parties::Party;
 pub use stream_frames::{LONGEST, frame_at, frame_of};

@@ -1,8 +1,7 @@
 //! What the threads of these tests have.
 
 use block::Block;
-use rebuilder::Inserter;
-use shared_image::ImageReader;
+use image::{ImageReader, Inserter};
 
 /// Who has a thread.
 #[derive(Drop)]

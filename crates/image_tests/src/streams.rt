@@ -2,17 +2,15 @@
 
 ghost use Rattle.std.specs.Prelude.{◌≡◌, ◌+◌, ◌%◌, ◌^◌, ◌≤◌, length, IfOk};
 ghost use Rattle.std.specs.List.{AllByRecursion};
-ghost use Rattle.shared_image.specs.Handles.{IsReaderOf};
-ghost use Rattle.rebuilder.specs.Seen.{IsInserterOf};
+ghost use Rattle.image.specs.Handles.{IsReaderOf};
+ghost use Rattle.image.specs.Rebuilding.{IsInserterOf};
 ghost use Rattle.image_tests.specs.Parties.{IsParty};
 
 use crate::parties::Party;
 use crate::stream_frames::{LONGEST, frame_at, frame_of};
 use block::Block;
-use image::Insert;
+use image::{Image, ImageReader, Insert, Inserter, advance, deal, insert, open, read};
 use position::{FrameHead, FrameKind, Geometry, Identity, UNFRAGMENTED, align32};
-use rebuilder::{Inserter, deal, insert, open};
-use shared_image::{Image, ImageReader, advance, read};
 use std::alloc::{AllocError, Global};
 use std::test::*;
 use std::thread;

@@ -1,33 +1,17 @@
 //! Frames, stored into open claims.
 
-ghost use Rattle.std.specs.Prelude.{◌≡◌, ◌+◌, ◌-◌, ◌^◌, ◌<◌, ◌≤◌, ◌∷◌, [], length, true};
+ghost use Rattle.std.specs.Prelude.{◌≡◌, ◌+◌, ◌≤◌, ◌∷◌, [], length, true};
 ghost use Rattle.theory.specs.Position.{aligned, cuts_of, framed_length, max_message, max_position};
 ghost use Rattle.theory.specs.Placed.{Data, Pad};
 ghost use Rattle.theory.specs.Wire.{IsDataFlags};
-ghost use Rattle.frame_words.specs.Words as said;
 ghost use Rattle.publication.specs.Frames.{frame_flags, stored_words};
 ghost use Rattle.publication.specs.Claims.{Fills, HasBlank, PartOfCall, exactly, message_words};
 ghost use Rattle.publication.specs.Offers.{FillsAll, HasBlanks};
 
 use crate::order::InOrder;
 use crate::words::WordCalls;
-use frame_words::{first_word, pair_word};
-use position::{BEGIN, END, Identity, UNFRAGMENTED};
-
-/// The second and the third word of a header at a position; the fourth one is zero.
-#[inline(always)]
-fn header_words(identity: &Identity, start: u64) -> (u64, u64)
-    requires { start ≤ max_position identity.now.geometry }
-    ensures words { said.header_words identity.now start ≡ result.0 ∷ result.1 ∷ 0 ∷ [] }
-    ensures below { start < 2 ^ 56 }
-{
-    let place = identity.geometry().term_of(start);
-    let session = identity.session().cast_unsigned();
-    let stream = identity.stream().cast_unsigned();
-    let second = pair_word(place.offset, session);
-    let third = pair_word(stream, place.term_id.cast_unsigned());
-    (second, third)
-}
+use frame_words::{first_word, header_words};
+use position::{BEGIN, END, UNFRAGMENTED};
 
 /// Writes and commits a data frame into an open frame of its length, of which nothing is stored.
 #[inline(always)]

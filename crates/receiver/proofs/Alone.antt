@@ -4,9 +4,9 @@ use Rattle.std.proofs.Common.{◌≡◌, ℕ, suc, ◌*◌, ◌≤◌, inl, inr,
 use Rattle.std.specs.Prelude.{⊤, slice_index, slice_set}
 use Rattle.std.specs.List.{AllByRecursion}
 use Rattle.theory.specs.Wire.{Wire}
-use Rattle.shared_image.specs.Handles.{IsReaderOf, ReaderSeat, position_of}
-use Rattle.rebuilder.specs.Meeting.{AreAlone, Meets, number_of}
-use Rattle.rebuilder.specs.Seen.{Inserting, geometry_of, join_of}
+use Rattle.image.specs.Handles.{IsReaderOf, ReaderSeat, position_of}
+use Rattle.image.specs.Meeting.{AreAlone, Meets, number_of}
+use Rattle.image.specs.Rebuilding.{Inserting, geometry_of, join_of}
 use Rattle.receiver.specs.declared.receiver_core.Outcome.{Outcome}
 use Rattle.receiver.specs.Receiving.{MeetsAll, Opened, Receiver, TakesDatagram, at_moment}
 use Rattle.receiver.specs.Representing.{Becomes, Core, HearsDatagram, ImageSeesOn, MeetsEach, Represents, RepresentsImage, RepresentsOpened, core_seen_as, image_seen_as, words_of}

@@ -1,6 +1,6 @@
 -- Frames that a reader hears by itself.
 use Rattle.std.proofs.Common.{append-nil, ◌≡◌, ◌↔◌, ℕ, ◌≤◌, ◌⊎◌, inl, inr, List, [], ◌∷◌, ◌++◌, map, false, true, Bool, Option, None, Some, Ok, Err, refl, sym, ap, ◌∙◌, subst, arith}
-use Rattle.std.specs.Prelude.{◌-◌, ◌<◌, ◌^◌, IfErr, IfOk, Result, option_map}
+use Rattle.std.specs.Prelude.{◌+◌, ◌-◌, ◌<◌, ◌^◌, IfErr, IfOk, Result, option_map}
 use Rattle.assembler.specs.declared.assembler.Message.{Message}
 use Rattle.std.specs.Option.{option_to_list}
 use Rattle.std.proofs.lemmas.List.{map-append}
@@ -16,8 +16,8 @@ use Rattle.assembler.specs.declared.fault.AssemblyError.TheVariants.{Memory, Too
 use Rattle.receiver.specs.Polling.{AsksMemory, IsTooLong}
 use Rattle.image.specs.Kinds.{head_at}
 use Rattle.position.specs.declared.head.FrameHead.{FrameHead}
-use Rattle.rebuilder.specs.Reading.{FindsHere, FindsNothing, PassesOn, read_end}
-use Rattle.shared_image.specs.Handles.{ImageWords, ReaderSeat, known_by, position_of}
+use Rattle.image.specs.Finding.{FindsHere, FindsNothing, PassesOn, read_end}
+use Rattle.image.specs.Handles.{ImageWords, ReaderSeat, known_by, misses_of, position_of}
 use Rattle.receiver.specs.Subscribing.{heard_of}
 use Rattle.receiver.specs.Reading.{FindsFrame, FindsNone, GivesMessage, GivesNothing, Hears, HearsFurther, HearsOne, Passes, PassesRead, Reading, ReadsFurther, ReadsOn, RefusesFrame, RefusesOne, WaitsSo, assembled, heard_to_of}
 use Rattle.receiver.proofs.Lived.Moved.{given_more, heard_on}
@@ -46,11 +46,12 @@ heard_more begun now frames s e = assembled_more begun frames s ∙ ap (λ a. af
 
 -- ---- in the course of a poll
 
--- some frames were heard that gave no message, and its reader stands behind them
+-- some frames were heard that gave no message, and its reader stands behind them; each of its looks found a frame
 pub record HasHeardOn (m k : Reading) : Type 0 where
   pub frames : List Placed
   pub hears : Hears m frames [] k
   pub stands : position_of k.seat ≡ k.heard_to
+  pub misses : misses_of k.seat ≡ misses_of m.seat
 
 pub starts : (m k : Reading) → Passes m k → HasHeardOn m k
 starts m k p =
@@ -63,6 +64,7 @@ starts m k p =
         heard = ap (λ (a : Assembling). record { begun = a.begun; given = [] }) (sym assembler);
       };
       stands = p.stands ∙ sym to;
+      misses = p.misses;
     }
 
 -- a reading whose reader has passed what was heard
@@ -92,6 +94,7 @@ goes_on m k n q h o p =
       frames = frames;
       hears = record { reads = passed_reads m n q frames one.reads p; heard = one.heard ∙ ap (λ (x : Reading). record { begun = x.assembler.begun; given = [] }) (sym p.same) };
       stands = p.stands ∙ ap (λ (x : Reading). x.heard_to) (sym p.same);
+      misses = p.misses ∙ o.finds.misses ∙ h.misses;
     }
 
 pub gives : (m k n : Reading) (message : List ℕ) → HasHeardOn m k → HearsOne k (Some message) n → GivesMessage m message n
@@ -101,6 +104,7 @@ gives m k n message h o = record {
   nothing = ap (λ (a : Assembly). a.given) h.hears.heard;
   hears = hears_one m k n h.frames (Some message) h.hears o;
   stands = o.finds.stands;
+  misses = o.finds.misses ∙ h.misses;
 }
 
 pub gives_none : (m k n : Reading) → HasHeardOn m k → FindsNone k n → GivesNothing m n
@@ -121,6 +125,7 @@ gives_none m k n h f =
       };
       none = λ s a at. f.none s a (at ∙ to);
       stands = f.stands ∙ sym to;
+      misses = f.misses ∙ ap (λ (k : ℕ). k + 1) h.misses;
     }
 
 pub refuses : (m k n q : Reading) (fault : AssemblyError) → HasHeardOn m k → RefusesOne k fault n → Passes n q → RefusesFrame m fault q
@@ -137,6 +142,7 @@ refuses m k n q fault h o p =
       asked = λ e. subst (λ (b : Option (List ℕ)). AsksMemory b o.frame.frame) (sym begun) (o.asked e);
       dropped = ap (λ (x : Reading). x.assembler.begun) p.same ∙ ap (λ (a : Assembling). a.begun) o.assembler;
       stands = p.stands ∙ ap (λ (x : Reading). x.heard_to) (sym p.same);
+      misses = p.misses ∙ o.finds.misses ∙ h.misses;
     }
 
 -- its reader goes on with each frame, and no position is above 2^61
@@ -164,6 +170,7 @@ found m r a before after head at f = record {
   long = f.long;
   ends = f.ends;
   stands = f.stays.stands ∙ sym f.here;
+  misses = f.misses;
 }
 
 -- what an assembler says that was handed the frame
@@ -191,6 +198,7 @@ passed image r q a p = record {
   same = ap (λ (x : ℕ). record { image = image; seat = q; assembler = a; heard_to = x }) p.stands;
   stands = p.stands;
   keeps = p.keeps;
+  misses = p.misses;
 }
 
 -- ---- whatever the assembler answers
@@ -218,6 +226,7 @@ missed image false r q a before after at waits f = record {
   keeps = f.stays.keeps;
   same = ap (λ (x : ℕ). record { image = image; seat = q; assembler = a; heard_to = x }) f.stays.stands;
   stands = f.stays.stands;
+  misses = f.misses;
 }
 
 -- ---- one after the other

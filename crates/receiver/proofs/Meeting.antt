@@ -25,7 +25,7 @@ use Rattle.frames.specs.declared.fault.FrameError.{FrameError}
 use Rattle.frames.specs.FaultCounts.{counted_at, place_of}
 use Rattle.receiver.specs.SetupFaults.{fault_of}
 use Rattle.receiver.specs.declared.setup.fault.SetupError.{SetupError}
-use Rattle.rebuilder.specs.Seen.{Inserting, geometry_of}
+use Rattle.image.specs.Rebuilding.{Inserting, geometry_of}
 use Rattle.receiver.specs.Receiving.{IfOurs, IsOurs, PassesBy, RefusesDatagram, WouldOpen, Meets, MeetsFrame, MeetsHeartbeat, MeetsSetup, Opened, Receiver, asking, at_moment, given_at, is_due, missing, replied, replies, scanned_at, telling, ticked, told_after}
 use Rattle.receiver.specs.declared.receiver_core.Replies.{Replies}
 use Rattle.receiver.specs.Representing.{Becomes, BecomesSeen, Core, HasNoFrame, HearsBeat, HearsDatagram, ImageLooks, ImageSeesOn, Inserts, IsAtEnd, IsCore, IsForImage, LooksOnce, MeetsEach, PassesFrame, ReadsPast, Represents, RepresentsImage, RepresentsOpened, SeesOn, beaten_at, core_seen_as, image_seen_as, with_reader}

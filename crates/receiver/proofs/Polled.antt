@@ -24,8 +24,8 @@ use Rattle.receiver.proofs.PollFrames.{moved_at, passed_lost}
 use Rattle.theory.proofs.Stays.{after_last}
 use Rattle.receiver.proofs.Shown.{least_shown}
 use Rattle.image.specs.Seen.{least}
-use Rattle.shared_image.specs.Handles.{ReaderSeat, position_of}
-use Rattle.rebuilder.specs.Seen.{Inserting, join_of}
+use Rattle.image.specs.Handles.{ReaderSeat, position_of}
+use Rattle.image.specs.Rebuilding.{Inserting, join_of}
 use Rattle.receiver.specs.Seating.{AreSeated}
 use Rattle.std.proofs.lemmas.Option.{same_Some}
 use Rattle.receiver.specs.Subscribing.{AssemblesFor, HasReadOn, HearsFrame, IsPolling, PassesOn, RefusesFrame, RepresentsSubscriber, Subscribing, heard_of}

@@ -1,6 +1,6 @@
 -- What an image's one reader reads, told of the images of the definitions that it shows.
-use Rattle.std.proofs.Common.{◌≡◌, ℕ, ◌≤◌, List, [], ◌∷◌, map, length, refl, sym, ap, ◌∙◌, subst, arith}
-use Rattle.std.specs.Prelude.{slice_get, slice_index, slice_set}
+use Rattle.std.proofs.Common.{◌≡◌, ℕ, ◌≤◌, List, [], ◌∷◌, Option, None, Some, map, length, refl, sym, ap, ◌∙◌, subst, arith}
+use Rattle.std.specs.Prelude.{IfNone, IfSome, slice_get, slice_index, slice_set}
 use Rattle.std.specs.List.{AllByRecursion}
 use Rattle.theory.specs.Position.{IsGeometry, max_position}
 use Rattle.theory.specs.Placed.{Among, Placed, end_of, frame_length}
@@ -12,9 +12,10 @@ use Rattle.theory.proofs.Parted.{one_frame}
 use Rattle.position.specs.declared.head.FrameHead.{FrameHead}
 use Rattle.image.specs.Kinds.{head_at}
 use Rattle.image.specs.Seen.{IsFit, IsShown}
-use Rattle.shared_image.specs.Handles.{ImageWords, ReaderSeat}
-use Rattle.rebuilder.specs.Meeting.{AreAlone}
-use Rattle.rebuilder.specs.Seen.{Inserting, IsInserterOf, geometry_of, join_of}
+use Rattle.image.specs.Handles.{ImageWords, ReaderSeat, position_of}
+use Rattle.image.specs.Meeting as hand
+use Rattle.image.specs.Meeting.{AreAlone, StandsAtEnd}
+use Rattle.image.specs.Rebuilding.{Inserting, IsInserterOf, geometry_of, join_of}
 use Rattle.receiver.specs.Receiving.{Opened}
 use Rattle.receiver.specs.Representing.{GoesForward, IsAtEnd, ReadsPast, RepresentsImage, with_reader, words_of}
 
@@ -61,12 +62,14 @@ at_end v p at end o h =
 abbrev pub Passes : Inserting → ℕ → ℕ → Type 0
 Passes v p end = (s : Placed) × Among s v.stored × (s.at ≡ p) × (end ≡ end_of s)
 
-pub passed_same : (i m : Inserting) (p q end : ℕ) → m ≡ i → q ≡ p → Passes m q end → Passes i p end
-passed_same i m p q end e f h = subst (λ (x : Inserting × ℕ). Passes x.0 x.1 end) (λ n. (e n, f n)) h
-
 -- the reader has moved, and nothing else
 pub moved_only : (v w : Inserting) (end : ℕ) → w ≡ record v { seen = end ∷ [] } → w ≡ record v { seen = w.seen }
 moved_only v w end e = e ∙ ap (λ (xs : List ℕ). record v { seen = xs }) (sym (ap (λ (x : Inserting). x.seen) e))
+
+-- whether it read a frame or not
+pub shape_of : (v w : Inserting) (r q : ReaderSeat) (before after : List ℕ) (found : Option FrameHead) → IfNone found (StandsAtEnd v r before w q after) → IfSome found (λ head. hand.ReadsPast v r before head w q after) → w ≡ record v { seen = w.seen }
+shape_of v w r q before after None none some = none.inserter ∙ ap (λ (xs : List ℕ). record v { seen = xs }) (sym (ap (λ (x : Inserting). x.seen) none.inserter))
+shape_of v w r q before after (Some head) none some = moved_only v w (position_of q) some.inserter
 
 abbrev pub AreFit : Inserting → Type 0
 AreFit v = AllByRecursion (IsFit (geometry_of v).term_length v.high) v.stored

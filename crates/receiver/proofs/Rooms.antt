@@ -2,9 +2,9 @@
 use Rattle.std.proofs.Common.{IfSome, ◌≡◌, ℕ, zero, suc, ◌≤◌, List, [], ◌∷◌, ◌++◌, length, length-append, Option, None, Some, sym, ap, ◌∙◌, subst, arith}
 use Rattle.std.specs.Arc.{arc_value}
 use Rattle.std.specs.List.{All}
-use Rattle.shared_image.specs.Handles.{ImageWords, IsReaderOf, ReaderSeat, position_of}
-use Rattle.rebuilder.specs.Meeting.{number_of}
-use Rattle.rebuilder.specs.Seen.{Inserting, IsInserterOf, join_of}
+use Rattle.image.specs.Handles.{ImageWords, IsReaderOf, ReaderSeat, position_of}
+use Rattle.image.specs.Meeting.{number_of}
+use Rattle.image.specs.Rebuilding.{Inserting, IsInserterOf, join_of}
 use Rattle.receiver.specs.Dealt.{AreDealt, HasRoom, IsOpenImage, TakesReaders}
 use Rattle.receiver.specs.declared.readers.Readers.{Readers}
 use Rattle.receiver.proofs.ReadOn.{same_words}

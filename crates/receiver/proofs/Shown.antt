@@ -22,8 +22,8 @@ use Rattle.image.specs.Seen.{accepts, least}
 use Rattle.image.specs.Stored.{meant}
 use Rattle.image.specs.declared.answer.Insert as given
 use Rattle.image.specs.declared.answer.Insert.TheVariants as answers
-use Rattle.rebuilder.specs.Seen as rebuilt
-use Rattle.rebuilder.specs.Seen.{Inserting, Looked, geometry_of, join_of}
+use Rattle.image.specs.Rebuilding as rebuilt
+use Rattle.image.specs.Rebuilding.{Inserting, Looked, geometry_of, join_of}
 use Rattle.receiver.specs.Receiving.{Opened, answer_at, gap_in, given_at}
 use Rattle.receiver.specs.Representing.{HearsBeat, Inserts, IsOpen, LooksOnce, RepresentsImage, SeesOn}
 

@@ -5,8 +5,8 @@ use Rattle.std.specs.List.{AllByRecursion}
 use Rattle.theory.specs.Placed.{AllAmong, Chain, Placed}
 use Rattle.theory.specs.Assembly.{after_all, nothing_heard}
 use Rattle.theory.specs.Messages.{messages}
-use Rattle.shared_image.specs.Handles.{ImageWords}
-use Rattle.rebuilder.specs.Seen.{Inserting, join_of}
+use Rattle.image.specs.Handles.{ImageWords}
+use Rattle.image.specs.Rebuilding.{Inserting, join_of}
 use Rattle.receiver.specs.Lives.{IsHonest, IsStream, Stream}
 use Rattle.receiver.specs.Reading.{IsImage}
 use Rattle.receiver.specs.Receiving.{Receiver, ticked}

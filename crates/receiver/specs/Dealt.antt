@@ -1,9 +1,9 @@
 -- The readers of an image, which are given away once.
 use Rattle.std.specs.Prelude.{◌≡◌, ℕ, ◌+◌, ◌≤◌, ⊤, List, [], ◌∷◌, length, Option, None, Some, vec_capacity}
 use Rattle.std.specs.Arc.{arc_value}
-use Rattle.shared_image.specs.Handles.{ImageWords, IsReaderOf, ReaderSeat, position_of}
-use Rattle.rebuilder.specs.Meeting.{Meets, number_of}
-use Rattle.rebuilder.specs.Seen.{Inserting, IsInserterOf, join_of}
+use Rattle.image.specs.Handles.{ImageWords, IsReaderOf, ReaderSeat, position_of}
+use Rattle.image.specs.Meeting.{Meets, number_of}
+use Rattle.image.specs.Rebuilding.{Inserting, IsInserterOf, join_of}
 use Rattle.receiver.specs.Representing.{words_of}
 use Rattle.receiver.specs.declared.readers.Readers.{Readers}
 

@@ -1,15 +1,15 @@
 -- What contracts see of who reads an image's messages, and what it reads.
-use Rattle.std.specs.Prelude.{◌≡◌, ◌↔◌, ◌≤◌, ℕ, true, false, Bool, List, [], ◌∷◌, ◌++◌, map, Option, None, Some, Result, Ok, Err}
+use Rattle.std.specs.Prelude.{◌≡◌, ◌↔◌, ◌+◌, ◌≤◌, ℕ, true, false, Bool, List, [], ◌∷◌, ◌++◌, map, Option, None, Some, Result, Ok, Err}
 use Rattle.theory.specs.Placed.{AllAmong, Among, Chain, Placed, end_of, frame_length, is_padding}
 use Rattle.theory.specs.Assembly.{Assembly, after_all}
 use Rattle.assembler.specs.Assembling.{Assembling}
 use Rattle.assembler.specs.declared.fault.AssemblyError.{AssemblyError}
 use Rattle.assembler.specs.declared.fault.AssemblyError.TheVariants.{Memory, TooLong}
 use Rattle.assembler.specs.declared.assembler.Message.{Message}
-use Rattle.shared_image.specs.Handles.{ImageWords, ReaderSeat, known_by, position_of}
-use Rattle.shared_image.specs.Reading.{MayAdvance}
-use Rattle.rebuilder.specs.Reading.{read_end}
-use Rattle.rebuilder.specs.Seen.{Inserting}
+use Rattle.image.specs.Handles.{ImageWords, ReaderSeat, known_by, misses_of, position_of}
+use Rattle.image.specs.Reading.{MayAdvance}
+use Rattle.image.specs.Finding.{read_end}
+use Rattle.image.specs.Rebuilding.{Inserting}
 use Rattle.receiver.specs.Polling.{AsksMemory, IsTooLong}
 use Rattle.receiver.specs.Representing.{words_of}
 use Rattle.receiver.specs.Subscribing.{heard_of}
@@ -57,20 +57,22 @@ pub record Hears (m : Reading) (frames : List Placed) (given : List (List ℕ)) 
 
 -- ---- a poll
 
--- the frames up to the first that completes a message; the reader stands at that one
+-- the frames up to the first that completes a message; the reader stands at that one, and each of its looks found a frame
 pub record GivesMessage (m : Reading) (message : List ℕ) (n : Reading) : Type 0 where
   pub earlier : List Placed
   pub last : Placed
   pub nothing : (assembled m.assembler.begun earlier).given ≡ []
   pub hears : Hears m (earlier ++ last ∷ []) (message ∷ []) n
   pub stands : position_of n.seat ≡ last.at
+  pub misses : misses_of n.seat ≡ misses_of m.seat
 
--- none of the frames that it found completes a message, and where they end it knows of none
+-- none of the frames that it found completes a message, and where they end it looked once more, and knows of none
 pub record GivesNothing (m n : Reading) : Type 0 where
   pub frames : List Placed
   pub hears : Hears m frames [] n
   pub none : (s : Placed) → Among s (known_by n.seat) → s.at ≡ n.heard_to → ⊥
   pub stands : position_of n.seat ≡ n.heard_to
+  pub misses : misses_of n.seat ≡ misses_of m.seat + 1
 
 -- the frames up to a DATA frame that the assembler refuses: as too long exactly where the message is longer than the greatest with
 -- it, else for want of memory. Nothing is begun then
@@ -84,6 +86,7 @@ pub record RefusesFrame (m : Reading) (fault : AssemblyError) (n : Reading) : Ty
   pub asked : fault ≡ Memory → AsksMemory (assembled m.assembler.begun earlier).begun last.frame
   pub dropped : n.assembler.begun ≡ None
   pub stands : position_of n.seat ≡ n.heard_to
+  pub misses : misses_of n.seat ≡ misses_of m.seat
 
 abbrev pub Answers : {A : Type 0} → Reading → Result (Option (Message A)) AssemblyError → Reading → Type 0
 Answers m (Ok (Some message)) n = GivesMessage m message.bytes.items n
@@ -95,6 +98,7 @@ pub record Passes (m n : Reading) : Type 0 where
   pub same : n ≡ record m { seat = n.seat }
   pub stands : position_of n.seat ≡ m.heard_to
   pub keeps : (s : Placed) → Among s (known_by m.seat) → Among s (known_by n.seat)
+  pub misses : misses_of n.seat ≡ misses_of m.seat
 
 -- ---- one frame
 
@@ -107,13 +111,15 @@ pub record FindsFrame (m : Reading) (s : Placed) (n : Reading) : Type 0 where
   pub long : 32 ≤ frame_length s.frame
   pub ends : n.heard_to ≡ end_of s
   pub stands : position_of n.seat ≡ s.at
+  pub misses : misses_of n.seat ≡ misses_of m.seat
 
--- its reader knows of none there
+-- its reader looked there once more, and knows of none
 pub record FindsNone (m n : Reading) : Type 0 where
   pub none : (s : Placed) → Among s (known_by n.seat) → s.at ≡ m.heard_to → ⊥
   pub keeps : (s : Placed) → Among s (known_by m.seat) → Among s (known_by n.seat)
   pub same : n ≡ record m { seat = n.seat }
   pub stands : position_of n.seat ≡ m.heard_to
+  pub misses : misses_of n.seat ≡ misses_of m.seat + 1
 
 pub record HearsOne (m : Reading) (message : Option (List ℕ)) (n : Reading) : Type 0 where
   pub frame : Placed

@@ -19,8 +19,8 @@ use Rattle.image.specs.Kinds.{head_at}
 use Rattle.image.specs.Seen.{IsCount, least}
 use Rattle.image.specs.Stored.{meant}
 use Rattle.image.specs.declared.answer.Insert.{Insert}
-use Rattle.shared_image.specs.Handles.{ImageWords}
-use Rattle.rebuilder.specs.Seen.{Inserting, geometry_of, join_of}
+use Rattle.image.specs.Handles.{ImageWords}
+use Rattle.image.specs.Rebuilding.{Inserting, geometry_of, join_of}
 use Rattle.receiver.specs.declared.receiver_core.LastSent.{LastSent}
 use Rattle.receiver.specs.declared.receiver_core.Outcome.{Outcome}
 use Rattle.receiver.specs.Receiving.{Meets, Opened, Receiver, RefusesDatagram, answer_at, at_moment, given_at}

@@ -1,8 +1,8 @@
 -- A core and the one reader of its image, in one hand.
 use Rattle.std.specs.Prelude.{◌≡◌, ℕ, ◌≤◌, ⊤, [], ◌∷◌, length, slice_index, Option, None, Some}
-use Rattle.shared_image.specs.Handles.{IsReaderOf, ReaderSeat, position_of}
-use Rattle.rebuilder.specs.Meeting.{AreAlone, number_of}
-use Rattle.rebuilder.specs.Seen.{Inserting, join_of}
+use Rattle.image.specs.Handles.{IsReaderOf, ReaderSeat, position_of}
+use Rattle.image.specs.Meeting.{AreAlone, number_of}
+use Rattle.image.specs.Rebuilding.{Inserting, join_of}
 use Rattle.receiver.specs.Representing.{words_of}
 
 -- the inserter has seen the reader where it stands; there is no reader without an image

@@ -2,12 +2,11 @@
 
 ghost use Rattle.std.specs.Prelude.{◌≡◌, ◌+◌, ◌<◌, ◌≤◌, ◌∷◌, [], length, vec_capacity, IfOk};
 ghost use Rattle.std.specs.Arc.{arc_value};
-ghost use Rattle.rebuilder.specs.Seen.{IsInserterOf, join_of};
+ghost use Rattle.image.specs.Rebuilding.{IsInserterOf, join_of};
 ghost use Rattle.receiver.specs.Dealt.{AreDealt};
 
 use crate::readers::Readers;
-use rebuilder::{Inserter, deal};
-use shared_image::{Image, ImageReader};
+use image::{Image, ImageReader, Inserter, deal};
 use std::alloc::{AllocError, Global};
 use std::sync::Arc;
 

@@ -2,7 +2,7 @@
 
 ghost use Rattle.std.specs.Prelude.{◌≡◌, ◌⊎◌, ◌≤◌, ◌^◌, ◌∷◌, [], length, option_map, IfErr, IfNone, IfOk, IfSome, None};
 ghost use Rattle.std.specs.Arc.{arc_value};
-ghost use Rattle.shared_image.specs.Handles.{position_of};
+ghost use Rattle.image.specs.Handles.{position_of};
 ghost use Rattle.receiver.specs.Dealt.{Learns};
 
 use crate::assembling::{GREATEST_PAYLOAD, assemble};
@@ -11,8 +11,7 @@ use crate::readers::Readers;
 use crate::receiver_core::ReceiverCore;
 use assembler::{Assembler, AssemblyError, Message};
 use block::Block;
-use rebuilder::{pass, read_here};
-use shared_image::{Image, ImageReader};
+use image::{Image, ImageReader, advance, read};
 use std::alloc::{AllocError, Global};
 use std::marker::Model;
 use std::sync::Arc;
@@ -32,7 +31,7 @@ pub struct MessageReader {
 impl Model for MessageReader {
     ghost use Rattle.std.specs.Arc.{arc_value};
     ghost use Rattle.std.specs.Prelude.{◌≤◌, length};
-    ghost use Rattle.shared_image.specs.Handles.{IsReaderOf};
+    ghost use Rattle.image.specs.Handles.{IsReaderOf};
     ghost use Rattle.receiver.specs.Reading.{Reading, WaitsSo, heard_to_of};
 
     ghost Value = { Reading };
@@ -79,14 +78,15 @@ impl MessageReader {
     {
         if self.waits {
             let image = &*self.image;
-            let _ = pass(image, &mut self.reader);
+            let _ = advance(image, &mut self.reader);
             self.waits = false;
         }
     }
 
     /// Reads on behind the message that was given last, up to the frame that completes the next one, at which its reader then
     /// stands until it passes it, or until no frame is left: none then. The fault is `A2` exactly where the message would be
-    /// longer than the greatest, else `A1`; its reader has passed that frame. It takes no lock, and looks once for each frame.
+    /// longer than the greatest, else `A1`; its reader has passed that frame. It takes no lock, and looks once for each frame and,
+    /// where it answers none, once more.
     pub fn next(&mut self) -> Result<Option<Message<Global>>, AssemblyError>
         ensures answers { Answers self.old result self.new }
         ensures small { IfOk result (λ m. IfSome m (λ m. length m.bytes.items ≤ self.old.assembler.greatest)) }
@@ -114,7 +114,7 @@ impl MessageReader {
         ensures refused { IfSome result (λ step. IfErr step (λ fault. RefusesOne self.old fault self.new)) }
     {
         let image = &*self.image;
-        let Some(head) = read_here(image, &mut self.reader, &mut self.block) else {
+        let Some(head) = read(image, &mut self.reader, &mut self.block) else {
             return None;
         };
         self.waits = true;

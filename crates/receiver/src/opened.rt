@@ -13,9 +13,9 @@ ghost use Rattle.theory.specs.Position.{IsGeometry, max_position};
 ghost use Rattle.theory.specs.Units.{IsContiguous};
 ghost use Rattle.theory.specs.Wire.{IsFrame, IsHeader};
 ghost use Rattle.frames.specs.Frames.{header_of, wire};
-ghost use Rattle.shared_image.specs.Handles.{IsReaderOf, position_of};
-ghost use Rattle.rebuilder.specs.Meeting.{AreAlone, Meets, number_of};
-ghost use Rattle.rebuilder.specs.Seen.{geometry_of, join_of};
+ghost use Rattle.image.specs.Handles.{IsReaderOf, position_of};
+ghost use Rattle.image.specs.Meeting.{AreAlone, Meets, number_of};
+ghost use Rattle.image.specs.Rebuilding.{geometry_of, join_of};
 ghost use Rattle.receiver.specs.Polling.{TellsImage};
 ghost use Rattle.receiver.specs.Receiving.{Opened, gap_in};
 ghost use Rattle.receiver.specs.Representing.{GoesForward, HearsBeat, Inserts, IsAtEnd, LooksOnce, ReadsPast, RepresentsImage, SeesOn, words_of};
@@ -27,10 +27,11 @@ use crate::positions::Positions;
 use crate::readers::Readers;
 use block::Block;
 use frames::{Frame, Header};
-use image::{ImageError, Insert, Steps};
+use image::{
+    Image, ImageError, ImageReader, Insert, Inserter, Steps, first_gap, heartbeat, insert, least,
+    meet, read_past,
+};
 use position::{FrameHead, Gap, Geometry, Identity};
-use rebuilder::{Inserter, advance_alone, first_gap, heartbeat, insert, least, meet, read_alone};
-use shared_image::{Image, ImageReader};
 use std::alloc::{AllocError, Global};
 use std::marker::Model;
 use std::sync::Arc;
@@ -46,7 +47,7 @@ pub struct OpenImage {
 
 impl Model for OpenImage {
     ghost use Rattle.std.specs.Arc.{arc_value};
-    ghost use Rattle.rebuilder.specs.Seen.{Inserting};
+    ghost use Rattle.image.specs.Rebuilding.{Inserting};
     ghost use Rattle.receiver.specs.Dealt.{IsOpenImage};
 
     ghost Value = { Inserting };
@@ -79,7 +80,7 @@ pub(crate) fn open(
     requires consumers { IsCount consumers }
     ensures { IfOk result (λ i. i ≡ record { of = i.of; key = record { identity = identity; join = join / 32; consumers = consumers }; window = window; stored = []; high = join; floor = join; seen = replicate consumers join; looks = replicate consumers 0; undealt = consumers }) }
 {
-    match rebuilder::open(alloc, identity, join, window, consumers) {
+    match image::open(alloc, identity, join, window, consumers) {
         Ok((image, inserter)) => {
             let image = Arc::new(alloc, image)?;
             let room = room_for(alloc, &image, consumers)?;
@@ -268,10 +269,6 @@ impl OpenImage {
         let _ = self.inserter.high_water();
         let _ = self.geometry();
         let image = &*self.image;
-        let Some(head) = read_alone(image, &mut self.inserter, reader, block) else {
-            return None;
-        };
-        let _ = advance_alone(image, &mut self.inserter, reader);
-        Some(head)
+        read_past(image, &mut self.inserter, reader, block)
     }
 }

@@ -2,9 +2,9 @@
 
 ghost use Rattle.std.specs.Arc.{arc_value};
 ghost use Rattle.std.specs.List.{All};
-ghost use Rattle.shared_image.specs.Handles.{IsReaderOf};
+ghost use Rattle.image.specs.Handles.{IsReaderOf};
 
-use shared_image::{Image, ImageReader};
+use image::{Image, ImageReader};
 use std::alloc::Global;
 use std::sync::Arc;
 

@@ -5,7 +5,7 @@ ghost use Rattle.std.specs.List.{AllByRecursion};
 ghost use Rattle.std.specs.Option.{ForSome, option_copied, option_map, option_to_list};
 ghost use Rattle.theory.specs.Insert.{AreApart, head_of};
 ghost use Rattle.position.specs.declared.head.FrameKind.TheVariants.{Data};
-ghost use Rattle.rebuilder.specs.Seen.{geometry_of};
+ghost use Rattle.image.specs.Rebuilding.{geometry_of};
 ghost use Rattle.theory.specs.Control as control;
 ghost use Rattle.theory.specs.Control.{asking_at};
 ghost use Rattle.theory.specs.Position.{max_position};
@@ -30,9 +30,8 @@ use block::Block;
 use frames::{
     FaultCounts, Frame, FrameError, Header, Nak, Setup, Status, check_datagram, known_frame,
 };
-use image::{Insert, LossDetector};
+use image::{ImageReader, Insert, LossDetector};
 use position::{FrameHead, Gap, Geometry, Identity};
-use shared_image::ImageReader;
 use std::alloc::{AllocError, Global};
 use std::fmt;
 use std::marker::Model;

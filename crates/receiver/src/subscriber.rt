@@ -17,7 +17,7 @@ use crate::receiver_core::{Outcome, ReceiverCore, Replies};
 use assembler::{Assembler, AssemblyError, Message};
 use block::Block;
 use frames::FaultCounts;
-use shared_image::ImageReader;
+use image::ImageReader;
 use std::alloc::{AllocError, Global};
 use std::marker::Model;
 

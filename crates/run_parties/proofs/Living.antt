@@ -7,12 +7,12 @@ use Rattle.endpoint.specs.Devices.{Device}
 use Rattle.agents.specs.Cycles.{Cycle, HearsAll}
 use Rattle.agents.specs.Parties.{CoreHears, CoreTicks}
 use Rattle.std.specs.Arc.{arc_value}
-use Rattle.rebuilder.specs.Seen.{Inserting}
+use Rattle.image.specs.Rebuilding.{Inserting}
 use Rattle.receiver.specs.Dealt.{ImageTakes}
 use Rattle.receiver.specs.Reading.{IsImage}
 use Rattle.receiver.specs.declared.readers.Readers.{Readers}
 use Rattle.run_parties.specs.Tallies.{Counted, IsTally, IsTallyOf}
-use Rattle.shared_image.specs.Handles.{ImageWords}
+use Rattle.image.specs.Handles.{ImageWords}
 use Rattle.receiver.specs.CoreLives.{CoreAct, CoreActsSo, CoreLives, Deals, HasDealt, Hears, KeepsImage, Ticks, heard_in}
 use Rattle.receiver.specs.Receiving.{Receiver}
 use Rattle.receiver.specs.Representing.{Core, Represents, words_of}

@@ -1,7 +1,7 @@
 -- A receiver's honest life, and the tally of what its subscriber read.
 use Rattle.std.proofs.Common.{[], ℕ, List, ◌≡◌, Option, None, Some, inl, inr, arith, refl, sym, ap, ◌∙◌, subst}
-use Rattle.rebuilder.specs.Seen.{Inserting, join_of}
-use Rattle.shared_image.specs.Handles.{known_by}
+use Rattle.image.specs.Rebuilding.{Inserting, join_of}
+use Rattle.image.specs.Handles.{known_by}
 use Rattle.theory.specs.Assembly.{Assembly}
 use Rattle.theory.specs.Placed.{AllAmong, Among, Chain}
 use Rattle.theory.proofs.Lists.{all_weaker}

@@ -2,10 +2,10 @@
 use Rattle.std.proofs.Common.{Ok, Err, inr, ◌≡◌, ℕ, ◌+◌, ◌*◌, ◌<◌, ◌^◌, List, [], ◌∷◌, ◌++◌, length, Option, None, Some, refl, sym, ap, ◌∙◌, subst, append-nil, arith}
 use Rattle.theory.specs.Placed.{Among, Placed}
 use Rattle.assembler.specs.declared.fault.AssemblyError.{AssemblyError}
-use Rattle.shared_image.specs.Handles.{ImageWords, ReaderSeat, known_by, position_of}
-use Rattle.rebuilder.specs.Meeting.{Meets}
+use Rattle.image.specs.Handles.{ImageWords, ReaderSeat, known_by, position_of}
+use Rattle.image.specs.Meeting.{Meets}
 use Rattle.receiver.specs.Representing.{words_of}
-use Rattle.rebuilder.specs.Seen.{Inserting, join_of}
+use Rattle.image.specs.Rebuilding.{Inserting, join_of}
 use Rattle.receiver.specs.Dealt.{Learns}
 use Rattle.receiver.specs.Reading.{GivesMessage, GivesNothing, Hears, HearsFurther, IsImage, Passes, PassesRead, Reading, RefusesFrame}
 use Rattle.run_parties.specs.Receptions.{Answer, AnswersSo, HasPolled, IsBegun, PollsAll, PolledFrom, PolledOf, counted, given_by, refused_by}
@@ -30,7 +30,7 @@ refused_more (Err fault ∷ answers) a = let e = refused_more answers a in omega
 
 -- its reader stands where it has heard to
 rests : (n : Reading) → position_of n.seat ≡ n.heard_to → Passes n n
-rests n stands = record { same = refl; stands = stands; keeps = λ s a. a }
+rests n stands = record { same = refl; stands = stands; keeps = λ s a. a; misses = refl }
 
 with_answer : (m n o : Reading) (c k : Counted) (refused more : ℕ) (a : Answer) (h : HasPolled (record { reader = m; tally = c; refused = refused })) → AnswersSo m a n → Passes n o → IsTallyOf (given_by h.answers ++ given_by (a ∷ [])) k → more ≡ counted (refused_by h.answers + refused_by (a ∷ []))
     → HasPolled (record { reader = o; tally = k; refused = more })

@@ -7,8 +7,8 @@ use Rattle.endpoint.specs.Devices.{Device}
 use Rattle.endpoint.specs.declared.device_error.DeviceError.{DeviceError}
 use Rattle.theory.specs.Placed.{Among, Placed}
 use Rattle.assembler.specs.declared.fault.AssemblyError.{AssemblyError}
-use Rattle.shared_image.specs.Handles.{ImageWords, known_by, position_of}
-use Rattle.rebuilder.specs.Seen.{Inserting, join_of}
+use Rattle.image.specs.Handles.{ImageWords, known_by, position_of}
+use Rattle.image.specs.Rebuilding.{Inserting, join_of}
 use Rattle.agents.specs.Cycles.{DutyState}
 use Rattle.receiver.specs.CoreLives.{CoreAct, CoreLives, heard_in}
 use Rattle.receiver.specs.Reading.{GivesMessage, GivesNothing, IsImage, Passes, Reading, RefusesFrame}

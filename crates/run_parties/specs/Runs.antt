@@ -3,7 +3,7 @@ use Rattle.std.specs.Prelude.{◌≡◌, ℕ, ℤ, pos, List, [], Option, None, 
 use Rattle.std.specs.List.{AllByRecursion}
 use Rattle.theory.specs.Messages.{messages}
 use Rattle.theory.specs.Position.{Geometry}
-use Rattle.rebuilder.specs.Seen.{Inserting, join_of}
+use Rattle.image.specs.Rebuilding.{Inserting, join_of}
 use Rattle.receiver.specs.CoreLives.{CoreAct, CoreLives, heard_in}
 use Rattle.receiver.specs.Lives.{IsHonest, IsStream, Stream}
 use Rattle.receiver.specs.Representing.{Core, Represents}

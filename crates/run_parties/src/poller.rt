@@ -1,6 +1,7 @@
 //! A subscriber's reader, and the tally of what it polled.
 
-ghost use Rattle.std.specs.Prelude.{◌≡◌, ◌≤◌, ◌<◌, ◌+◌, ◌^◌};
+ghost use Rattle.std.specs.Prelude.{◌≡◌, ◌≤◌, ◌<◌, ◌+◌, ◌^◌, false, IfOk};
+ghost use Rattle.image.specs.Handles.{misses_of};
 ghost use Rattle.receiver.specs.CoreLives.{HasDealt};
 ghost use Rattle.receiver.specs.Reading.{IsImage};
 ghost use Rattle.run_parties.specs.Receptions.{IsBegun, PolledOf};
@@ -55,11 +56,13 @@ impl Poller {
     }
 
     /// Polls once, and tallies the message that this gives. The answer is whether there was a message; one that is refused as
-    /// too long is one here, and not in the tally. The fault is `Memory`, where memory was refused.
+    /// too long is one here, and not in the tally; where there was none, the reader has looked. The fault is `Memory`, where
+    /// memory was refused.
     fn poll(&mut self) -> Result<bool, DeviceError>
         requires room { self.old.tally.polled < 2 ^ 63 }
         ensures most { self.new.tally.polled ≤ self.old.tally.polled + 1 }
         ensures image { self.new.reader.image ≡ self.old.reader.image }
+        ensures looked { IfOk result (λ some. some ≡ false → misses_of self.new.reader.seat ≡ misses_of self.old.reader.seat + 1) }
     {
         match self.reader.next() {
             Ok(Some(message)) => {
@@ -79,12 +82,13 @@ impl Poller {
     }
 
     /// Polls until there is no message, 16 were there, or as many are tallied as are wanted. The answer is whether there was
-    /// one.
+    /// one; where there was none, the reader has looked once and found no frame.
     pub fn poll_some(&mut self, wanted: u64) -> Result<bool, DeviceError>
         requires few { self.old.tally.polled ≤ wanted }
         requires room { wanted < 2 ^ 63 }
         ensures few { self.new.tally.polled ≤ wanted }
         ensures image { self.new.reader.image ≡ self.old.reader.image }
+        ensures looked { IfOk result (λ some. some ≡ false → misses_of self.new.reader.seat ≡ misses_of self.old.reader.seat + 1) }
     {
         let most = (wanted - self.tally.polled()).min(MESSAGES);
         for count in 0..most {

@@ -1,6 +1,5 @@
 //! What the log takes, measured: rounds of publishers in threads over a log that they share, and streams that a reader
-//! follows meanwhile; and what an image takes for a frame (`measure_image`, `measure_passed`), whose figures name the term
-//! length and the share of late frames that were asked for.
+//! follows meanwhile; and what an image takes for a frame (`measure_image`), whose figures name the frame's length.
 //!
 //! A round by one to eight threads, in whatever order they run, leaves a book whose entries tile the stream from 0 to
 //! its tail: as many messages as offers were accepted, of 256 bytes each, and paddings up to the ends of their terms;
@@ -22,9 +21,7 @@ mod sampling;
 mod sorting;
 
 pub use fault::SpeedError;
-pub use images::{
-    ImageFigures, ImageSpeedError, PassedFigures, Played, measure_image, measure_passed,
-};
+pub use images::{ImageFigures, ImageParts, ImageSpeedError, Played, measure_image};
 pub use rounds::round::{play_claims, play_round};
 pub use rounds::streaming::play_stream;
 pub use sampling::{Figures, measure, measure_claims, measure_stream};

@@ -9,10 +9,10 @@ use Rattle.theory.specs.Entry.{committed}
 use Rattle.theory.specs.Placed.{AllAmong, Among}
 use Rattle.theory.proofs.Lists.{all_at, all_weaker}
 use Rattle.model.specs.StreamLaws.{GivesMessages}
-use Rattle.rebuilder.specs.Seen.{Inserting, join_of}
+use Rattle.image.specs.Rebuilding.{Inserting, join_of}
 use Rattle.receiver.specs.CoreLives.{CoreAct, CoreActsSo, CoreLives, Deals, HasDealt, Hears, KeepsImage, ReadsARun, Ticks, heard_in}
 use Rattle.receiver.specs.Lives.{IsHonest, IsHonestFrame, IsStream, Stream}
-use Rattle.shared_image.specs.Handles.{ImageWords}
+use Rattle.image.specs.Handles.{ImageWords}
 use Rattle.receiver.specs.Reading.{IsImage}
 use Rattle.receiver.specs.Receiving.{Opened, Receiver, at_moment, ticked}
 use Rattle.receiver.specs.Representing.{Core, HearsDatagram, ImageSeesOn, MeetsEach, Represents, RepresentsImage, RepresentsOpened, core_seen_as, image_seen_as, with_image, words_of}

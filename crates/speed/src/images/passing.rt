@@ -1,64 +1,49 @@
-//! Frames that are given to an image and read from it at once: the plain image, and the one that threads share.
+//! Frames that are given to an image and read from it at once.
 
 ghost use Rattle.std.specs.Prelude.{◌≡◌, ◌≤◌, ◌<◌, length};
 ghost use Rattle.theory.specs.Wire.{IsFrame};
 ghost use Rattle.frames.specs.Frames.{wire};
 ghost use Rattle.image.specs.Stored.{IsOfStream, IsUnit};
-ghost use Rattle.shared_image.specs.Handles.{IsReaderOf};
-ghost use Rattle.rebuilder.specs.Seen.{IsInserterOf};
+ghost use Rattle.image.specs.Handles.{IsReaderOf};
+ghost use Rattle.image.specs.Rebuilding.{IsInserterOf};
 
-use crate::images::playing::{Played, header};
 use block::Block;
-use frames::Frame;
-use image::{Image, Insert};
+use frames::{Frame, Header};
+use image::{Image, ImageReader, Insert, Inserter, advance, insert, read};
 use position::{FrameHead, align32};
-use rebuilder::{Inserter, insert};
-use shared_image::{ImageReader, advance, read};
 
-/// An image with one consumer.
-pub trait Passing {
-    /// Takes a DATA frame or a padding. Whether it was stored.
-    fn put(&mut self, position: i64, frame: &Frame<'_>) -> bool
-        requires unit { IsUnit position }
-        requires frame { IsFrame (wire frame.now) }
-        requires of_stream { IsOfStream frame.now };
-
-    /// Reads the frame where the consumer stands, and moves past it.
-    fn take(&mut self, block: &mut Block) -> Option<FrameHead>
-        requires { 65472 ≤ length block.old }
-        ensures { length block.new ≡ length block.old };
+/// A sum over what was read, and how many frames were stored.
+#[derive(Clone, Copy)]
+pub struct Played {
+    pub sum: u64,
+    pub stored: u64,
 }
 
-impl Passing for Image {
-    fn put(&mut self, position: i64, frame: &Frame<'_>) -> bool {
-        self.insert(position, frame) == Insert::Stored
-    }
-
-    fn take(&mut self, block: &mut Block) -> Option<FrameHead> {
-        // What always holds of it, for the proof.
-        let _ = self.consumers();
-        let head = self.read(0, block)?;
-        let _ = self.advance(0);
-        Some(head)
-    }
-}
-
-/// The image that threads share, with its inserter and its reader in one hand.
+/// An image with its inserter and its one reader.
 #[derive(Drop)]
-pub struct SharedImage {
-    pub image: shared_image::Image,
+pub struct ImageParts {
+    pub image: Image,
     pub inserter: Inserter,
     pub reader: ImageReader,
     ghost inserts: { IsInserterOf image inserter },
     ghost reads: { IsReaderOf image reader },
 }
 
-impl Passing for SharedImage {
-    fn put(&mut self, position: i64, frame: &Frame<'_>) -> bool {
+impl ImageParts {
+    /// Takes a DATA frame or a padding. Whether it was stored.
+    fn put(&mut self, position: i64, frame: &Frame<'_>) -> bool
+        requires unit { IsUnit position }
+        requires frame { IsFrame (wire frame.now) }
+        requires of_stream { IsOfStream frame.now }
+    {
         insert(&self.image, &mut self.inserter, position, frame) == Insert::Stored
     }
 
-    fn take(&mut self, block: &mut Block) -> Option<FrameHead> {
+    /// Reads the frame where the reader stands, and moves past it.
+    fn take(&mut self, block: &mut Block) -> Option<FrameHead>
+        requires { 65472 ≤ length block.old }
+        ensures { length block.new ≡ length block.old }
+    {
         let head = read(&self.image, &mut self.reader, block)?;
         let _ = advance(&self.image, &mut self.reader);
         Some(head)
@@ -66,8 +51,8 @@ impl Passing for SharedImage {
 }
 
 /// Gives an image a frame, reads one, and counts both.
-fn pass<P: Passing>(
-    image: &mut P,
+fn pass(
+    parts: &mut ImageParts,
     block: &mut Block,
     position: u64,
     frame: &Frame<'_>,
@@ -81,10 +66,10 @@ fn pass<P: Passing>(
     if !position.is_multiple_of(32) || position > i64::MAX as u64 {
         return;
     }
-    if image.put(position as i64, frame) {
+    if parts.put(position as i64, frame) {
         played.stored = played.stored.wrapping_add(1);
     }
-    if let Some(head) = image.take(block) {
+    if let Some(head) = parts.take(block) {
         played.sum = played
             .sum
             .wrapping_add(u64::from(head.frame_length))
@@ -92,8 +77,21 @@ fn pass<P: Passing>(
     }
 }
 
+/// The fields of each header. An image doesn't look at them.
+fn header() -> Header
+    ensures { result.term_offset ≡ 0 }
+{
+    Header {
+        term_offset: 0,
+        session: 7,
+        stream: 1001,
+        term_id: 7,
+        reserved: 0,
+    }
+}
+
 /// Gives an image that begins at 0, with terms of 65,536 bytes, so many data frames with this payload, and reads each at once.
-pub fn pass_all<P: Passing>(image: &mut P, block: &mut Block, payload: &[u8], frames: u32) -> Played
+pub fn pass_all(parts: &mut ImageParts, block: &mut Block, payload: &[u8], frames: u32) -> Played
     requires payload { length payload.now ≤ 65472 }
     requires room { 65472 ≤ length block.old }
 {
@@ -113,10 +111,10 @@ pub fn pass_all<P: Passing>(image: &mut P, block: &mut Block, payload: &[u8], fr
                 header: header(),
                 frame_length: rest as u32,
             };
-            pass(image, block, position, &padding, &mut played);
+            pass(parts, block, position, &padding, &mut played);
             position = position.wrapping_add(rest);
         }
-        pass(image, block, position, &data, &mut played);
+        pass(parts, block, position, &data, &mut played);
         position = position.wrapping_add(covered);
     }
     played

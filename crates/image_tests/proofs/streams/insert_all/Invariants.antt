@@ -1,5 +1,5 @@
 use Rattle.std.proofs.Common.{◌≡◌, ◌%◌, ◌≤◌}
-use Rattle.rebuilder.specs.Seen.{IsInserterOf}
+use Rattle.image.specs.Rebuilding.{IsInserterOf}
 use Rattle.image_tests.proofs.streams.insert_all.Given as goal
 
 abbrev pub invariant-loop : goal.invariant-loop

@@ -1,4 +1,4 @@
-use Rattle.rebuilder.specs.Seen.{IsInserterOf}
+use Rattle.image.specs.Rebuilding.{IsInserterOf}
 use Rattle.image_tests.proofs.streams.offer_until.Given as goal
 
 abbrev pub invariant-loop : goal.invariant-loop

@@ -1,5 +1,5 @@
 use Rattle.std.proofs.Common.{◌≡◌, ◌%◌, ◌≤◌, length}
-use Rattle.shared_image.specs.Handles.{IsReaderOf}
+use Rattle.image.specs.Handles.{IsReaderOf}
 use Rattle.image_tests.proofs.streams.read_all.Given as goal
 
 abbrev pub invariant-loop : goal.invariant-loop

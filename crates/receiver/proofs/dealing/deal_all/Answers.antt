@@ -1,5 +1,5 @@
 use Rattle.std.proofs.Common.{◌≡◌, ◌-◌, suc, length, ap, sym, ◌∙◌, subst, arith, length-append}
-use Rattle.rebuilder.specs.Seen.{Inserting, join_of}
+use Rattle.image.specs.Rebuilding.{Inserting, join_of}
 use Rattle.receiver.specs.Dealt.{AreDealt}
 use Rattle.receiver.proofs.Rooms.{dealt_more}
 use Rattle.receiver.proofs.dealing.deal_all.Goals as goal

@@ -1,6 +1,6 @@
 use Rattle.std.proofs.Common.{◌≡◌, ◌+◌, ◌≤◌, length, vec_len}
 use Rattle.std.specs.Prelude.{vec_capacity}
-use Rattle.rebuilder.specs.Seen.{join_of}
+use Rattle.image.specs.Rebuilding.{join_of}
 use Rattle.receiver.specs.Dealt.{AreDealt}
 use Rattle.receiver.proofs.dealing.deal_all.Given as goal
 

@@ -1,5 +1,5 @@
 use Rattle.std.proofs.Common.{◌-◌, ◌^◌}
-use Rattle.shared_image.specs.Handles.{position_of}
+use Rattle.image.specs.Handles.{position_of}
 use Rattle.receiver.proofs.Heard.{HasHeardOn}
 use Rattle.receiver.proofs.message_reader.MessageReader.next.Given as goal
 

@@ -1,7 +1,7 @@
 use Rattle.std.proofs.Common.{◌≤◌, ◌∙◌, subst, sym}
 use Rattle.std.specs.Arc.{arc_value}
 use Rattle.theory.specs.Position.{IsGeometry, max_position}
-use Rattle.rebuilder.specs.Seen.{Inserting, geometry_of}
+use Rattle.image.specs.Rebuilding.{Inserting, geometry_of}
 use Rattle.receiver.proofs.Shown.{answer_low, gap_shown}
 use Rattle.receiver.proofs.Rooms.{open_same}
 use Rattle.receiver.proofs.opened.OpenImage.find_gap.Goals as goal

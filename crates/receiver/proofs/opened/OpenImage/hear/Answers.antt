@@ -3,7 +3,7 @@ use Rattle.std.specs.Arc.{arc_value}
 use Rattle.std.proofs.lemmas.Int.{to_z-of_z}
 use Rattle.theory.specs.Control.{named_by}
 use Rattle.frames.specs.Frames.{header_of}
-use Rattle.rebuilder.specs.Seen.{geometry_of}
+use Rattle.image.specs.Rebuilding.{geometry_of}
 use Rattle.receiver.proofs.Shown.{Accepts, beat_heard, beat_looks, beat_sees}
 use Rattle.receiver.proofs.Rooms.{open_as}
 use Rattle.receiver.proofs.opened.OpenImage.hear.Goals as goal

@@ -4,7 +4,7 @@ use Rattle.std.proofs.lemmas.Int.{to_z-of_z}
 use Rattle.theory.specs.Control.{named_by}
 use Rattle.frames.specs.Frames.{header_of}
 use Rattle.image.specs.Stored.{stream_frame}
-use Rattle.rebuilder.specs.Seen.{geometry_of}
+use Rattle.image.specs.Rebuilding.{geometry_of}
 use Rattle.receiver.proofs.Shown.{Answers, frame_inserted, frame_looks, frame_sees}
 use Rattle.receiver.proofs.Rooms.{open_as}
 use Rattle.receiver.proofs.opened.OpenImage.insert.Goals as goal

@@ -1,6 +1,6 @@
 use Rattle.std.proofs.Common.{ap}
 use Rattle.std.specs.Arc.{arc_value}
-use Rattle.rebuilder.specs.Seen.{Inserting}
+use Rattle.image.specs.Rebuilding.{Inserting}
 use Rattle.receiver.proofs.Rooms.{open_as}
 use Rattle.receiver.proofs.opened.OpenImage.meet.Goals as goal
 

@@ -1,7 +1,7 @@
 use Rattle.std.proofs.Common.{Some, length, ap, sym, ◌∙◌, subst}
 use Rattle.std.specs.Prelude.{Option}
-use Rattle.shared_image.specs.Handles.{ReaderSeat, position_of}
-use Rattle.rebuilder.specs.Seen.{Inserting, join_of}
+use Rattle.image.specs.Handles.{ReaderSeat, position_of}
+use Rattle.image.specs.Rebuilding.{Inserting, join_of}
 use Rattle.receiver.specs.Seating.{MaySit, SitsAt, place_of}
 use Rattle.receiver.specs.Representing.{words_of}
 use Rattle.receiver.proofs.Rooms.{dealt_one}

@@ -1,8 +1,8 @@
 use Rattle.std.proofs.Common.{Some, ap, refl, sym, ◌∙◌, subst}
 use Rattle.std.specs.List.{All}
 use Rattle.std.specs.Arc.{arc_value}
-use Rattle.shared_image.specs.Handles.{ImageWords, IsReaderOf}
-use Rattle.rebuilder.specs.Seen.{join_of}
+use Rattle.image.specs.Handles.{ImageWords, IsReaderOf}
+use Rattle.image.specs.Rebuilding.{join_of}
 use Rattle.receiver.specs.Dealt.{AreDealt, IsOpenImage}
 use Rattle.receiver.proofs.ReadOn.{same_words}
 use Rattle.receiver.proofs.Rooms.{all_of, taken_is}

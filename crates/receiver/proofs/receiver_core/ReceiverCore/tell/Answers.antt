@@ -7,7 +7,7 @@ use Rattle.receiver.specs.Representing.{Represents, last_status_of}
 use Rattle.receiver.specs.contracts.receiver_core.ReceiverCore.{the_view}
 use Rattle.theory.specs.Wire.{SM}
 use Rattle.frames.specs.Frames.{status_of}
-use Rattle.rebuilder.specs.Seen.{geometry_of}
+use Rattle.image.specs.Rebuilding.{geometry_of}
 use Rattle.receiver.proofs.Meeting.{core_on, imaged, looked_at, looks_image, looks_nowhere, none_noted, none_told, not_told, sees_image, sees_same, status_same, told_at, told_now}
 use Rattle.receiver.proofs.receiver_core.ReceiverCore.tell.Goals as goal
 

@@ -1,5 +1,5 @@
 use Rattle.std.proofs.Common.{◌≡◌, ◌≤◌, ◌∷◌, [], Some, arith, rules, ap, sym, ◌∙◌}
-use Rattle.shared_image.specs.Handles.{position_of}
+use Rattle.image.specs.Handles.{position_of}
 use Rattle.receiver.proofs.Polled.{stands_below, tells}
 use Rattle.receiver.proofs.subscriber.Subscriber.positions.Goals as goal
 

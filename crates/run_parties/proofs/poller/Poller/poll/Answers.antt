@@ -1,4 +1,5 @@
-use Rattle.std.proofs.Common.{◌≡◌, ◌++◌, ◌∷◌, [], ◌<◌, ◌^◌, ℕ, List, Ok, length, ap, subst, arith}
+use Rattle.std.proofs.Common.{◌≡◌, ◌++◌, ◌∷◌, [], ◌<◌, ◌^◌, ◌+◌, ◌∙◌, ℕ, List, Ok, length, ap, subst, arith}
+use Rattle.image.specs.Handles.{misses_of}
 use Rattle.receiver.specs.Reading.{Answers}
 use Rattle.run_parties.specs.Receptions.{PollerState}
 use Rattle.run_parties.specs.Tallies.{IsTallyOf}
@@ -24,3 +25,9 @@ pub invariant_of-self-in-Err : goal.invariant_of-self-in-Err
 invariant_of-self-in-Err c =
     let i = c.self.inside in
     polled_refused i.reader c.next.new.self i.tally i.refused c.saturating_add-self-inside.result c.in-Err.error c.saturating_add-self-inside.ensures c.in-Err.ensures.answers c.self.invariant
+
+pub returns-in-Ok-None-clause-looked : goal.returns-in-Ok-None-clause-looked
+returns-in-Ok-None-clause-looked c is =
+    let i = c.self.inside in
+    let gives = subst (λ o. Answers i.reader (Ok o) c.next.new.self) c.in-Ok-None.field-0-is c.in-Ok-None.ensures.answers in
+    gives.misses ∙ ap (λ (p : PollerState). misses_of p.reader.seat + 1) c.self.view_is

@@ -2,4 +2,4 @@ use Rattle.std.proofs.Common.{◌≤◌, length}
 use Rattle.speed.proofs.images.passing.pass_all.Given as goal
 
 abbrev pub invariant-loop : goal.invariant-loop
-invariant-loop g l = 65472 ≤ length l.block
+invariant-loop l = 65472 ≤ length l.block

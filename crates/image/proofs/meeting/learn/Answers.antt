@@ -1,0 +1,57 @@
+use Rattle.std.proofs.Common.{rules, length, length-set, sym, ap, subst, arith, ◌∙◌}
+use Rattle.image_rule.specs.declared.view.View.{View}
+use Rattle.image_rule.specs.Bits.{IsExact}
+use Rattle.image_rule.specs.Reads.{Meets}
+use Rattle.image_rule.specs.Rule.{attending_seat, told_seat}
+use Rattle.image_rule.specs.Steps.{Mine}
+use Rattle.image_rule.proofs.Dealing.{attends, confirm, findings, meets, news, settle, tells}
+use Rattle.image.proofs.meeting.learn.Goals as goal
+
+pub split_seat-news-requires : goal.split_seat-news-requires
+split_seat-news-requires c = let i = c.image.inside.words in let n = c.inserter.inside.hand in let wide = i.wide in (search rules, omega arith, news i.table.shared.key _ n.seat.me.0 n.inserts)
+
+pub join_seat-requires : goal.join_seat-requires
+join_seat-requires c = let i = c.image.inside.words in let r = c.reader.inside.standing in let wide = i.wide in (search rules, search rules, ap (λ (m : Mine). m.1) c.split_seat-news.ensures.4, omega arith, tells i.table.shared.key _ r.seat.me.0 _ _ (λ e. let z = r.plain in omega arith))
+
+pub load-requires : goal.load-requires
+load-requires c = let i = c.image.inside.words in let r = c.reader.inside.standing in let wide = i.wide in (search rules, omega arith, settle i.table.shared.key _ _ _ _ (ap (λ (m : Mine). m.0.reading.reads) c.join_seat.ensures.2 ∙ r.reads))
+
+pub split_seat-findings-requires : goal.split_seat-findings-requires
+split_seat-findings-requires c =
+    let i = c.image.inside.words in let r = c.reader.inside.standing in let wide = i.wide in
+    (search rules, omega arith, findings i.table.shared.key _ _ (ap (λ (v : View). v.reading.reads) c.load.ensures.2.1.after ∙ ap (λ (m : Mine). m.0.reading.reads) c.join_seat.ensures.2 ∙ r.reads))
+
+pub join_seat-requires-2 : goal.join_seat-requires-2
+join_seat-requires-2 c = let i = c.image.inside.words in let wide = i.wide in (search rules, search rules, ap (λ (m : Mine). m.1) c.split_seat-findings.ensures.4, omega arith, attends i.table.shared.key _ _ _ _)
+
+pub load-requires-2 : goal.load-requires-2
+load-requires-2 c = let i = c.image.inside.words in let n = c.inserter.inside.hand in let wide = i.wide in (search rules, omega arith, confirm i.table.shared.key _ _ _ _ (ap (λ (m : Mine). m.0.inserting) c.join_seat-2.ensures.2 ∙ ap (λ (m : Mine). m.0.inserting) c.split_seat-news.ensures.2 ∙ n.inserts))
+
+pub returns-clause-meets : goal.returns-clause-meets
+returns-clause-meets c =
+    let v : View = c.inserter.inside.hand.seat.me.0 in let r : View = c.reader.inside.standing.seat.me.0 in
+    let met : Meets v r c.load-2.new.seat.me.0 c.split_seat-findings.new.seat.me.0 = meets v r c.join_seat.new.seat.me.0 c.load.new.seat.me.0 c.split_seat-findings.new.seat.me.0 c.join_seat-2.new.seat.me.0 c.load-2.new.seat.me.0
+    (ap (λ (m : Mine). m.0) c.join_seat.ensures.2 ∙ ap (λ (m : Mine). told_seat r m.0) c.split_seat-news.ensures.4)
+    c.load.ensures.2.1
+    (ap (λ (m : Mine). m.0) c.split_seat-findings.ensures.2)
+    (ap (λ (m : Mine). m.0) c.join_seat-2.ensures.2 ∙ (λ j. attending_seat (c.split_seat-news.ensures.2 j).0 (c.split_seat-findings.ensures.4 j).0))
+    c.load-2.ensures.2.1 in
+    subst (λ (x : View × View). Meets x.0 x.1 c.load-2.new.seat.me.0 c.split_seat-findings.new.seat.me.0) (λ j. ((c.inserter.view_is j).view, (c.reader.view_is j).view)) met
+
+pub invariant_of-inserter : goal.invariant_of-inserter
+invariant_of-inserter c =
+    let v : View = c.inserter.inside.hand.seat.me.0 in let r : View = c.reader.inside.standing.seat.me.0 in
+    let met : Meets v r c.load-2.new.seat.me.0 c.split_seat-findings.new.seat.me.0 = meets v r c.join_seat.new.seat.me.0 c.load.new.seat.me.0 c.split_seat-findings.new.seat.me.0 c.join_seat-2.new.seat.me.0 c.load-2.new.seat.me.0
+    (ap (λ (m : Mine). m.0) c.join_seat.ensures.2 ∙ ap (λ (m : Mine). told_seat r m.0) c.split_seat-news.ensures.4)
+    c.load.ensures.2.1
+    (ap (λ (m : Mine). m.0) c.split_seat-findings.ensures.2)
+    (ap (λ (m : Mine). m.0) c.join_seat-2.ensures.2 ∙ (λ j. attending_seat (c.split_seat-news.ensures.2 j).0 (c.split_seat-findings.ensures.4 j).0))
+    c.load-2.ensures.2.1 in
+    let is = c.inserter.invariant in let w : View = c.load-2.new.seat.me.0 in record {
+      is_key = is.is_key;
+      some = is.some;
+      inserts = ap (λ (x : View). x.inserting) met.inserter ∙ is.inserts;
+      seen = ap length met.seen ∙ length-set v.seen r.reading.number r.reading.unit ∙ is.seen;
+      looks = ap (λ (x : View). length x.looks) met.inserter ∙ is.looks;
+      exact = subst (IsExact c.inserter.inside.key) (sym (ap (λ (x : View). x.held) met.inserter)) is.exact;
+    }

@@ -1,0 +1,60 @@
+-- What a reader's calls say.
+use Rattle.std.specs.Prelude.{◌≡◌, ℕ, ◌*◌, ◌<◌, List, ◌++◌, drop, length, take}
+use Rattle.theory.specs.Placed.{covered, payload_of}
+use Rattle.position.specs.declared.head.FrameHead.{FrameHead}
+use Rattle.position.specs.Heads.{head_of}
+use Rattle.frame_words.specs.Contents.{bytes_in, frame_of}
+use Rattle.image_rule.specs.declared.view.Frame.{Frame}
+use Rattle.image_rule.specs.declared.view.View.{View}
+use Rattle.image_rule.specs.Frames.{Among, IsContent, end_of, placed_of}
+use Rattle.image_rule.specs.Steps.{moved_to, with_known, with_miss}
+use Rattle.image.specs.Handles.{ReaderSeat}
+
+-- ---- by views
+
+-- no frame that it knows begins where it stands, and it looked there once and found none
+pub record FindsNone (v w : View) : Type 0 where
+  pub none : (g : Frame) → Among g v.reading.known → g.unit ≡ v.reading.unit → ⊥
+  pub after : w ≡ with_miss v
+
+-- a frame begins where it stands, which it knows from then on; one that it knew there is the same
+pub record Finds (v : View) (head : FrameHead) (w : View) : Type 0 where
+  pub frame : Frame
+  pub here : frame.unit ≡ v.reading.unit
+  pub content : IsContent (frame_of frame.words)
+  pub shown : head ≡ head_of (32 * v.reading.unit) (frame_of frame.words)
+  pub only : (g : Frame) → Among g v.reading.known → g.unit ≡ v.reading.unit → g ≡ frame
+  pub after : w ≡ with_known v frame
+
+-- the first bytes behind a frame's header stand in front of others
+abbrev pub Copied : Frame → ℕ → List ℕ → List ℕ → Type 0
+Copied f count before after = after ≡ take count (bytes_in (drop 4 f.words)) ++ drop count before
+
+-- ---- by readers
+
+-- it reads the frame that begins where it stands, as it was stored: one that it knew there is the same, and it knows it from
+-- then on; its payload stands in the block's front
+pub record ReadsFrame (r : ReaderSeat) (head : FrameHead) (before : List ℕ) (q : ReaderSeat) (after : List ℕ) : Type 0 where
+  pub finds : Finds r.view head q.view
+  pub copied : after ≡ payload_of (frame_of finds.frame.words) ++ drop (length (payload_of (frame_of finds.frame.words))) before
+  pub read_to : q.read_to ≡ end_of finds.frame
+  pub covers : 32 * finds.frame.units ≡ covered (placed_of finds.frame)
+  pub same : q ≡ record r { view = q.view; read_to = q.read_to }
+
+-- its held bit, which was loaded once, was zero: it knows no frame there
+pub record ReadsNone (r : ReaderSeat) (before : List ℕ) (q : ReaderSeat) (after : List ℕ) : Type 0 where
+  pub finds : FindsNone r.view q.view
+  pub same : q ≡ record r { view = q.view; read_to = r.view.reading.unit }
+  pub untouched : after ≡ before
+
+-- it has read the frame where it stands
+abbrev pub MayAdvance : ReaderSeat → Type 0
+MayAdvance r = r.view.reading.unit < r.read_to
+
+-- it stands where the frame ends that it read, one that it knows
+pub record Advances (r q : ReaderSeat) : Type 0 where
+  pub past : Frame
+  pub among : Among past r.view.reading.known
+  pub here : past.unit ≡ r.view.reading.unit
+  pub ends : r.read_to ≡ end_of past
+  pub same : q ≡ record r { view = moved_to r.view (end_of past) }

@@ -1,0 +1,171 @@
+//! An image opens, and what its inserter counts.
+
+ghost use Rattle.std.specs.Prelude.{◌≡◌, ◌*◌, ◌/◌, ◌+◌, ◌-◌, ◌%◌, ◌<◌, ◌≤◌, ◌↔◌, suc, [], map, replicate, IfOk, IsErrOf};
+ghost use Rattle.std.specs.List.{AllByRecursion};
+ghost use Rattle.theory.specs.Position.{IsGeometry, max_position};
+ghost use Rattle.theory.specs.Image.{IsWindow};
+ghost use Rattle.theory.specs.Insert.{AreApart, head_of};
+ghost use Rattle.theory.specs.Units.{IsContiguous};
+ghost use Rattle.image.specs.Seen.{IsCount, IsFit, IsJoin, least};
+ghost use Rattle.image.specs.Handles.{IsReaderOf, position_of};
+ghost use Rattle.image.specs.Rebuilding.{IsInserterOf, Looked, geometry_of, join_of};
+
+pub(crate) mod clearing;
+pub(crate) mod draft;
+pub(crate) mod gap;
+pub(crate) mod hand;
+pub(crate) mod inserting;
+pub(crate) mod judging;
+pub(crate) mod looking;
+pub(crate) mod opening;
+pub(crate) mod putting;
+pub(crate) mod spelling;
+pub(crate) mod store;
+pub(crate) mod storing;
+
+use crate::fault::{CONSUMERS, ImageError};
+use crate::inserter::clearing::{clear_to, sweep};
+use crate::inserter::opening::{deal_reader, open_words};
+use crate::inserter::store::FrameStore;
+use crate::reader::ImageReader;
+use crate::words::image::Image;
+use position::Identity;
+use std::alloc::Global;
+use std::marker::Model;
+
+/// Who rebuilds a stream in an image that threads share. There is one for each image.
+#[derive(Drop)]
+pub struct Inserter {
+    pub(crate) words: FrameStore,
+    pub(crate) window: u32,
+    /// The end of what was stored without a gap.
+    pub(crate) rebuilt: u64,
+    pub(crate) high_water: u64,
+}
+
+impl Model for Inserter {
+    ghost use Rattle.image.specs.Rebuilding.{Inserting, IsRebuilding, inserting};
+
+    ghost Value = { Inserting };
+
+    ghost view = { λ n. inserting n.words n.window n.high_water };
+
+    ghost invariant = { λ n. IsRebuilding (inserting n.words n.window n.high_water) n.rebuilt };
+}
+
+/// An image of a stream that holds nothing, with all its consumers at the join, and its inserter, which has all its readers
+/// yet. It takes all the memory that is ever needed, and asks for it only where the arguments are legal.
+pub fn open(
+    alloc: Global,
+    identity: Identity,
+    join: u64,
+    window: u32,
+    consumers: usize,
+) -> Result<(Image, Inserter), ImageError>
+    ensures key { IfOk result (λ r. r.0.key ≡ record { identity = identity; join = join / 32; consumers = consumers }) }
+    ensures opened { IfOk result (λ r. r.1 ≡ record { of = r.0.of; key = r.0.key; window = window; stored = []; high = join; floor = join; seen = replicate consumers join; looks = replicate consumers 0; undealt = consumers }) }
+    ensures legal { IfOk result (λ _. IsJoin identity.geometry join × IsWindow identity.geometry.term_length identity.geometry.mtu window × IsCount consumers) }
+    ensures asked { IsErrOf result ImageError.Memory → IsJoin identity.geometry join × IsWindow identity.geometry.term_length identity.geometry.mtu window × IsCount consumers }
+    ensures bad_join { IsErrOf result ImageError.Join ↔ (¬ IsJoin identity.geometry join) }
+    ensures bad_window { IsErrOf result ImageError.Window ↔ (IsJoin identity.geometry join × (¬ IsWindow identity.geometry.term_length identity.geometry.mtu window)) }
+    ensures bad_count { IsErrOf result ImageError.Consumers ↔ (IsJoin identity.geometry join × IsWindow identity.geometry.term_length identity.geometry.mtu window × (¬ IsCount consumers)) }
+{
+    let geometry = identity.geometry();
+    if !join.is_multiple_of(32) || join > geometry.max_position() {
+        return Err(ImageError::Join);
+    }
+    if !geometry.is_window(window) {
+        return Err(ImageError::Window);
+    }
+    if consumers == 0 || consumers > CONSUMERS {
+        return Err(ImageError::Consumers);
+    }
+    let Ok((image, words)) = open_words(alloc, identity, join, consumers as u64) else {
+        return Err(ImageError::Memory);
+    };
+    let inserter = Inserter {
+        words,
+        window,
+        rebuilt: join,
+        high_water: join,
+    };
+    Ok((image, inserter))
+}
+
+/// The last reader that the inserter has, with this number. It stands at the join.
+pub fn deal(image: &Image, inserter: &mut Inserter, number: u64) -> ImageReader
+    requires fits { IsInserterOf image.now inserter.old }
+    requires few { number < 8 }
+    requires some { inserter.old.undealt ≡ suc number }
+    ensures fits { IsReaderOf image.now result }
+    ensures left { inserter.new ≡ record inserter.old { undealt = number } }
+    ensures number { result.view.reading.number ≡ number }
+    ensures position { position_of result ≡ join_of inserter.old }
+{
+    deal_reader(image, &mut inserter.words, number)
+}
+
+/// Looks where the consumers stand, and lets go of what all of them have passed. The answer is the least position that it
+/// read.
+pub fn least(image: &Image, inserter: &mut Inserter) -> u64
+    requires fits { IsInserterOf image.now inserter.old }
+    ensures looked { Looked inserter.old inserter.old.stored inserter.old.high inserter.new }
+    ensures value { result ≡ least inserter.new.seen }
+    ensures low { result ≤ max_position (geometry_of inserter.new) }
+    ensures unit { result % 32 ≡ 0 }
+{
+    // What always holds of it, for the proof.
+    let _ = inserter.words.floor();
+    let lowest = sweep(image, &mut inserter.words);
+    clear_to(image, &mut inserter.words, lowest);
+    lowest
+}
+
+impl Inserter {
+    /// The end of what was stored without a gap from the join on. No consumer was seen above it.
+    pub fn rebuilt(&self) -> u64
+        ensures value { IsContiguous self.now.stored (join_of self.now) result }
+        ensures unit { result % 32 ≡ 0 }
+        ensures marked { result ≤ self.now.high }
+        ensures behind { AllByRecursion (λ p. (join_of self.now ≤ p) × (p ≤ result)) self.now.seen }
+        ensures floor { self.now.floor ≤ result }
+    {
+        self.rebuilt
+    }
+
+    /// The least position at which a consumer stood when it looked last, or the join.
+    pub fn floor(&self) -> u64
+        ensures { result ≡ self.now.floor }
+    {
+        self.words.floor()
+    }
+
+    /// The greatest end of a stored frame or position of an accepted heartbeat, or the join.
+    pub fn high_water(&self) -> u64
+        ensures value { result ≡ self.now.high }
+        ensures low { result ≤ max_position (geometry_of self.now) }
+        ensures near { result ≤ self.now.floor + 2 * (geometry_of self.now).term_length }
+    {
+        self.high_water
+    }
+
+    /// The bytes above the least consumer that it takes.
+    pub fn window(&self) -> u32
+        ensures value { result ≡ self.now.window }
+        ensures legal { IsWindow (geometry_of self.now).term_length (geometry_of self.now).mtu result }
+    {
+        self.window
+    }
+
+    /// Does nothing, and says what holds of each inserter, whatever it was handed: the frames that were ever stored don't
+    /// overlap, each starts in whole units at or above the join, and ends within its term and at or below the high-water
+    /// mark.
+    pub fn stored_apart(&self)
+        ensures apart { AreApart (map head_of self.now.stored) }
+        ensures fit { AllByRecursion (IsFit (geometry_of self.now).term_length self.now.high) self.now.stored }
+        ensures from { AllByRecursion (λ s. join_of self.now ≤ s.at) self.now.stored }
+    {
+        // What always holds of it, for the proof.
+        let _ = &self.words;
+    }
+}

@@ -1,0 +1,117 @@
+//! The inserter looks at what it has stored.
+
+ghost use Rattle.std.specs.Prelude.{◌≡◌, ◌+◌, ◌*◌, ◌/◌, ◌%◌, ◌^◌, ◌<◌, ◌≤◌, ◌↔◌, IsTrue};
+ghost use Rattle.image_rule.specs.Frames.{HasStart, ring};
+ghost use Rattle.image_rule.specs.Bits as bits;
+ghost use Rattle.image_rule.specs.Bits.{IsExact};
+ghost use Rattle.image.specs.Handles.{IsStoreOf, floor_of, stored_by};
+ghost use Rattle.image.specs.Looking.{AreFree, IsFirstWord, IsHeadOf, TellsUnits};
+
+use crate::inserter::hand::{Hand, fetch_as};
+use crate::inserter::store::FrameStore;
+use crate::words::Words;
+use crate::words::image::Image;
+use crate::words::mask::mask;
+use frame_words::head_in;
+use position::FrameHead;
+use std::marker::Brand;
+
+/// Whether none of these units was stored.
+fn units_free(image: &Words, hand: &mut Hand, from: u64, to: u64) -> bool
+    requires fits { hand.old.seat.table_id ≡ image.now.table.shared.table_id }
+    requires low { hand.old.floor ≤ from }
+    requires near { to ≤ hand.old.floor + ring image.now.key }
+    requires exact { IsExact image.now.key hand.old.seat.me.0.held }
+    ensures fits { hand.new.seat.table_id ≡ hand.old.seat.table_id }
+    ensures same { hand.new.seat.me.0 ≡ hand.old.seat.me.0 }
+    ensures free { IsTrue result ↔ bits.AreFree hand.old.seat.me.0.held from to }
+{
+    let _ = &image.table;
+    let mut at = from;
+    while at < to {
+        let low = at % 64;
+        let count = (64 - low).min(to - at);
+        let place = image.held_word(at);
+        let word = fetch_as::<Brand>(image, hand, place);
+        if word & mask(low, low + count) != 0 {
+            return false;
+        }
+        at += count;
+    }
+    true
+}
+
+/// Whether none of the units between two positions was stored, from the floor on and at most three terms above it.
+pub(crate) fn is_free(image: &Image, inserter: &mut FrameStore, from: u64, to: u64) -> bool
+    requires fits { IsStoreOf image.now inserter.old }
+    requires units { (from % 32 ≡ 0) × (to % 32 ≡ 0) }
+    requires low { floor_of inserter.old ≤ from }
+    requires near { to ≤ floor_of inserter.old + 3 * inserter.old.key.identity.geometry.term_length }
+    ensures same { inserter.new ≡ inserter.old }
+    ensures free { IsTrue result ↔ AreFree inserter.old from to }
+{
+    let _ = &image.words;
+    let _ = &inserter.hand;
+    units_free(&image.words, &mut inserter.hand, from / 32, to / 32)
+}
+
+/// A word of the bits that say which units were stored, 64 in a word: bit `p % 2048 / 32` of word `p % (3 * T) / 2048` is
+/// set exactly where the unit at p was stored, for each p from the floor on, below three terms T more.
+pub(crate) fn held_bits(image: &Image, inserter: &mut FrameStore, index: usize) -> u64
+    requires fits { IsStoreOf image.now inserter.old }
+    requires index { index < 3 * inserter.old.key.identity.geometry.term_length / 2048 }
+    ensures same { inserter.new ≡ inserter.old }
+    ensures units { TellsUnits inserter.old index result }
+{
+    let _ = &image.words;
+    let _ = &inserter.hand;
+    fetch_as::<Brand>(&image.words, &mut inserter.hand, index)
+}
+
+/// Whether a frame that was stored starts at a position from the floor on, below three terms more.
+pub(crate) fn starts_at(image: &Image, inserter: &mut FrameStore, position: u64) -> bool
+    requires fits { IsStoreOf image.now inserter.old }
+    requires unit { position % 32 ≡ 0 }
+    requires low { floor_of inserter.old ≤ position }
+    requires near { position < floor_of inserter.old + 3 * inserter.old.key.identity.geometry.term_length }
+    ensures same { inserter.new ≡ inserter.old }
+    ensures starts { IsTrue result ↔ HasStart (stored_by inserter.old) position }
+{
+    let _ = &image.words;
+    let _ = &inserter.hand;
+    let unit = position / 32;
+    let place = image.words.start_word(unit);
+    let word = fetch_as::<Brand>(&image.words, &mut inserter.hand, place);
+    (word >> (unit % 64)) & 1 == 1
+}
+
+/// The first word of the frame that was stored at a position from the floor on.
+pub(crate) fn first_word_at(image: &Image, inserter: &mut FrameStore, position: u64) -> u64
+    requires fits { IsStoreOf image.now inserter.old }
+    requires unit { position % 32 ≡ 0 }
+    requires low { floor_of inserter.old ≤ position }
+    requires below { position < 2 ^ 62 }
+    requires starts { HasStart (stored_by inserter.old) position }
+    ensures same { inserter.new ≡ inserter.old }
+    ensures first { IsFirstWord inserter.old position result }
+{
+    let _ = &image.words;
+    let _ = &inserter.hand;
+    let place = image.words.first_word(position / 32);
+    fetch_as::<Brand>(&image.words, &mut inserter.hand, place)
+}
+
+/// The head of the frame that was stored at a position from the floor on.
+pub(crate) fn head_at(image: &Image, inserter: &mut FrameStore, position: u64) -> FrameHead
+    requires fits { IsStoreOf image.now inserter.old }
+    requires unit { position % 32 ≡ 0 }
+    requires low { floor_of inserter.old ≤ position }
+    requires below { position < 2 ^ 62 }
+    requires starts { HasStart (stored_by inserter.old) position }
+    ensures same { inserter.new ≡ inserter.old }
+    ensures head { IsHeadOf inserter.old position result }
+{
+    let _ = &inserter.hand;
+    let first = first_word_at(image, inserter, position);
+    head_in(first, position)
+}

@@ -1,0 +1,51 @@
+//! A reader and the inserter meet: each is told what the other knows.
+
+ghost use Rattle.std.specs.Prelude.{◌≡◌};
+ghost use Rattle.image_rule.specs.Reads as rule;
+ghost use Rattle.image.specs.Handles as seats;
+ghost use Rattle.image.specs.Handles.{IsReaderOf};
+ghost use Rattle.image.specs.Meeting.{Meets};
+ghost use Rattle.image.specs.Rebuilding.{IsInserterOf};
+
+use crate::inserter::Inserter;
+use crate::inserter::store::FrameStore;
+use crate::reader::ImageReader;
+use crate::words::image::Image;
+use image_rule::{Attend, Confirm, Findings, News, Settle, Tell};
+
+/// Tells a reader each frame that was stored so far: it finds these, and never none, where they begin. And shows that what
+/// it knew was stored by this inserter, and that the inserter has seen it where it stands.
+fn learn(image: &Image, reader: &mut ImageReader, inserter: &mut FrameStore)
+    requires reader { IsReaderOf image.now reader.old }
+    requires inserter { seats.IsStoreOf image.now inserter.old }
+    ensures fits { IsReaderOf image.now reader.new × seats.IsStoreOf image.now inserter.new }
+    ensures meets { rule.Meets inserter.old.view reader.old.view inserter.new.view reader.new.view }
+    ensures inserter { inserter.new ≡ record inserter.old { view = inserter.new.view } }
+    ensures reader { reader.new ≡ record reader.old { view = reader.new.view } }
+{
+    let _ = &image.words;
+    let _ = &inserter.hand;
+    let _ = &reader.standing;
+    let words = &image.words.table.shared;
+    let hand = &mut inserter.hand;
+    let standing = &mut reader.standing;
+    let news = words.split_seat::<News>(&mut hand.seat);
+    words.join_seat::<Tell>(&mut standing.seat, news);
+    words.load::<Settle>(&mut standing.seat, 0);
+    let findings = words.split_seat::<Findings>(&mut standing.seat);
+    words.join_seat::<Attend>(&mut hand.seat, findings);
+    words.load::<Confirm>(&mut hand.seat, 0);
+}
+
+/// Tells a reader each frame that was stored so far, and the inserter where that reader stands. What the inserter had seen of
+/// it since they met before is then where it stands, too, if it hasn't moved.
+pub fn meet(image: &Image, reader: &mut ImageReader, inserter: &mut Inserter)
+    requires reader { IsReaderOf image.now reader.old }
+    requires inserter { IsInserterOf image.now inserter.old }
+    ensures fits { IsReaderOf image.now reader.new }
+    ensures met { Meets inserter.old reader.old inserter.new reader.new }
+{
+    // What always holds of it, for the proof.
+    let _ = inserter.words.floor();
+    learn(image, reader, &mut inserter.words);
+}

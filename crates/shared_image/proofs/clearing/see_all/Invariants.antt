@@ -1,9 +1,0 @@
-use Rattle.std.proofs.Common.{◌≡◌, ◌*◌, ◌^◌, ◌<◌, ◌≤◌}
-use Rattle.image_rule.specs.Bits.{Sweeps}
-use Rattle.shared_image.proofs.clearing.see_all.Given as goal
-
-abbrev pub ghosts-see_as : goal.ghosts-see_as
-ghosts-see_as a = record { number = a.number }
-
-abbrev pub invariant-loop-number : goal.invariant-loop-number
-invariant-loop-number l = (l.hand.seat.table_id ≡ l.fn.hand.seat.table_id) × (1 ≤ l.number) × Sweeps l.image.key l.fn.hand.seat.me.0 l.number l.least l.hand.seat.me.0 × (32 * l.least < 2 ^ 64)

@@ -1,8 +1,0 @@
-use Rattle.std.proofs.Common.{rules, arith}
-use Rattle.shared_image.proofs.Steps.{fetch_here}
-use Rattle.shared_image.proofs.hand.fetch_as.Goals as goal
-
-pub load-requires : goal.load-requires
-load-requires g c =
-    let i = c.args.image.now in let n = c.args.hand.now in let wide = i.wide in let same = i.units_is in let inside = c.requires.inside in
-    (search rules, omega arith, fetch_here i.table.shared.key i.key _ _ n.seat.me c.args.place g.N.Chosen.number i.is_of c.requires.chosen n.inserts c.requires.inside)
