@@ -1,5 +1,5 @@
 -- A publisher to several subscribers that ends whole has read all of its input, and it has arrived at each.
-use Rattle.std.proofs.Common.{◌≡◌, ◌∙◌, ℕ, Bool, true, false, ◌&&◌, ◌||◌, nat_eq, List, [], ◌∷◌, map, length, Option, None, Some, IfOk, Result, Ok, Err, if◌then◌else◌, refl, sym, ap, subst}
+use Rattle.std.proofs.Common.{◌≡◌, ◌∙◌, ℕ, Bool, true, false, ◌&&◌, ◌||◌, nat_eq, List, [], ◌∷◌, map, length, Option, None, Some, IfOk, IfSome, Result, Ok, Err, if◌then◌else◌, refl, sym, ap, subst}
 use Rattle.std.specs.List.{AllByRecursion, list_all}
 use Rattle.std.specs.Prelude.{⊤}
 use Rattle.std.proofs.lemmas.Bool.{eqb-true}
@@ -11,7 +11,8 @@ use Rattle.offering.specs.declared.reading.Reading.{Reading}
 use Rattle.publisher.specs.declared.fault.PublishFault.{PublishFault}
 use Rattle.publisher.specs.declared.judged.Judged.{Judged}
 use Rattle.publisher.specs.Ended.{AllArrived}
-use Rattle.publisher.specs.Judging.{end_in, ended_by, ending_by, fault_in, faulted_or, is_read}
+use Rattle.publisher.specs.Farewells.{ending_told}
+use Rattle.publisher.specs.Judging.{end_in, ended_by, ending_by, ending_of, fault_in, faulted_or, is_read}
 use Rattle.publisher.proofs.Whole.{arrived}
 use Rattle.group_publisher.specs.Ended.{AllHaveArrived, ending_with}
 use Rattle.group_publisher.specs.Endings.{heard_along, is_whole_along}
@@ -108,3 +109,25 @@ all_arrived read sent ending told linger wait known count ways heard ends is tol
       many = sym known_is ∙ so.0;
       arrived = subst (AllByRecursion (AllArrived read)) (sym heard_is) (by_sent read sent linger wait ways ends (sym is ∙ so.1));
     }
+
+-- ---- what the end that was told makes of it
+
+told_by : (e : Result Ending PublishFault) (alone : Bool) → ending_told e alone ≡ Ok Whole → (alone ≡ true) × (e ≡ Ok Whole)
+told_by (Ok Whole) true h = (refl, refl)
+told_by (Ok Short) true h = absurd (subst NotOkWhole h tt)
+told_by (Ok e) false h = absurd (subst NotOkWhole h tt)
+told_by (Err fault) alone h = absurd (subst NotOkWhole h tt)
+
+pub told_alone : (e after : Result Ending PublishFault) (alone : Bool) → after ≡ ending_told e alone → after ≡ Ok Whole → alone ≡ true
+told_alone e after alone is whole = (told_by e alone (sym is ∙ whole)).0
+
+pub whole_before : (e after : Result Ending PublishFault) (alone : Bool) → after ≡ ending_told e alone → after ≡ Ok Whole → e ≡ Ok Whole
+whole_before e after alone is whole = (told_by e alone (sym is ∙ whole)).1
+
+by_fault : (o : Option PublishFault) (sent first second third : Result Ending PublishFault) (known ways : ℕ) (alone : Bool) → first ≡ faulted_or o sent → second ≡ ending_with first known ways → third ≡ ending_told second alone → IfSome o (λ fault. third ≡ Err fault)
+by_fault None sent first second third known ways alone a b c = tt
+by_fault (Some fault) sent first second third known ways alone a b c = c ∙ ap (λ (e : Result Ending PublishFault). ending_told e alone) (b ∙ ap (λ (e : Result Ending PublishFault). ending_with e known ways) a)
+
+-- a reading's fault is the end
+pub still_faulted : (read : Option Reading) (sent : Result Judged PublishFault) (first second third : Result Ending PublishFault) (known ways : ℕ) (alone : Bool) → first ≡ ended_by read sent → second ≡ ending_with first known ways → third ≡ ending_told second alone → IfSome (fault_in read) (λ fault. third ≡ Err fault)
+still_faulted read sent first second third known ways alone a b c = by_fault (fault_in read) (ending_of read sent) first second third known ways alone a b c

@@ -273,7 +273,7 @@ fn begin_with_heard<D: Datagrams, E: Write>(
 
 /// Sends and keeps until the publisher ends. The answer is how, by the receivers that its ways have heard, and by how the
 /// reading had ended then.
-#[tactic(auto, using(crate::proofs::Begun::sends_still))]
+#[tactic(auto, using(crate::proofs::Begun::sends_still, crate::proofs::Ends::ends))]
 pub(crate) fn send_all<R: Wait + Clock, D: Datagrams, E: Write>(
     context: &PublisherContext<'_, R>,
     sender: &mut GroupSender<'_, D>,

@@ -167,7 +167,10 @@ pub(crate) fn run<R: Threads + Wait + Clock, I: BufRead + Drop, D: Datagrams, E:
     let end = farewell_in(&reading, &ending);
     bid_farewell(context.rt, &mut sender.passes.duty, end);
     let told = ends_of(alloc, sender.passes.duty.device().each());
-    let (Ok(attendances), Ok(ends)) = (heard, told) else {
+    let Ok(attendances) = heard else {
+        return Err(PublishFault::Failed(DeviceError::Memory));
+    };
+    let Ok(ends) = told else {
         return Err(PublishFault::Failed(DeviceError::Memory));
     };
     let geometry = &context.plan.geometry;
