@@ -3,9 +3,9 @@
 ghost use Rattle.std.specs.Prelude.{◌≡◌, ◌+◌, ◌*◌, ◌/◌, ◌%◌, ◌^◌, ◌<◌, ◌≤◌};
 ghost use Rattle.image_rule.specs.Frames.{data_place, held_place, image_length, ring, start_place};
 ghost use Rattle.image_rule.specs.Rule.{IsKey, image_place};
+ghost use Rattle.image_rule.specs.Bits.{IsMask};
 
 pub(crate) mod image;
-pub(crate) mod mask;
 
 use atomic_table::Table;
 use image_rule::{ImageRule, Key, View};
@@ -115,4 +115,14 @@ impl Words {
             next - bounds.length
         }
     }
+}
+
+/// The word whose ones are the bits from `low` on, below `high`.
+#[inline(always)]
+pub(crate) fn mask(low: u64, high: u64) -> u64
+    requires some { low < high }
+    requires within { high ≤ 64 }
+    ensures { IsMask result low high }
+{
+    (u64::MAX << low) & (u64::MAX >> (64 - high))
 }

@@ -6,11 +6,9 @@ ghost use Rattle.image_rule.specs.Bits.{Cleared, DropsBits, IsExact, MayDrop, Ma
 ghost use Rattle.image.specs.Handles.{IsStoreOf, floor_of};
 ghost use Rattle.image.specs.Inserting.{ClearedTo, MayClearTo, Swept};
 
-use crate::inserter::hand::{Hand, change_as, fetch_as, see_as};
-use crate::inserter::store::FrameStore;
-use crate::words::Words;
+use crate::inserter::hand::{FrameStore, Hand, change_as, fetch_as, see_as};
 use crate::words::image::Image;
-use crate::words::mask::mask;
+use crate::words::{Words, mask};
 use image_rule::Changing;
 use std::marker::Brand;
 

@@ -7,11 +7,9 @@ ghost use Rattle.image_rule.specs.Bits.{IsExact};
 ghost use Rattle.image.specs.Handles.{IsStoreOf, floor_of, stored_by};
 ghost use Rattle.image.specs.Looking.{AreFree, IsFirstWord, IsHeadOf, TellsUnits};
 
-use crate::inserter::hand::{Hand, fetch_as};
-use crate::inserter::store::FrameStore;
-use crate::words::Words;
+use crate::inserter::hand::{FrameStore, Hand, fetch_as};
 use crate::words::image::Image;
-use crate::words::mask::mask;
+use crate::words::{Words, mask};
 use frame_words::head_in;
 use position::FrameHead;
 use std::marker::Brand;

@@ -7,11 +7,19 @@ ghost use Rattle.image_rule.specs.Bits.{IsExact, MayInsert, Wrote};
 ghost use Rattle.image_rule.specs.Steps.{Changes, May};
 ghost use Rattle.image.specs.Spelled.{drafted};
 
-use crate::inserter::draft::Draft;
 use crate::inserter::hand::{Hand, store_as};
 use crate::words::Words;
 use frame_words::{header_words, last_word, whole_word};
 use std::marker::Brand;
+
+/// A frame that is stored: the unit at which it starts, how many units it covers, its first word, and its payload.
+#[derive(Clone, Copy)]
+pub(crate) struct Draft<'a> {
+    pub(crate) unit: u64,
+    pub(crate) units: u64,
+    pub(crate) first: u64,
+    pub(crate) payload: &'a [u8],
+}
 
 /// Stores a word of a frame that may be inserted, at its place.
 #[inline(always)]

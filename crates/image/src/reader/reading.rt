@@ -9,8 +9,7 @@ ghost use Rattle.image.specs.Finding.{FindsHere, FindsNothing, PassesOn};
 ghost use Rattle.image.specs.Handles.{IsReaderOf, position_of};
 ghost use Rattle.image.specs.Reading.{Copied, Finds, FindsNone, MayAdvance};
 
-use crate::reader::ImageReader;
-use crate::reader::standing::{Standing, look, move_as, word_as};
+use crate::reader::{ImageReader, Standing, look, move_as, word_as};
 use crate::words::Words;
 use crate::words::image::Image;
 use block::Block;
