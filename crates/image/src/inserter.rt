@@ -24,8 +24,7 @@ use crate::fault::{CONSUMERS, ImageError};
 use crate::inserter::clearing::{clear_to, sweep};
 use crate::inserter::hand::{FrameStore, Hand};
 use crate::reader::{ImageReader, Standing};
-use crate::words::image::Image;
-use crate::words::{IMAGE, Words};
+use crate::words::{IMAGE, Image, Words};
 use atomic_table::Table;
 use image_rule::{Chosen, Deal, Key};
 use position::Identity;
@@ -68,8 +67,7 @@ fn first_words(alloc: Global, units: u64, key: &Key) -> Result<Vec<u64>, AllocEr
     Ok(words)
 }
 
-/// An image of a stream that holds nothing, with all its consumers at the join, and its inserter, which has all its readers
-/// yet. The error comes only where memory was refused. Nothing takes memory later.
+/// An image that holds nothing, and its frames. The error comes only where memory was refused.
 pub(crate) fn open_words(
     alloc: Global,
     identity: Identity,
@@ -212,8 +210,7 @@ pub fn deal(image: &Image, inserter: &mut Inserter, number: u64) -> ImageReader
     deal_reader(image, &mut inserter.words, number)
 }
 
-/// Looks where the consumers stand, and lets go of what all of them have passed. The answer is the least position that it
-/// read.
+/// Looks where the consumers stand, and lets go of what all have passed. The answer is the least position that it read.
 pub fn least(image: &Image, inserter: &mut Inserter) -> u64
     requires fits { IsInserterOf image.now inserter.old }
     ensures looked { Looked inserter.old inserter.old.stored inserter.old.high inserter.new }

@@ -37,4 +37,4 @@ pub use meeting::{meet, read_past};
 pub use reader::ImageReader;
 pub use reader::reading::{advance, read};
 pub use steps::Steps;
-pub use words::image::Image;
+pub use words::Image;

@@ -12,7 +12,7 @@ use crate::inserter::Inserter;
 use crate::inserter::hand::FrameStore;
 use crate::reader::ImageReader;
 use crate::reader::reading::{advance, read};
-use crate::words::image::Image;
+use crate::words::Image;
 use block::Block;
 use image_rule::{Attend, Confirm, Findings, News, Settle, Tell};
 use position::FrameHead;

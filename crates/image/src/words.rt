@@ -5,12 +5,11 @@ ghost use Rattle.image_rule.specs.Frames.{data_place, held_place, image_length, 
 ghost use Rattle.image_rule.specs.Rule.{IsKey, image_place};
 ghost use Rattle.image_rule.specs.Bits.{IsMask};
 
-pub(crate) mod image;
-
 use atomic_table::Table;
 use image_rule::{ImageRule, Key, View};
-use position::split_by;
+use position::{Identity, split_by};
 use std::alloc::Global;
+use std::marker::Model;
 
 /// Where the image's words begin, behind the consumers' positions.
 pub(crate) const IMAGE: usize = 128;
@@ -125,4 +124,42 @@ pub(crate) fn mask(low: u64, high: u64) -> u64
     ensures { IsMask result low high }
 {
     (u64::MAX << low) & (u64::MAX >> (64 - high))
+}
+
+/// An image that threads share: its words stand in a table.
+#[derive(Drop)]
+pub struct Image {
+    pub(crate) words: Words,
+}
+
+impl Model for Image {
+    ghost use Rattle.image.specs.Handles.{ImageWords};
+
+    ghost Value = { ImageWords };
+
+    ghost view = { λ i. record { of = i.words.table.shared.table_id; key = i.words.key } };
+}
+
+impl Image {
+    /// The stream that it rebuilds.
+    pub fn identity(&self) -> Identity
+        ensures { result ≡ self.now.key.identity }
+    {
+        self.words.key.identity
+    }
+
+    /// The position at which it joins, a multiple of 32.
+    pub fn join(&self) -> u64
+        ensures { result ≡ 32 * self.now.key.join }
+    {
+        let _ = &self.words;
+        32 * self.words.key.join
+    }
+
+    /// How many consumers it has, one to eight.
+    pub fn consumers(&self) -> u64
+        ensures { result ≡ self.now.key.consumers }
+    {
+        self.words.key.consumers
+    }
 }

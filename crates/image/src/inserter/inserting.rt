@@ -23,7 +23,7 @@ use crate::inserter::hand::FrameStore;
 use crate::inserter::looking::{head_at, is_free, starts_at};
 use crate::inserter::storing::store_frame;
 use crate::inserter::{Inserter, least};
-use crate::words::image::Image;
+use crate::words::Image;
 use frames::Frame;
 use position::{FrameHead, FrameKind, UNFRAGMENTED, align32};
 
@@ -108,8 +108,7 @@ fn has_like(
     is_like(&head, kind, frame_length)
 }
 
-/// What becomes of a frame at a position from 0 on that doesn't pass the end of its term, where the consumers were just
-/// looked at.
+/// What becomes of a frame at a position from 0 on that doesn't pass the end of its term.
 fn judge_inside(
     image: &Image,
     words: &mut FrameStore,

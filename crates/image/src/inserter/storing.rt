@@ -15,8 +15,7 @@ ghost use Rattle.image.specs.Inserting.{MayStore, Stores, kind_number, placed_by
 
 use crate::inserter::hand::{FrameStore, Hand, fetch_as, store_as};
 use crate::inserter::spelling::{Draft, write_words};
-use crate::words::image::Image;
-use crate::words::{Words, mask};
+use crate::words::{Image, Words, mask};
 use frame_words::first_word;
 use image_rule::Changing;
 use position::{FrameHead, FrameKind, align32};
