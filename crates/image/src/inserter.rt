@@ -82,7 +82,6 @@ pub(crate) fn open_words(
     ensures fits { IfOk result (λ r. IsStoreOf r.0 r.1) }
     ensures whole { IfOk result (λ r. r.1.view ≡ whole_seat r.0.key) }
 {
-    // What always holds of it, for the proof.
     let _ = identity.geometry();
     let key = Key {
         identity,
@@ -218,7 +217,6 @@ pub fn least(image: &Image, inserter: &mut Inserter) -> u64
     ensures low { result ≤ max_position (geometry_of inserter.new) }
     ensures unit { result % 32 ≡ 0 }
 {
-    // What always holds of it, for the proof.
     let _ = inserter.words.floor();
     let lowest = sweep(image, &mut inserter.words);
     clear_to(image, &mut inserter.words, lowest);
@@ -269,7 +267,6 @@ impl Inserter {
         ensures fit { AllByRecursion (IsFit (geometry_of self.now).term_length self.now.high) self.now.stored }
         ensures from { AllByRecursion (λ s. join_of self.now ≤ s.at) self.now.stored }
     {
-        // What always holds of it, for the proof.
         let _ = &self.words;
     }
 }

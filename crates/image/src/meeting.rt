@@ -49,7 +49,6 @@ pub fn meet(image: &Image, reader: &mut ImageReader, inserter: &mut Inserter)
     ensures fits { IsReaderOf image.now reader.new }
     ensures met { Meets inserter.old reader.old inserter.new reader.new }
 {
-    // What always holds of it, for the proof.
     let _ = inserter.words.floor();
     learn(image, reader, &mut inserter.words);
 }
@@ -69,7 +68,6 @@ pub fn read_past(
     ensures alone { AreAlone image.now inserter.new reader.new }
     ensures same_length { length block.new ≡ length block.old }
 {
-    // What always holds of it, for the proof.
     let _ = inserter.rebuilt();
     meet(image, reader, inserter);
     let Some(head) = read(image, reader, block) else {

@@ -85,7 +85,6 @@ impl Words {
         ensures end { result.end ≡ image_length (ring self.now.key) }
         ensures large { 24576 ≤ result.length }
     {
-        // What always holds of it, for the proof.
         let _ = &self.table;
         let _ = self.key.identity.geometry().term_length();
         let length = 4 * self.units;

@@ -133,11 +133,11 @@ fn pass(image: &mut Parts, map: &mut MapImage, consumer: usize, block: &mut Bloc
 
 /// Whether both stand alike, with the same first gap.
 fn stand(image: &mut Parts, map: &MapImage) -> bool {
-    let standing = image.stand();
-    standing.least == map.least().cast_unsigned()
-        && standing.rebuilt == map.rebuilt().cast_unsigned()
-        && standing.high_water == map.high().cast_unsigned()
-        && standing.gap == map.first_gap()
+    let (least, rebuilt, high, gap) = image.stand();
+    least.cast_signed() == map.least()
+        && rebuilt.cast_signed() == map.rebuilt()
+        && high.cast_signed() == map.high()
+        && gap == map.first_gap()
 }
 
 /// One step of a list: a frame, a heartbeat or a read. Whether both answer alike, and stand alike then.
@@ -174,35 +174,15 @@ fn stay_alike(
     Ok(alike)
 }
 
-/// What an image is opened with.
-#[derive(Clone, Copy)]
-struct Opening {
-    join: u32,
-    window: u32,
-    consumers: usize,
-}
-
-fn draw_opening(draws: &mut Pcg32) -> Opening {
-    Opening {
-        join: below(draws, 8192),
-        window: 1408 + 32 * below(draws, 981),
-        consumers: 1 + below(draws, 2) as usize,
-    }
-}
-
 /// Opens both by these draws, and gives them all lists. Whether they always answer alike.
 fn are_alike(alloc: Global, draws: &mut Pcg32, block: &mut Block) -> Result<bool, Fail> {
     let geometry = Geometry::new(65_536, 1408, 7)?;
-    let opening = draw_opening(draws);
-    let join = 32 * u64::from(opening.join);
-    let mut map = MapImage::open(
-        alloc,
-        join.cast_signed(),
-        i64::from(opening.window),
-        opening.consumers,
-    )?;
+    let join = 32 * u64::from(below(draws, 8192));
+    let window = 1408 + 32 * below(draws, 981);
+    let consumers = 1 + below(draws, 2) as usize;
+    let mut map = MapImage::open(alloc, join.cast_signed(), i64::from(window), consumers)?;
     let identity = Identity::new(geometry, 1, 1001);
-    let mut image = Parts::open(alloc, identity, join, opening.window, opening.consumers)?;
+    let mut image = Parts::open(alloc, identity, join, window, consumers)?;
     stay_alike(alloc, draws, &mut image, &mut map, block)
 }
 

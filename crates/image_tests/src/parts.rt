@@ -17,15 +17,6 @@ use image::{
 use position::{FrameHead, Gap, Identity};
 use std::alloc::Global;
 
-/// Where an image stands.
-#[derive(Clone, Copy, Debug, PartialEq, Eq)]
-pub(crate) struct Standing {
-    pub(crate) least: u64,
-    pub(crate) rebuilt: u64,
-    pub(crate) high_water: u64,
-    pub(crate) gap: Option<Gap>,
-}
-
 /// The image with its inserter and its readers, of which there are one or two.
 #[derive(Drop)]
 pub(crate) struct Parts {
@@ -118,14 +109,11 @@ impl Parts {
         }
     }
 
-    pub(crate) fn stand(&mut self) -> Standing {
+    /// Where the least consumer stands, the contiguous end, the mark and the first gap.
+    pub(crate) fn stand(&mut self) -> (u64, u64, u64, Option<Gap>) {
         let lowest = least(&self.image, &mut self.inserter);
         let gap = first_gap(&self.image, &mut self.inserter, &mut Steps::new());
-        Standing {
-            least: lowest,
-            rebuilt: self.inserter.rebuilt(),
-            high_water: self.inserter.high_water(),
-            gap,
-        }
+        let (rebuilt, high_water) = (self.inserter.rebuilt(), self.inserter.high_water());
+        (lowest, rebuilt, high_water, gap)
     }
 }

@@ -135,6 +135,18 @@ fn tenths_each(taken: Duration, frames: u32) -> u64
     each.min(u128::from(u64::MAX)) as u64
 }
 
+/// An image with one consumer.
+fn open_parts(alloc: Global, geometry: Geometry) -> Result<ImageParts, ImageSpeedError> {
+    let identity = Identity::new(geometry, 7, 1001);
+    let (image, mut inserter) = open(alloc, identity, 0, geometry.term_length() / 2, 1)?;
+    let reader = deal(&image, &mut inserter, 0);
+    Ok(ImageParts {
+        image,
+        inserter,
+        reader,
+    })
+}
+
 /// Gives a fresh image so many frames with this payload, and reads each at once.
 pub fn measure_image<R: Clock>(
     rt: &R,
@@ -146,14 +158,7 @@ pub fn measure_image<R: Clock>(
     ensures { IfOk result (λ figures. figures.length ≡ length payload.now + 32) }
 {
     let geometry = Geometry::new(65_536, 1408, 7)?;
-    let identity = Identity::new(geometry, 7, 1001);
-    let (image, mut inserter) = open(alloc, identity, 0, geometry.term_length() / 2, 1)?;
-    let reader = deal(&image, &mut inserter, 0);
-    let mut parts = ImageParts {
-        image,
-        inserter,
-        reader,
-    };
+    let mut parts = open_parts(alloc, geometry)?;
     let mut block = Block::new(alloc, 65_536)?;
     let Ok(began) = Instant::now(rt) else {
         return Err(ImageSpeedError::Clock);

@@ -73,7 +73,6 @@ pub fn first_gap(image: &Image, inserter: &mut Inserter, steps: &mut Steps) -> O
     ensures looks { IfSome result (λ gap. steps.new ≤ steps.old + gap.length / 2048 + 2) }
     ensures none { IfNone result (steps.new ≡ steps.old) }
 {
-    // What always holds of it, for the proof.
     inserter.stored_apart();
     let start = inserter.rebuilt();
     let high = inserter.high_water();

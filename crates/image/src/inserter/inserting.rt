@@ -18,7 +18,7 @@ ghost use Rattle.image.specs.Inserting.{Stores};
 ghost use Rattle.image.specs.Runs.{AreBelow, IsRun};
 
 use crate::answer::Insert;
-use crate::held::{covered, crosses_term, is_like, measure};
+use crate::held::{crosses_term, is_like, measure};
 use crate::inserter::hand::FrameStore;
 use crate::inserter::looking::{head_at, is_free, starts_at};
 use crate::inserter::storing::store_frame;
@@ -191,9 +191,9 @@ fn store(image: &Image, inserter: &mut Inserter, start: u64, frame: &Frame<'_>)
     requires may { FitsIn (geometry_of inserter.old) inserter.old.floor inserter.old.stored (record { at = start; frame = stream_frame frame.now }) }
     ensures { inserter.new ≡ with_frame inserter.old (record { at = start; frame = stream_frame frame.now }) }
 {
-    // What always holds of it, for the proof.
     let _ = &inserter.words;
-    let end = start + u64::from(covered(frame));
+    let (_, frame_length) = measure(frame);
+    let end = start + u64::from(align32(frame_length));
     put(image, &mut inserter.words, start, frame);
     inserter.high_water = inserter.high_water.max(end);
     inserter.rebuilt = run_end(
@@ -221,7 +221,6 @@ pub fn insert(image: &Image, inserter: &mut Inserter, position: i64, frame: &Fra
     let _ = least(image, inserter);
     let answer = judge(image, inserter, position, kind, frame_length);
     if answer == Insert::Stored {
-        // What always holds of it, for the proof.
         let _ = &inserter.words;
         store(image, inserter, position as u64, frame);
     }
