@@ -16,8 +16,8 @@ use crate::receiver_agent::named::Named;
 use crate::receiver_agent::publishing::publish;
 use counters::{CounterReader, CounterWriter, Counters, Readings};
 use endpoint::{Datagrams, DeviceError};
-use receiver::{Positions, Readers, ReceiverCore};
 use image::ImageReader;
+use receiver::{Positions, Readers, ReceiverCore};
 use std::marker::{Model, PhantomData};
 use std::sync::Wait;
 

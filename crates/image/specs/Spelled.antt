@@ -3,7 +3,7 @@ use Rattle.std.specs.Prelude.{ℕ, ◌*◌, List, ◌∷◌, ◌++◌}
 use Rattle.theory.specs.Bytes.{Identity}
 use Rattle.frame_words.specs.Words.{header_words, payload_words}
 use Rattle.image_rule.specs.declared.view.Frame.{Frame}
-use Rattle.image.specs.declared.inserter.draft.Draft.{Draft}
+use Rattle.image.specs.declared.inserter.spelling.Draft.{Draft}
 
 -- its first word, those of its header behind that, and those of its payload
 abbrev pub spelt_frame : Identity → ℕ → ℕ → ℕ → List ℕ → Frame

@@ -2,7 +2,6 @@
 ghost use Rattle.std.specs.Prelude.{◌≡◌, ◌≤◌, ◌^◌, ◌&&◌, nat_eq};
 ghost use Rattle.theory.specs.Insert.{same_kind};
 ghost use Rattle.theory.specs.Placed.{frame_length, is_padding};
-ghost use Rattle.theory.specs.Position.{aligned};
 ghost use Rattle.theory.specs.Wire.{IsFrame};
 ghost use Rattle.frames.specs.Frames.{wire};
 ghost use Rattle.image.specs.Kinds.{is_pad};
@@ -10,7 +9,7 @@ ghost use Rattle.image.specs.Seen.{crosses};
 ghost use Rattle.image.specs.Stored.{IsOfStream, stream_frame};
 
 use frames::Frame;
-use position::{FrameHead, FrameKind, Geometry, align32, split_by};
+use position::{FrameHead, FrameKind, Geometry, split_by};
 
 /// The kind and the length of a frame of a stream.
 pub(crate) fn measure(frame: &Frame<'_>) -> (FrameKind, u32)
@@ -26,18 +25,6 @@ pub(crate) fn measure(frame: &Frame<'_>) -> (FrameKind, u32)
         Frame::Pad { frame_length, .. } => (FrameKind::Pad, frame_length),
         _ => unreachable!(),
     }
-}
-
-/// The bytes of the stream that it covers.
-pub(crate) fn covered(frame: &Frame<'_>) -> u32
-    requires frame { IsFrame (wire frame.now) }
-    requires stored { IsOfStream frame.now }
-    ensures value { result ≡ aligned (frame_length (stream_frame frame.now)) }
-    ensures some { 32 ≤ result }
-    ensures few { result ≤ 2 ^ 24 }
-{
-    let (_, frame_length) = measure(frame);
-    align32(frame_length)
 }
 
 /// Whether it is of this kind and length.

@@ -1,17 +1,21 @@
-//! A reader and the inserter meet: each is told what the other knows.
+//! A reader and the inserter meet: each is told what the other knows. So where one hand has both, each call finds what the last
+//! one left: what was only known to grow stands still.
 
-ghost use Rattle.std.specs.Prelude.{◌≡◌};
+ghost use Rattle.std.specs.Prelude.{◌≡◌, ◌≤◌, length, IfNone, IfSome};
 ghost use Rattle.image_rule.specs.Reads as rule;
 ghost use Rattle.image.specs.Handles as seats;
 ghost use Rattle.image.specs.Handles.{IsReaderOf};
-ghost use Rattle.image.specs.Meeting.{Meets};
+ghost use Rattle.image.specs.Meeting.{Meets, AreAlone, ReadsPast, StandsAtEnd};
 ghost use Rattle.image.specs.Rebuilding.{IsInserterOf};
 
 use crate::inserter::Inserter;
-use crate::inserter::store::FrameStore;
+use crate::inserter::hand::FrameStore;
 use crate::reader::ImageReader;
-use crate::words::image::Image;
+use crate::reader::reading::{advance, read};
+use crate::words::Image;
+use block::Block;
 use image_rule::{Attend, Confirm, Findings, News, Settle, Tell};
+use position::FrameHead;
 
 /// Tells a reader each frame that was stored so far: it finds these, and never none, where they begin. And shows that what
 /// it knew was stored by this inserter, and that the inserter has seen it where it stands.
@@ -45,7 +49,31 @@ pub fn meet(image: &Image, reader: &mut ImageReader, inserter: &mut Inserter)
     ensures fits { IsReaderOf image.now reader.new }
     ensures met { Meets inserter.old reader.old inserter.new reader.new }
 {
-    // What always holds of it, for the proof.
     let _ = inserter.words.floor();
     learn(image, reader, &mut inserter.words);
+}
+
+/// Reads the frame where the reader stands, to the block's front, and moves the reader past it. There is none exactly where it
+/// stands at the contiguous end: then it has looked there once more, and the block is as it was.
+pub fn read_past(
+    image: &Image,
+    inserter: &mut Inserter,
+    reader: &mut ImageReader,
+    block: &mut Block,
+) -> Option<FrameHead>
+    requires alone { AreAlone image.now inserter.old reader.old }
+    requires room { 65472 ≤ length block.old }
+    ensures none { IfNone result (StandsAtEnd inserter.old reader.old block.old inserter.new reader.new block.new) }
+    ensures read { IfSome result (λ head. ReadsPast inserter.old reader.old block.old head inserter.new reader.new block.new) }
+    ensures alone { AreAlone image.now inserter.new reader.new }
+    ensures same_length { length block.new ≡ length block.old }
+{
+    let _ = inserter.rebuilt();
+    meet(image, reader, inserter);
+    let Some(head) = read(image, reader, block) else {
+        return None;
+    };
+    let _ = advance(image, reader);
+    meet(image, reader, inserter);
+    Some(head)
 }

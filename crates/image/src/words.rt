@@ -3,14 +3,13 @@
 ghost use Rattle.std.specs.Prelude.{◌≡◌, ◌+◌, ◌*◌, ◌/◌, ◌%◌, ◌^◌, ◌<◌, ◌≤◌};
 ghost use Rattle.image_rule.specs.Frames.{data_place, held_place, image_length, ring, start_place};
 ghost use Rattle.image_rule.specs.Rule.{IsKey, image_place};
-
-pub(crate) mod image;
-pub(crate) mod mask;
+ghost use Rattle.image_rule.specs.Bits.{IsMask};
 
 use atomic_table::Table;
 use image_rule::{ImageRule, Key, View};
-use position::split_by;
+use position::{Identity, split_by};
 use std::alloc::Global;
+use std::marker::Model;
 
 /// Where the image's words begin, behind the consumers' positions.
 pub(crate) const IMAGE: usize = 128;
@@ -86,7 +85,6 @@ impl Words {
         ensures end { result.end ≡ image_length (ring self.now.key) }
         ensures large { 24576 ≤ result.length }
     {
-        // What always holds of it, for the proof.
         let _ = &self.table;
         let _ = self.key.identity.geometry().term_length();
         let length = 4 * self.units;
@@ -114,5 +112,53 @@ impl Words {
         } else {
             next - bounds.length
         }
+    }
+}
+
+/// The word whose ones are the bits from `low` on, below `high`.
+#[inline(always)]
+pub(crate) fn mask(low: u64, high: u64) -> u64
+    requires some { low < high }
+    requires within { high ≤ 64 }
+    ensures { IsMask result low high }
+{
+    (u64::MAX << low) & (u64::MAX >> (64 - high))
+}
+
+/// An image that threads share: its words stand in a table.
+#[derive(Drop)]
+pub struct Image {
+    pub(crate) words: Words,
+}
+
+impl Model for Image {
+    ghost use Rattle.image.specs.Handles.{ImageWords};
+
+    ghost Value = { ImageWords };
+
+    ghost view = { λ i. record { of = i.words.table.shared.table_id; key = i.words.key } };
+}
+
+impl Image {
+    /// The stream that it rebuilds.
+    pub fn identity(&self) -> Identity
+        ensures { result ≡ self.now.key.identity }
+    {
+        self.words.key.identity
+    }
+
+    /// The position at which it joins, a multiple of 32.
+    pub fn join(&self) -> u64
+        ensures { result ≡ 32 * self.now.key.join }
+    {
+        let _ = &self.words;
+        32 * self.words.key.join
+    }
+
+    /// How many consumers it has, one to eight.
+    pub fn consumers(&self) -> u64
+        ensures { result ≡ self.now.key.consumers }
+    {
+        self.words.key.consumers
     }
 }

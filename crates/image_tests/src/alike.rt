@@ -1,13 +1,14 @@
 ghost use Rattle.std.specs.Prelude.{◌<◌};
 
-use crate::images::{DATA, PAD, filled};
-use crate::map_image::{Kept, MapImage, TERM};
+use crate::map_image::{DATA, Kept, MapImage, PAD, TERM};
 use crate::parts::Parts;
 use block::Block;
-use position::{Geometry, Identity};
+use frames::{Frame, read_frame};
+use image::{ImageError, Insert};
+use position::{FrameKind, Geometry, GeometryError, Identity};
 use rand_core::utils::NextWord;
 use rand_pcg::Pcg32;
-use std::alloc::Global;
+use std::alloc::{AllocError, Global};
 use std::test::*;
 
 /// How many images there are.
@@ -25,6 +26,39 @@ fn below(draws: &mut Pcg32, bound: u32) -> u32
     ensures { result < bound }
 {
     draws.next_word() % bound
+}
+
+/// The bytes of a frame of this length, header counted: a whole message with one byte over and over, or a padding.
+fn spelled(alloc: Global, kind: FrameKind, length: u32, byte: u8) -> Result<Vec<u8>, AllocError> {
+    let mut bytes = Vec::new(alloc);
+    bytes.extend_from_slice(&length.to_le_bytes())?;
+    bytes.extend_from_slice(&[0, 0xc0, if kind == DATA { 1 } else { 0 }, 0])?;
+    bytes.resize(32, 0)?;
+    if kind == DATA {
+        bytes.resize(length.max(32) as usize, byte)?;
+        let rest = (32 - bytes.len() % 32) % 32;
+        bytes.resize(bytes.len().saturating_add(rest), 0)?;
+    }
+    Ok(bytes)
+}
+
+/// What becomes of such a frame, whose payload bytes are all the same. There is none where it can't be had.
+fn filled(
+    alloc: Global,
+    image: &mut Parts,
+    kind: FrameKind,
+    position: i64,
+    length: u32,
+    byte: u8,
+) -> Option<Insert> {
+    let bytes = spelled(alloc, kind, length, byte).ok()?;
+    let (frame, _) = read_frame(&bytes).ok()?;
+    match frame {
+        Frame::Data { .. } | Frame::Pad { .. } if position.rem_euclid(32) == 0 => {
+            Some(image.insert(position, &frame))
+        }
+        _ => None,
+    }
 }
 
 /// A position near the least consumer, most often above it.
@@ -99,11 +133,11 @@ fn pass(image: &mut Parts, map: &mut MapImage, consumer: usize, block: &mut Bloc
 
 /// Whether both stand alike, with the same first gap.
 fn stand(image: &mut Parts, map: &MapImage) -> bool {
-    let standing = image.stand();
-    standing.least == map.least().cast_unsigned()
-        && standing.rebuilt == map.rebuilt().cast_unsigned()
-        && standing.high_water == map.high().cast_unsigned()
-        && standing.gap == map.first_gap()
+    let (least, rebuilt, high, gap) = image.stand();
+    least.cast_signed() == map.least()
+        && rebuilt.cast_signed() == map.rebuilt()
+        && high.cast_signed() == map.high()
+        && gap == map.first_gap()
 }
 
 /// One step of a list: a frame, a heartbeat or a read. Whether both answer alike, and stand alike then.
@@ -117,7 +151,7 @@ fn step(
     let alike = match below(draws, 8) {
         0 => beat(draws, image, map),
         1..=3 => {
-            let consumer = below(draws, 3) as usize % image.consumers().max(1);
+            let consumer = below(draws, 2) as usize % image.consumers().max(1);
             pass(image, map, consumer, block)
         }
         _ => give(alloc, draws, image, map)?,
@@ -140,35 +174,15 @@ fn stay_alike(
     Ok(alike)
 }
 
-/// What an image is opened with.
-#[derive(Clone, Copy)]
-struct Opening {
-    join: u32,
-    window: u32,
-    consumers: usize,
-}
-
-fn draw_opening(draws: &mut Pcg32) -> Opening {
-    Opening {
-        join: below(draws, 8192),
-        window: 1408 + 32 * below(draws, 981),
-        consumers: 1 + below(draws, 3) as usize,
-    }
-}
-
 /// Opens both by these draws, and gives them all lists. Whether they always answer alike.
 fn are_alike(alloc: Global, draws: &mut Pcg32, block: &mut Block) -> Result<bool, Fail> {
     let geometry = Geometry::new(65_536, 1408, 7)?;
-    let opening = draw_opening(draws);
-    let join = 32 * u64::from(opening.join);
-    let mut map = MapImage::open(
-        alloc,
-        join.cast_signed(),
-        i64::from(opening.window),
-        opening.consumers,
-    )?;
+    let join = 32 * u64::from(below(draws, 8192));
+    let window = 1408 + 32 * below(draws, 981);
+    let consumers = 1 + below(draws, 2) as usize;
+    let mut map = MapImage::open(alloc, join.cast_signed(), i64::from(window), consumers)?;
     let identity = Identity::new(geometry, 1, 1001);
-    let mut image = Parts::open(alloc, identity, join, opening.window, opening.consumers)?;
+    let mut image = Parts::open(alloc, identity, join, window, consumers)?;
     stay_alike(alloc, draws, &mut image, &mut map, block)
 }
 
@@ -178,6 +192,38 @@ fn alike(rt: HostRuntime) -> Result<(), Fail> {
     let mut block = Block::new(rt.alloc(), 65_472)?;
     for number in 0..IMAGES {
         assert!(rt; are_alike(rt.alloc(), &mut Pcg32::new(number, 0), &mut block)?);
+    }
+    Ok(())
+}
+
+/// Why an image isn't opened.
+fn refusal(
+    alloc: Global,
+    join: u64,
+    window: u32,
+    consumers: usize,
+) -> Result<Option<ImageError>, GeometryError> {
+    let geometry = Geometry::new(65_536, 1408, 7)?;
+    let identity = Identity::new(geometry, 1, 1001);
+    Ok(image::open(alloc, identity, join, window, consumers).err())
+}
+
+/// Joins, windows and numbers of consumers, and what is wrong with them.
+#[test]
+fn openings(rt: HostRuntime) -> Result<(), Fail> {
+    for (join, window, consumers, fault) in [
+        (0, 32_768, 1, None),
+        (32, 1408, 8, None),
+        (140_737_488_355_328, 2048, 3, None),
+        (140_737_488_355_360, 0, 0, Some(ImageError::Join)),
+        (16, 32_768, 1, Some(ImageError::Join)),
+        (0, 1376, 0, Some(ImageError::Window)),
+        (0, 1424, 1, Some(ImageError::Window)),
+        (0, 32_800, 1, Some(ImageError::Window)),
+        (0, 32_768, 0, Some(ImageError::Consumers)),
+        (0, 32_768, 9, Some(ImageError::Consumers)),
+    ] {
+        assert!(rt; refusal(rt.alloc(), join, window, consumers)? == fault);
     }
     Ok(())
 }

@@ -1,14 +1,11 @@
-//! Tests of a receiver's image: it and one by a map of whole frames answer drawn frames, heartbeats and reads alike; one
-//! inserter and two readers, in threads of their own, go round the ring many times; and a receiver's core gives its image's
-//! readers away once.
+//! Tests of a receiver's image: it and one by a map answer drawn frames, heartbeats and reads alike; one inserter and two
+//! readers, in threads, go round the ring many times; and a receiver's core gives its image's readers away once.
 #![tactic(auto)]
 
 #[cfg(test)]
 mod alike;
 #[cfg(test)]
 mod given_away;
-#[cfg(test)]
-mod images;
 #[cfg(test)]
 mod map_image;
 mod parties;

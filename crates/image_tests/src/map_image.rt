@@ -1,10 +1,13 @@
 //! An image as a map of whole frames, in the simplest form. No contract says what it answers.
 
-use crate::images::DATA;
 use image::Insert;
 use position::{FrameHead, FrameKind, Gap};
 use std::alloc::{AllocError, Global};
 use std::collections::BTreeMap;
+
+pub(crate) const DATA: FrameKind = FrameKind::Data;
+
+pub(crate) const PAD: FrameKind = FrameKind::Pad;
 
 /// The bytes of a term.
 pub(crate) const TERM: i64 = 65_536;

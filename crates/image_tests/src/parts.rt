@@ -10,31 +10,23 @@ ghost use Rattle.image.specs.Rebuilding.{IsInserterOf};
 
 use block::Block;
 use frames::Frame;
-use image::{Image, ImageError, ImageReader, Insert, Inserter, Steps, advance, deal, first_gap, heartbeat, insert, least, open, read};
+use image::{
+    Image, ImageError, ImageReader, Insert, Inserter, Steps, advance, deal, first_gap, heartbeat,
+    insert, least, open, read,
+};
 use position::{FrameHead, Gap, Identity};
 use std::alloc::Global;
 
-/// Where an image stands.
-#[derive(Clone, Copy, Debug, PartialEq, Eq)]
-pub(crate) struct Standing {
-    pub(crate) least: u64,
-    pub(crate) rebuilt: u64,
-    pub(crate) high_water: u64,
-    pub(crate) gap: Option<Gap>,
-}
-
-/// The image with its inserter and its readers, of which there are one to three.
+/// The image with its inserter and its readers, of which there are one or two.
 #[derive(Drop)]
 pub(crate) struct Parts {
     image: Image,
     inserter: Inserter,
     first: ImageReader,
     second: Option<ImageReader>,
-    third: Option<ImageReader>,
     ghost inserts: { IsInserterOf image inserter },
     ghost reads: { IsReaderOf image first },
     ghost second_reads: { ForSome second (λ r. IsReaderOf image r) },
-    ghost third_reads: { ForSome third (λ r. IsReaderOf image r) },
 }
 
 /// Reads the frame where a reader stands, and moves past it.
@@ -49,7 +41,7 @@ fn read_past(image: &Image, reader: &mut ImageReader, block: &mut Block) -> Opti
 }
 
 impl Parts {
-    /// An image with one to three consumers.
+    /// An image with one or two consumers.
     pub(crate) fn open(
         alloc: Global,
         identity: Identity,
@@ -66,7 +58,6 @@ impl Parts {
                     inserter,
                     first,
                     second: None,
-                    third: None,
                 })
             }
             2 => {
@@ -77,27 +68,12 @@ impl Parts {
                     inserter,
                     first,
                     second: Some(second),
-                    third: None,
-                })
-            }
-            3 => {
-                let third = deal(&image, &mut inserter, 2);
-                let second = deal(&image, &mut inserter, 1);
-                let first = deal(&image, &mut inserter, 0);
-                Ok(Parts {
-                    image,
-                    inserter,
-                    first,
-                    second: Some(second),
-                    third: Some(third),
                 })
             }
             _ => Err(ImageError::Consumers),
         }
     }
-}
 
-impl Parts {
     /// Takes a DATA frame or a padding.
     pub(crate) fn insert(&mut self, position: i64, frame: &Frame<'_>) -> Insert
         requires unit { IsUnit position }
@@ -124,27 +100,20 @@ impl Parts {
         if block.len() < 65_472 {
             return None;
         }
-        match consumer {
-            0 => read_past(&self.image, &mut self.first, block),
-            1 => match &mut self.second {
-                Some(reader) => read_past(&self.image, reader, block),
-                None => None,
-            },
-            _ => match &mut self.third {
-                Some(reader) => read_past(&self.image, reader, block),
-                None => None,
-            },
+        if consumer == 0 {
+            return read_past(&self.image, &mut self.first, block);
+        }
+        match &mut self.second {
+            Some(reader) => read_past(&self.image, reader, block),
+            None => None,
         }
     }
 
-    pub(crate) fn stand(&mut self) -> Standing {
+    /// Where the least consumer stands, the contiguous end, the mark and the first gap.
+    pub(crate) fn stand(&mut self) -> (u64, u64, u64, Option<Gap>) {
         let lowest = least(&self.image, &mut self.inserter);
         let gap = first_gap(&self.image, &mut self.inserter, &mut Steps::new());
-        Standing {
-            least: lowest,
-            rebuilt: self.inserter.rebuilt(),
-            high_water: self.inserter.high_water(),
-            gap,
-        }
+        let (rebuilt, high_water) = (self.inserter.rebuilt(), self.inserter.high_water());
+        (lowest, rebuilt, high_water, gap)
     }
 }

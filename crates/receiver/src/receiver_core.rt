@@ -204,8 +204,7 @@ impl ReceiverCore {
         image.meet(reader);
     }
 
-    /// Reads the frame where its image's one reader stands to the block's front, and moves the reader past it. There is none
-    /// where it stands at the contiguous end; nothing has changed then.
+    /// Reads the frame where its image's one reader stands to the block's front, and moves the reader past it.
     pub(crate) fn read_past(
         &mut self,
         reader: &mut ImageReader,
@@ -227,8 +226,7 @@ impl ReceiverCore {
         image.read_past(reader, block)
     }
 
-    /// Sees its image's one reader where that stands, and tells it what was stored so far. The first reader is taken from the
-    /// image, once there is one.
+    /// Sees its image's one reader where that stands, and tells it what was stored so far.
     pub(crate) fn sit(&mut self, reader: &mut Option<ImageReader>)
         requires one { self.old.consumers ≡ 1 }
         requires may { MaySit self.old.image reader.old }
@@ -339,8 +337,7 @@ impl ReceiverCore {
         taken
     }
 
-    /// Takes the frames of a datagram that has so many. Their outcomes go into a list that has room for them. Only a
-    /// SETUP that opens an image asks for memory, and it stands alone.
+    /// Takes the frames of a datagram that has so many. Only a SETUP that opens an image asks for memory, and it stands alone.
     fn on_frames(
         &mut self,
         datagram: &[u8],
@@ -605,8 +602,7 @@ fn nak_at(geometry: &Geometry, session: i32, stream: i32, gap: Gap) -> Nak
     }
 }
 
-/// Whether a status message is due: the first one, or when 200 ms have passed since the last, or when the least consumer
-/// has moved by a quarter of the window since then.
+/// Whether a status message is due: the first, after 200 ms, or where the least consumer has moved by a quarter of the window.
 fn is_due(told: Option<LastSent>, window: u32, position: u64, clock: u64) -> bool
     ensures { result ≡ timing.is_status_due (option_to_list (option_map last_status_of told)) window position clock }
 {

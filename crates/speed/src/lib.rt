@@ -21,7 +21,7 @@ mod sampling;
 mod sorting;
 
 pub use fault::SpeedError;
-pub use images::{ImageFigures, ImageParts, ImageSpeedError, Played, measure_image};
+pub use images::{ImageFigures, ImageSpeedError, Played, measure_image};
 pub use rounds::round::{play_claims, play_round};
 pub use rounds::streaming::play_stream;
 pub use sampling::{Figures, measure, measure_claims, measure_stream};

@@ -6,11 +6,8 @@ ghost use Rattle.image_rule.specs.Bits.{Cleared, DropsBits, IsExact, MayDrop, Ma
 ghost use Rattle.image.specs.Handles.{IsStoreOf, floor_of};
 ghost use Rattle.image.specs.Inserting.{ClearedTo, MayClearTo, Swept};
 
-use crate::inserter::hand::{Hand, change_as, fetch_as, see_as};
-use crate::inserter::store::FrameStore;
-use crate::words::Words;
-use crate::words::image::Image;
-use crate::words::mask::mask;
+use crate::inserter::hand::{FrameStore, Hand, change_as, fetch_as, see_as};
+use crate::words::{Image, Words, mask};
 use image_rule::Changing;
 use std::marker::Brand;
 
@@ -57,8 +54,7 @@ fn drop_bits_as<N: Changing>(
     change_as::<N>(image, hand, place, word, floor);
 }
 
-/// Clears the start bits and then the held bits of so many units from the floor on, which lie in one word: those are below
-/// the floor then.
+/// Clears the start bits and then the held bits of so many units from the floor on, which lie in one word.
 fn clear_part(image: &Words, hand: &mut Hand, count: u64)
     requires fits { hand.old.seat.table_id ≡ image.now.table.shared.table_id }
     requires exact { IsExact image.now.key hand.old.seat.me.0.held }

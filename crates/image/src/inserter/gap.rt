@@ -11,7 +11,7 @@ ghost use Rattle.image.specs.Rebuilding.{IsInserterOf, geometry_of, join_of};
 use crate::inserter::Inserter;
 use crate::inserter::looking::held_bits;
 use crate::steps::Steps;
-use crate::words::image::Image;
+use crate::words::Image;
 use position::Gap;
 
 /// A word of the bits that say which units were stored, 64 in a word: bit `p % 2048 / 32` of word `p % (3 * T) / 2048` is
@@ -73,7 +73,6 @@ pub fn first_gap(image: &Image, inserter: &mut Inserter, steps: &mut Steps) -> O
     ensures looks { IfSome result (λ gap. steps.new ≤ steps.old + gap.length / 2048 + 2) }
     ensures none { IfNone result (steps.new ≡ steps.old) }
 {
-    // What always holds of it, for the proof.
     inserter.stored_apart();
     let start = inserter.rebuilt();
     let high = inserter.high_water();

@@ -1,12 +1,14 @@
-//! The inserter's seat, and its steps.
+//! The inserter's seat, its steps, and the frames of an image as it has them between two calls.
 
 ghost use Rattle.std.specs.Prelude.{◌≡◌, [], ◌+◌, ◌*◌, ◌/◌, ◌%◌, ◌^◌, ◌<◌, ◌≤◌};
 ghost use Rattle.image_rule.specs.Frames.{image_length, ring};
 ghost use Rattle.image_rule.specs.Steps.{Changes, Fetches, May, Sweeps};
+ghost use Rattle.image.specs.Handles.{IsInserting, floor_of};
 
 use crate::words::{IMAGE, Words};
 use atomic_table::Seat;
-use image_rule::{Change, Changing, Chosen, Fetch, Sweep, View};
+use image_rule::{Change, Changing, Chosen, Fetch, Key, Sweep, View};
+use std::marker::Model;
 
 /// Who stores what an image holds.
 #[derive(Drop)]
@@ -85,4 +87,34 @@ pub(crate) fn change_as<N: Changing>(
     let words = &image.table.shared;
     words.store::<Change<N>>(&mut hand.seat, IMAGE + place, word);
     hand.floor = floor;
+}
+
+/// Who stores the words of an image, between two calls: the bits from the floor on are those of what was stored.
+#[derive(Drop)]
+pub(crate) struct FrameStore {
+    pub(crate) hand: Hand,
+    /// What the image's table was told.
+    pub(crate) key: Key,
+}
+
+impl Model for FrameStore {
+    ghost use Rattle.image.specs.Handles.{InserterSeat, IsInserting};
+
+    ghost Value = { InserterSeat };
+
+    ghost view = { λ n. record { of = n.hand.seat.table_id; key = n.key; view = n.hand.seat.me.0 } };
+
+    ghost invariant = { λ n. IsInserting n.key n.hand.seat.me.0 };
+}
+
+impl FrameStore {
+    /// The position below which nothing is held any more: the least that was cleared to, or the join. What holds of each
+    /// inserter at rest: the image's bits from here on are those of the frames that were stored.
+    pub(crate) fn floor(&self) -> u64
+        ensures value { result ≡ floor_of self.now }
+        ensures rests { IsInserting self.now.key self.now.view }
+    {
+        let _ = &self.hand.seat;
+        32 * self.hand.floor
+    }
 }

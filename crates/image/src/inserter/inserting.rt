@@ -1,21 +1,187 @@
-//! Frames and heartbeats come.
+//! Frames and heartbeats come: what becomes of them.
 
-ghost use Rattle.std.specs.Prelude.{◌≡◌, ◌+◌, ◌*◌, ◌%◌, ◌^◌, ◌<◌, ◌≤◌, ℕ, false, true, pos, map};
+ghost use Rattle.std.specs.Prelude.{◌≡◌, ◌+◌, ◌*◌, ◌%◌, ◌^◌, ◌<◌, ◌≤◌, ℕ, false, true, pos, map, ◌-◌, ◌/◌};
 ghost use Rattle.frames.specs.Frames.{wire};
-ghost use Rattle.theory.specs.Insert.{head_of, insert_answer_at};
+ghost use Rattle.theory.specs.Insert.{head_of, insert_answer_at, insert_answer, is_duplicate};
 ghost use Rattle.theory.specs.Placed.{frame_length, is_padding};
 ghost use Rattle.theory.specs.Wire.{IsFrame};
-ghost use Rattle.image.specs.Seen.{accepts, least};
+ghost use Rattle.image.specs.Seen.{accepts, least, crosses};
 ghost use Rattle.image.specs.Stored.{IsOfStream, IsUnit, meant, stream_frame};
-ghost use Rattle.image.specs.Rebuilding.{FitsIn, Inserts, IsInserterOf, Looked, geometry_of, with_frame};
+ghost use Rattle.image.specs.Rebuilding.{FitsIn, Inserts, IsInserterOf, Looked, geometry_of, with_frame, AreLaid};
+ghost use Rattle.std.specs.List.{list_any};
+ghost use Rattle.theory.specs.Position.{aligned, max_position};
+ghost use Rattle.image.specs.Kinds.{is_pad};
+ghost use Rattle.image.specs.Handles as seats;
+ghost use Rattle.image.specs.Handles.{floor_of, stored_by};
+ghost use Rattle.theory.specs.Units.{IsContiguous};
+ghost use Rattle.image.specs.Inserting.{Stores};
+ghost use Rattle.image.specs.Runs.{AreBelow, IsRun};
 
 use crate::answer::Insert;
-use crate::held::{covered, measure};
-use crate::inserter::judging::judge;
-use crate::inserter::putting::{put, run_end};
+use crate::held::{crosses_term, is_like, measure};
+use crate::inserter::hand::FrameStore;
+use crate::inserter::looking::{head_at, is_free, starts_at};
+use crate::inserter::storing::store_frame;
 use crate::inserter::{Inserter, least};
-use crate::words::image::Image;
+use crate::words::Image;
 use frames::Frame;
+use position::{FrameHead, FrameKind, UNFRAGMENTED, align32};
+
+/// Stores a frame that fits.
+pub(crate) fn put(image: &Image, words: &mut FrameStore, start: u64, frame: &Frame<'_>)
+    requires fits { seats.IsStoreOf image.now words.old }
+    requires frame { IsFrame (wire frame.now) }
+    requires of_stream { IsOfStream frame.now }
+    requires may { FitsIn words.old.key.identity.geometry (floor_of words.old) (stored_by words.old) (record { at = start; frame = stream_frame frame.now }) }
+    ensures { Stores words.old (record { at = start; frame = stream_frame frame.now }) words.new }
+{
+    match *frame {
+        Frame::Data { flags, payload, .. } => {
+            let head = FrameHead {
+                start,
+                kind: FrameKind::Data,
+                flags,
+                frame_length: payload.len() as u32 + 32,
+            };
+            store_frame(image, words, &head, payload);
+        }
+        Frame::Pad { frame_length, .. } => {
+            let head = FrameHead {
+                start,
+                kind: FrameKind::Pad,
+                flags: UNFRAGMENTED,
+                frame_length,
+            };
+            store_frame(image, words, &head, &[]);
+        }
+        _ => unreachable!(),
+    }
+}
+
+/// The end of what was stored without a gap, which lies from a position on, at the high-water mark or below.
+pub(crate) fn run_end(image: &Image, words: &mut FrameStore, from: u64, high_water: u64) -> u64
+    requires fits { seats.IsStoreOf image.now words.old }
+    requires laid { AreLaid (stored_by words.old) }
+    requires below { AreBelow (stored_by words.old) high_water }
+    requires near { high_water < floor_of words.old + 3 * words.old.key.identity.geometry.term_length }
+    requires low { high_water ≤ 2 ^ 56 }
+    requires from { floor_of words.old ≤ from }
+    requires run { IsRun (stored_by words.old) (32 * words.old.key.join) from }
+    requires within { from ≤ high_water }
+    ensures same { words.new ≡ words.old }
+    ensures end { IsContiguous (stored_by words.old) (32 * words.old.key.join) result }
+    ensures further { from ≤ result }
+    ensures within { result ≤ high_water }
+{
+    let mut end = from;
+    while end < high_water {
+        if !starts_at(image, words, end) {
+            return end;
+        }
+        let head = head_at(image, words, end);
+        end += u64::from(align32(head.frame_length));
+    }
+    end
+}
+
+/// Whether a frame of this kind and length was stored at a position.
+fn has_like(
+    image: &Image,
+    words: &mut FrameStore,
+    start: u64,
+    kind: FrameKind,
+    frame_length: u32,
+) -> bool
+    requires fits { seats.IsStoreOf image.now words.old }
+    requires laid { AreLaid (stored_by words.old) }
+    requires unit { start % 32 ≡ 0 }
+    requires from { floor_of words.old ≤ start }
+    requires near { start < floor_of words.old + 3 * words.old.key.identity.geometry.term_length }
+    requires below { start < 2 ^ 62 }
+    ensures same { words.new ≡ words.old }
+    ensures like { result ≡ list_any (is_duplicate (record { at = start; padding = is_pad kind; length = frame_length })) (map head_of (stored_by words.old)) }
+{
+    if !starts_at(image, words, start) {
+        return false;
+    }
+    let head = head_at(image, words, start);
+    is_like(&head, kind, frame_length)
+}
+
+/// What becomes of a frame at a position from 0 on that doesn't pass the end of its term.
+fn judge_inside(
+    image: &Image,
+    words: &mut FrameStore,
+    window: u32,
+    start: u64,
+    kind: FrameKind,
+    frame_length: u32,
+) -> Insert
+    requires fits { seats.IsStoreOf image.now words.old }
+    requires laid { AreLaid (stored_by words.old) }
+    requires low { floor_of words.old ≤ max_position words.old.key.identity.geometry }
+    requires window { window ≤ words.old.key.identity.geometry.term_length / 2 }
+    requires start { start < 2 ^ 63 }
+    requires unit { start % 32 ≡ 0 }
+    requires long { 32 ≤ frame_length }
+    requires length { frame_length ≤ 2 ^ 24 }
+    requires inside { crosses words.old.key.identity.geometry.term_length (pos start) (aligned frame_length) ≡ false }
+    ensures same { words.new ≡ words.old }
+    ensures answer { meant result ≡ insert_answer words.old.key.identity.geometry (map head_of (stored_by words.old)) (floor_of words.old) window (record { at = start; padding = is_pad kind; length = frame_length }) }
+{
+    let geometry = image.identity().geometry();
+    let least = words.floor();
+    if start < least {
+        return Insert::Below;
+    }
+    let size = align32(frame_length);
+    let needed = match kind {
+        FrameKind::Data => start + u64::from(size),
+        FrameKind::Pad => start + 32,
+    };
+    let reach = (least + u64::from(window)).min(geometry.max_position());
+    if needed > reach {
+        Insert::OverWindow
+    } else if has_like(image, words, start, kind, frame_length) {
+        Insert::Duplicate
+    } else if is_free(image, words, start, start + u64::from(size)) {
+        Insert::Stored
+    } else {
+        Insert::Overlap
+    }
+}
+
+/// What becomes of a frame, where the consumers were just looked at.
+pub(crate) fn judge(
+    image: &Image,
+    inserter: &mut Inserter,
+    position: i64,
+    kind: FrameKind,
+    frame_length: u32,
+) -> Insert
+    requires fits { IsInserterOf image.now inserter.old }
+    requires unit { IsUnit position }
+    requires long { 32 ≤ frame_length }
+    requires length { frame_length ≤ 2 ^ 24 }
+    ensures same { inserter.new ≡ inserter.old }
+    ensures answer { meant result ≡ insert_answer_at (geometry_of inserter.old) (map head_of inserter.old.stored) inserter.old.floor inserter.old.window position (is_pad kind) frame_length }
+{
+    let geometry = image.identity().geometry();
+    if crosses_term(&geometry, position, align32(frame_length)) {
+        return Insert::CrossesTerm;
+    }
+    if position < 0 {
+        return Insert::Below;
+    }
+    judge_inside(
+        image,
+        &mut inserter.words,
+        inserter.window,
+        position as u64,
+        kind,
+        frame_length,
+    )
+}
 
 /// Stores one more frame.
 fn store(image: &Image, inserter: &mut Inserter, start: u64, frame: &Frame<'_>)
@@ -25,9 +191,9 @@ fn store(image: &Image, inserter: &mut Inserter, start: u64, frame: &Frame<'_>)
     requires may { FitsIn (geometry_of inserter.old) inserter.old.floor inserter.old.stored (record { at = start; frame = stream_frame frame.now }) }
     ensures { inserter.new ≡ with_frame inserter.old (record { at = start; frame = stream_frame frame.now }) }
 {
-    // What always holds of it, for the proof.
     let _ = &inserter.words;
-    let end = start + u64::from(covered(frame));
+    let (_, frame_length) = measure(frame);
+    let end = start + u64::from(align32(frame_length));
     put(image, &mut inserter.words, start, frame);
     inserter.high_water = inserter.high_water.max(end);
     inserter.rebuilt = run_end(
@@ -55,7 +221,6 @@ pub fn insert(image: &Image, inserter: &mut Inserter, position: i64, frame: &Fra
     let _ = least(image, inserter);
     let answer = judge(image, inserter, position, kind, frame_length);
     if answer == Insert::Stored {
-        // What always holds of it, for the proof.
         let _ = &inserter.words;
         store(image, inserter, position as u64, frame);
     }

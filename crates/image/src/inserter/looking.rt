@@ -5,13 +5,10 @@ ghost use Rattle.image_rule.specs.Frames.{HasStart, ring};
 ghost use Rattle.image_rule.specs.Bits as bits;
 ghost use Rattle.image_rule.specs.Bits.{IsExact};
 ghost use Rattle.image.specs.Handles.{IsStoreOf, floor_of, stored_by};
-ghost use Rattle.image.specs.Looking.{AreFree, IsFirstWord, IsHeadOf, TellsUnits};
+ghost use Rattle.image.specs.Looking.{AreFree, IsHeadOf, TellsUnits};
 
-use crate::inserter::hand::{Hand, fetch_as};
-use crate::inserter::store::FrameStore;
-use crate::words::Words;
-use crate::words::image::Image;
-use crate::words::mask::mask;
+use crate::inserter::hand::{FrameStore, Hand, fetch_as};
+use crate::words::{Image, Words, mask};
 use frame_words::head_in;
 use position::FrameHead;
 use std::marker::Brand;
@@ -85,22 +82,6 @@ pub(crate) fn starts_at(image: &Image, inserter: &mut FrameStore, position: u64)
     (word >> (unit % 64)) & 1 == 1
 }
 
-/// The first word of the frame that was stored at a position from the floor on.
-pub(crate) fn first_word_at(image: &Image, inserter: &mut FrameStore, position: u64) -> u64
-    requires fits { IsStoreOf image.now inserter.old }
-    requires unit { position % 32 ≡ 0 }
-    requires low { floor_of inserter.old ≤ position }
-    requires below { position < 2 ^ 62 }
-    requires starts { HasStart (stored_by inserter.old) position }
-    ensures same { inserter.new ≡ inserter.old }
-    ensures first { IsFirstWord inserter.old position result }
-{
-    let _ = &image.words;
-    let _ = &inserter.hand;
-    let place = image.words.first_word(position / 32);
-    fetch_as::<Brand>(&image.words, &mut inserter.hand, place)
-}
-
 /// The head of the frame that was stored at a position from the floor on.
 pub(crate) fn head_at(image: &Image, inserter: &mut FrameStore, position: u64) -> FrameHead
     requires fits { IsStoreOf image.now inserter.old }
@@ -111,7 +92,9 @@ pub(crate) fn head_at(image: &Image, inserter: &mut FrameStore, position: u64) -
     ensures same { inserter.new ≡ inserter.old }
     ensures head { IsHeadOf inserter.old position result }
 {
+    let _ = &image.words;
     let _ = &inserter.hand;
-    let first = first_word_at(image, inserter, position);
+    let place = image.words.first_word(position / 32);
+    let first = fetch_as::<Brand>(&image.words, &mut inserter.hand, place);
     head_in(first, position)
 }

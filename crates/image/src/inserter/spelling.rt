@@ -7,11 +7,19 @@ ghost use Rattle.image_rule.specs.Bits.{IsExact, MayInsert, Wrote};
 ghost use Rattle.image_rule.specs.Steps.{Changes, May};
 ghost use Rattle.image.specs.Spelled.{drafted};
 
-use crate::inserter::draft::Draft;
 use crate::inserter::hand::{Hand, store_as};
 use crate::words::Words;
 use frame_words::{header_words, last_word, whole_word};
 use std::marker::Brand;
+
+/// A frame that is stored: the unit at which it starts, how many units it covers, its first word, and its payload.
+#[derive(Clone, Copy)]
+pub(crate) struct Draft<'a> {
+    pub(crate) unit: u64,
+    pub(crate) units: u64,
+    pub(crate) first: u64,
+    pub(crate) payload: &'a [u8],
+}
 
 /// Stores a word of a frame that may be inserted, at its place.
 #[inline(always)]
@@ -48,8 +56,7 @@ fn write_header(image: &Words, hand: &mut Hand, place: usize, draft: &Draft<'_>)
     write_word(image, hand, place + 3, draft.unit, 3, 0);
 }
 
-/// Stores words of the payload of a frame that may be inserted, from one on, which has this place, where all before it are
-/// stored. The ring doesn't end among them.
+/// Stores words of its payload, from one on, which has this place. The ring doesn't end among them.
 fn write_stretch(
     image: &Words,
     hand: &mut Hand,
@@ -78,8 +85,7 @@ fn write_stretch(
     }
 }
 
-/// Stores four words of the payload of a frame that may be inserted, those of one unit, which has this place, where all before
-/// them are stored. The ring doesn't end among them.
+/// Stores four words of its payload, those of one unit, which has this place. The ring doesn't end among them.
 fn write_unit(image: &Words, hand: &mut Hand, place: usize, index: usize, draft: &Draft<'_>)
     requires fits { hand.old.seat.table_id ≡ image.now.table.shared.table_id }
     requires there { place ≡ data_place (ring image.now.key) (4 * draft.now.unit + (4 + 4 * index)) }
@@ -124,8 +130,7 @@ fn write_unit(image: &Words, hand: &mut Hand, place: usize, index: usize, draft:
     );
 }
 
-/// Stores the payload of a frame that may be inserted as far as it fills units, where the header is stored, which has this
-/// place. The answer is the place of the unit behind these.
+/// Stores its payload as far as it fills units. The answer is the place of the unit behind these.
 fn write_units(image: &Words, hand: &mut Hand, place: usize, draft: &Draft<'_>) -> usize
     requires fits { hand.old.seat.table_id ≡ image.now.table.shared.table_id }
     requires there { place ≡ data_place (ring image.now.key) (4 * draft.now.unit) }
@@ -150,8 +155,7 @@ fn write_units(image: &Words, hand: &mut Hand, place: usize, draft: &Draft<'_>) 
     next
 }
 
-/// Stores the whole words of the payload of a frame that may be inserted, where the header is stored, which has this place. The
-/// answer is the place of the word behind these, which lies in a unit with those behind the last whole unit.
+/// Stores the whole words of its payload. The answer is the place of the word behind these.
 fn write_whole(image: &Words, hand: &mut Hand, place: usize, draft: &Draft<'_>) -> usize
     requires fits { hand.old.seat.table_id ≡ image.now.table.shared.table_id }
     requires there { place ≡ data_place (ring image.now.key) (4 * draft.now.unit) }

@@ -13,13 +13,9 @@ ghost use Rattle.image.specs.Handles.{IsStoreOf};
 ghost use Rattle.image.specs.Spelled.{drafted};
 ghost use Rattle.image.specs.Inserting.{MayStore, Stores, kind_number, placed_by};
 
-use crate::inserter::draft::Draft;
-use crate::inserter::hand::{Hand, fetch_as, store_as};
-use crate::inserter::spelling::write_words;
-use crate::inserter::store::FrameStore;
-use crate::words::Words;
-use crate::words::image::Image;
-use crate::words::mask::mask;
+use crate::inserter::hand::{FrameStore, Hand, fetch_as, store_as};
+use crate::inserter::spelling::{Draft, write_words};
+use crate::words::{Image, Words, mask};
 use frame_words::first_word;
 use image_rule::Changing;
 use position::{FrameHead, FrameKind, align32};
@@ -96,19 +92,6 @@ fn set_first_as<N: Changing>(image: &Words, hand: &mut Hand, place: usize, draft
     set_bits_as::<N>(image, hand, place, draft.unit, count);
 }
 
-/// Sets the bits of a frame's units that lie in its first unit's word, which has this place: from then on it is stored.
-fn set_first(image: &Words, hand: &mut Hand, place: usize, draft: &Draft<'_>)
-    requires fits { hand.old.seat.table_id ≡ image.now.table.shared.table_id }
-    requires there { place ≡ held_place (ring image.now.key) draft.now.unit }
-    requires inside { place < image_length (ring image.now.key) }
-    requires may { MayInsert image.now.key hand.old.seat.me.0.held (drafted image.now.key.identity draft.now) }
-    requires marked { Marked image.now.key hand.old.seat.me.0 (drafted image.now.key.identity draft.now) (next_word (drafted image.now.key.identity draft.now)) (rest_end (drafted image.now.key.identity draft.now)) hand.old.seat.me.0 }
-    ensures fits { hand.new.seat.table_id ≡ hand.old.seat.table_id }
-    ensures stored { Stored image.now.key hand.old.seat.me.0 (drafted image.now.key.identity draft.now) hand.new.seat.me.0 }
-{
-    set_first_as::<Brand>(image, hand, place, draft);
-}
-
 /// Stores a frame that may be inserted.
 fn store(image: &Words, hand: &mut Hand, draft: &Draft<'_>)
     requires fits { hand.old.seat.table_id ≡ image.now.table.shared.table_id }
@@ -126,7 +109,7 @@ fn store(image: &Words, hand: &mut Hand, draft: &Draft<'_>)
     write_words(image, hand, place, draft);
     set_start(image, hand, start, draft);
     mark_rest(image, hand, draft);
-    set_first(image, hand, held, draft);
+    set_first_as::<Brand>(image, hand, held, draft);
 }
 
 /// The first word of the frame that a head says.

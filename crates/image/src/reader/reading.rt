@@ -9,10 +9,8 @@ ghost use Rattle.image.specs.Finding.{FindsHere, FindsNothing, PassesOn};
 ghost use Rattle.image.specs.Handles.{IsReaderOf, position_of};
 ghost use Rattle.image.specs.Reading.{Copied, Finds, FindsNone, MayAdvance};
 
-use crate::reader::ImageReader;
-use crate::reader::standing::{Standing, look, move_as, word_as};
-use crate::words::Words;
-use crate::words::image::Image;
+use crate::reader::{ImageReader, Standing, look, move_as, word_as};
+use crate::words::{Image, Words};
 use block::Block;
 use frame_words::{head_in, put_bytes, put_word};
 use position::{FrameHead, FrameKind, align32};
@@ -40,8 +38,7 @@ fn find(image: &Words, reader: &mut Standing, place: usize) -> Option<FrameHead>
     Some(head)
 }
 
-/// Copies words behind the header of the frame that was found, from one on, which stands at a place, among bytes. The ring
-/// doesn't end among them.
+/// Copies words behind its header, from one on, which stands at a place, among bytes. The ring doesn't end among them.
 fn copy_stretch(
     image: &Words,
     reader: &mut Standing,
@@ -72,8 +69,7 @@ fn copy_stretch(
     }
 }
 
-/// Copies so many words behind the header of the frame that was found to the front of bytes: those before the ring's end, and
-/// the others from its begin. The answer is the place of the word behind these.
+/// Copies so many words behind its header to the front of bytes. The answer is the place of the word behind these.
 fn copy_whole(
     image: &Words,
     reader: &mut Standing,

@@ -1,5 +1,6 @@
 use Rattle.std.proofs.Common.{◌≡◌, ◌+◌, ℕ, max, sym, ap, ◌∙◌, subst, arith}
 use Rattle.theory.specs.Placed.{Placed, covered}
+use Rattle.theory.specs.Position.{aligned}
 use Rattle.image.specs.Stored.{stream_frame}
 use Rattle.image.specs.Handles.{InserterSeat, stored_by}
 use Rattle.image.specs.Runs.{AreBelow}
@@ -19,13 +20,13 @@ run_end-inserter-inside-requires-clause-laid c = let n = c.inserter.inside in la
 pub run_end-inserter-inside-requires-clause-below : goal.run_end-inserter-inside-requires-clause-below
 run_end-inserter-inside-requires-clause-below c =
     let n = c.inserter.inside in
-    subst (AreBelow (stored_by c.put.new.words)) (sym (mark c.inserter.inside.high_water c.args.start c.covered.result c.from.result c.max-inserter-inside.result (covered (record { at = c.args.start; frame = stream_frame c.args.frame.now })) c.max-inserter-inside.ensures c.from.ensures c.covered.ensures.value)) (below_now n.words c.put.new.words n.window n.high_water n.rebuilt (record { at = c.args.start; frame = stream_frame c.args.frame.now }) c.inserter.invariant (fits (inserting c.inserter.inside.words c.inserter.inside.window c.inserter.inside.high_water) c.args.inserter.now (record { at = c.args.start; frame = stream_frame c.args.frame.now }) c.inserter.view_is c.requires.may) c.put.ensures)
+    subst (AreBelow (stored_by c.put.new.words)) (sym (mark c.inserter.inside.high_water c.args.start c.align32.result c.from.result c.max-inserter-inside.result (covered (record { at = c.args.start; frame = stream_frame c.args.frame.now })) c.max-inserter-inside.ensures c.from.ensures (c.align32.ensures ∙ ap aligned c.measure-frame_length.ensures.length))) (below_now n.words c.put.new.words n.window n.high_water n.rebuilt (record { at = c.args.start; frame = stream_frame c.args.frame.now }) c.inserter.invariant (fits (inserting c.inserter.inside.words c.inserter.inside.window c.inserter.inside.high_water) c.args.inserter.now (record { at = c.args.start; frame = stream_frame c.args.frame.now }) c.inserter.view_is c.requires.may) c.put.ensures)
 
 pub run_end-inserter-inside-requires-clause-run : goal.run_end-inserter-inside-requires-clause-run
 run_end-inserter-inside-requires-clause-run c = let n = c.inserter.inside in run_now n.words c.put.new.words n.window n.high_water n.rebuilt (record { at = c.args.start; frame = stream_frame c.args.frame.now }) c.inserter.invariant (fits (inserting c.inserter.inside.words c.inserter.inside.window c.inserter.inside.high_water) c.args.inserter.now (record { at = c.args.start; frame = stream_frame c.args.frame.now }) c.inserter.view_is c.requires.may) c.put.ensures
 
 pub invariant_of-inserter : goal.invariant_of-inserter
 invariant_of-inserter c =
-    let n = c.inserter.inside in let e = c.run_end-inserter-inside in let m = mark c.inserter.inside.high_water c.args.start c.covered.result c.from.result c.max-inserter-inside.result (covered (record { at = c.args.start; frame = stream_frame c.args.frame.now })) c.max-inserter-inside.ensures c.from.ensures c.covered.ensures.value in let within = e.ensures.within in
+    let n = c.inserter.inside in let e = c.run_end-inserter-inside in let m = mark c.inserter.inside.high_water c.args.start c.align32.result c.from.result c.max-inserter-inside.result (covered (record { at = c.args.start; frame = stream_frame c.args.frame.now })) c.max-inserter-inside.ensures c.from.ensures (c.align32.ensures ∙ ap aligned c.measure-frame_length.ensures.length) in let within = e.ensures.within in
     let k = kept_now n.words c.put.new.words n.window n.high_water n.rebuilt (record { at = c.args.start; frame = stream_frame c.args.frame.now }) c.inserter.invariant (fits (inserting c.inserter.inside.words c.inserter.inside.window c.inserter.inside.high_water) c.args.inserter.now (record { at = c.args.start; frame = stream_frame c.args.frame.now }) c.inserter.view_is c.requires.may) c.put.ensures e.result e.ensures.end e.ensures.further (omega arith) in
     subst (λ (x : InserterSeat × ℕ). IsRebuilding (inserting x.0 n.window x.1) e.result) (λ j. (sym e.ensures.same j, sym m j)) k

@@ -1,4 +1,0 @@
-use Rattle.image.proofs.inserter.opening.deal_reader.Given as goal
-
-abbrev pub ghosts-deal_as : goal.ghosts-deal_as
-ghosts-deal_as a = record { number = a.join }
