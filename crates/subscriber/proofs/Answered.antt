@@ -13,11 +13,11 @@ use Rattle.subscription.specs.Offers.{Offer, SubscriberDevice, setup_taken}
 use Rattle.subscription.specs.Watches.{Seen}
 use Rattle.subscription.specs.declared.joined.Joined.{Joined}
 use Rattle.subscription.specs.declared.meeting.Meeting.{Meeting}
-use Rattle.subscriber.proofs.Leaving.{heard_unpolled, left_life}
-use Rattle.subscriber.proofs.Lived.{all_heard, life_on, lives_on, same_life}
+use Rattle.subscriber.proofs.Leaving.{heard_unpolled, listened}
+use Rattle.subscriber.proofs.Lived.{all_heard, follows_on, lives_on, same_life}
 use Rattle.subscriber.specs.Answering.{AnswersEnd, HasAnswered, IsTicked, TellsPlace, ahead_of}
-use Rattle.subscriber.specs.Leavings.{LivesUnpolled}
-use Rattle.subscriber.specs.Living.{WritesActs, WritesLife}
+use Rattle.subscriber.specs.Leavings.{ListensOn, LivesUnpolled}
+use Rattle.subscriber.specs.Living.{Follows, LivesOn, WritesActs}
 use Rattle.subscriber.specs.Standing.{HasAll, Stands}
 use Rattle.subscriber.specs.Turning.{Attends, Considers, ConsidersOffer, Passes, Renews, Resumes, with_device}
 use Rattle.subscriber.specs.declared.standing.Stand.{Stand}
@@ -53,28 +53,28 @@ answered_on s t acts h lives = record {
 
 -- it lived on, answered, and then its silence was told
 pub answered_life : (plan : SubscribePlan) (a b c : Option (List ℕ)) (count more : ℕ) (j k l m : Joined) → k.number ≡ j.number → l.number ≡ k.number → m ≡ record l { silent = m.silent }
-    → WritesLife plan a count j.number j.subscriber b → WritesActs plan.end.form count j.subscriber b more k.subscriber c → LivesUnpolled k.subscriber l.subscriber → WritesLife plan a more m.number m.subscriber c
+    → Follows plan a count j.number j.follower b → LivesOn plan.end.form count j.follower b more k.follower c → ListensOn k.follower l.follower → Follows plan a more m.number m.follower c
 answered_life plan a b c count more j k l m first second told h w on =
-    let lived : WritesLife plan a more j.number l.subscriber c = left_life plan a c more j.number k.subscriber l.subscriber (life_on plan a b c count more j.number j.subscriber k.subscriber h w) on in
-    same_life plan a c more l m (ap (λ x. x.number) told) (ap (λ x. x.subscriber) told) (subst (λ (n : ℕ). WritesLife plan a more n l.subscriber c) (sym (second ∙ first)) lived)
+    let lived : Follows plan a more j.number l.follower c = listened plan a c more j.number k.follower l.follower (follows_on plan a b c count more j.number j.follower k.follower h w) on in
+    same_life plan a c more l m (ap (λ x. x.number) told) (ap (λ x. x.follower) told) (subst (λ (n : ℕ). Follows plan a more n l.follower c) (sym (second ∙ first)) lived)
 
-pub ends_answered : (form : Form) (count more at : ℕ) (before after : Option (List ℕ)) (j k l : Joined) (x : Stand) → k.ended ≡ j.ended → WritesActs form count j.subscriber before more k.subscriber after → IsTicked at k.subscriber → LivesUnpolled k.subscriber l.subscriber → AnswersEnd at k l x
-    → (IsTrue j.ended → HasAnswered j.subscriber) → IsTrue l.ended → HasAnswered l.subscriber
+pub ends_answered : (form : Form) (count more at : ℕ) (before after : Option (List ℕ)) (j k l : Joined) (x : Stand) → k.ended ≡ j.ended → WritesActs form count j.follower.subscriber before more k.follower.subscriber after → IsTicked at k.follower.subscriber → LivesUnpolled k.follower.subscriber l.follower.subscriber → AnswersEnd at k l x
+    → (IsTrue j.ended → HasAnswered j.follower.subscriber) → IsTrue l.ended → HasAnswered l.follower.subscriber
 ends_answered form count more at before after j k l x same w ticked on a answered so = by_case (a.told so)
   where
-    by_case : IsTrue k.ended ⊎ TellsPlace at k.subscriber l.subscriber → HasAnswered l.subscriber
+    by_case : IsTrue k.ended ⊎ TellsPlace at k.follower.subscriber l.follower.subscriber → HasAnswered l.follower.subscriber
     by_case (inl was) =
-        answered_on k.subscriber l.subscriber on.acts
-        (answered_on j.subscriber k.subscriber w.acts (answered (subst (λ (b : Bool). IsTrue b) same was)) w.lived)
+        answered_on k.follower.subscriber l.follower.subscriber on.acts
+        (answered_on j.follower.subscriber k.follower.subscriber w.acts (answered (subst (λ (b : Bool). IsTrue b) same was)) w.lived)
         on.lived
     by_case (inr told) = record {
       at = at;
-      noted = k.subscriber;
+      noted = k.follower.subscriber;
       ticked = ticked;
       stand = a.before;
       stands = record { place = a.stood.place; rebuilt = a.stood.rebuilt; told = refl };
       all = a.noted.0 so;
-      teller = l.subscriber;
+      teller = l.follower.subscriber;
       told = told;
       since = [];
       lived = refl;
@@ -83,21 +83,21 @@ ends_answered form count more at before after j k l x same w ticked on a answere
 -- ---- a SETUP
 
 -- the image and its end are the same
-pub same_answered : (j k : Joined) → k.ended ≡ j.ended → k.subscriber ≡ j.subscriber → (IsTrue j.ended → HasAnswered j.subscriber) → IsTrue k.ended → HasAnswered k.subscriber
+pub same_answered : (j k : Joined) → k.ended ≡ j.ended → k.follower.subscriber ≡ j.follower.subscriber → (IsTrue j.ended → HasAnswered j.follower.subscriber) → IsTrue k.ended → HasAnswered k.follower.subscriber
 same_answered j k ended same answered so = subst HasAnswered (sym same) (answered (subst (λ (b : Bool). IsTrue b) ended so))
 
-turned : (plan : SubscribePlan) (s t : Seen) (m : Meeting) (rebuilt : ℕ) (j k : Joined) → Passes s m j k t ⊎ Resumes s m rebuilt j k t ⊎ Renews plan s m rebuilt j k t → (IsTrue j.ended → HasAnswered j.subscriber) → IsTrue k.ended → HasAnswered k.subscriber
-turned plan s t m rebuilt j k (inl p) h = same_answered j k (ap (λ x. x.ended) p.warns.kept) (ap (λ x. x.subscriber) p.warns.kept) h
-turned plan s t m rebuilt j k (inr (inl p)) h = same_answered j k (ap (λ x. x.ended) p.tied) (ap (λ x. x.subscriber) p.tied) h
+turned : (plan : SubscribePlan) (s t : Seen) (m : Meeting) (rebuilt : ℕ) (j k : Joined) → Passes s m j k t ⊎ Resumes s m rebuilt j k t ⊎ Renews plan s m rebuilt j k t → (IsTrue j.ended → HasAnswered j.follower.subscriber) → IsTrue k.ended → HasAnswered k.follower.subscriber
+turned plan s t m rebuilt j k (inl p) h = same_answered j k (ap (λ x. x.ended) p.warns.kept) (ap (λ x. x.follower.subscriber) p.warns.kept) h
+turned plan s t m rebuilt j k (inr (inl p)) h = same_answered j k (ap (λ x. x.ended) p.tied) (ap (λ x. x.follower.subscriber) p.tied) h
 turned plan s t m rebuilt j k (inr (inr p)) h = λ so. let not = p.renewed.ended in cc
 
-considered : (plan : SubscribePlan) (from : SocketAddr) (f : Setup) (s t : Seen) (j k : Joined) → Considers plan s from f j k t → (IsTrue j.ended → HasAnswered j.subscriber) → IsTrue k.ended → HasAnswered k.subscriber
-considered plan from f s t j k (inl p) h = same_answered j k (ap (λ x. x.ended) p.1) (ap (λ x. x.subscriber) p.1) h
+considered : (plan : SubscribePlan) (from : SocketAddr) (f : Setup) (s t : Seen) (j k : Joined) → Considers plan s from f j k t → (IsTrue j.ended → HasAnswered j.follower.subscriber) → IsTrue k.ended → HasAnswered k.follower.subscriber
+considered plan from f s t j k (inl p) h = same_answered j k (ap (λ x. x.ended) p.1) (ap (λ x. x.follower.subscriber) p.1) h
 considered plan from f s t j k (inr p) h = turned plan s t p.0 p.2.0 j k p.2.2 h
 
-offered : (plan : SubscribePlan) (s t : Seen) (offer : Offer) (j k : Joined) → ConsidersOffer plan s offer j k t → (IsTrue j.ended → HasAnswered j.subscriber) → IsTrue k.ended → HasAnswered k.subscriber
-offered plan s t None j k p h = same_answered j k (ap (λ x. x.ended) p.0) (ap (λ x. x.subscriber) p.0) h
+offered : (plan : SubscribePlan) (s t : Seen) (offer : Offer) (j k : Joined) → ConsidersOffer plan s offer j k t → (IsTrue j.ended → HasAnswered j.follower.subscriber) → IsTrue k.ended → HasAnswered k.follower.subscriber
+offered plan s t None j k p h = same_answered j k (ap (λ x. x.ended) p.0) (ap (λ x. x.follower.subscriber) p.0) h
 offered plan s t (Some offer) j k p h = considered plan offer.0 offer.1 s t j k p h
 
-pub attended_answered : (plan : SubscribePlan) (s t : Seen) (j k : Joined) → Attends plan s j k t → (IsTrue j.ended → HasAnswered j.subscriber) → IsTrue k.ended → HasAnswered k.subscriber
+pub attended_answered : (plan : SubscribePlan) (s t : Seen) (j k : Joined) → Attends plan s j k t → (IsTrue j.ended → HasAnswered j.follower.subscriber) → IsTrue k.ended → HasAnswered k.follower.subscriber
 attended_answered plan s t j k p h = offered plan s t p.0 (with_device j (setup_taken j.duty.device)) k p.2 h

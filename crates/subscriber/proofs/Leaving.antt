@@ -1,5 +1,5 @@
 -- What a subscriber lives through where it polls nothing more.
-use Rattle.std.proofs.Common.{◌≡◌, ◌⊎◌, ◌∙◌, ◌+◌, ◌≤◌, ℕ, ℤ, pos, negsuc, Bool, None, Some, List, [], ◌∷◌, ◌++◌, map, length, Option, Result, Ok, Err, IfOk, inl, inr, refl, sym, ap, subst, arith, true, false, if◌then◌else◌}
+use Rattle.std.proofs.Common.{◌≡◌, ◌⊎◌, ◌∙◌, ◌+◌, ◌≤◌, ℕ, ℤ, pos, negsuc, Bool, None, Some, List, [], ◌∷◌, ◌++◌, map, length, Option, Result, Ok, Err, IfOk, inl, inr, refl, sym, ap, append-nil, subst, arith, true, false, if◌then◌else◌}
 use Rattle.std.specs.Io.KnownBytes.{Appends}
 use Rattle.std.proofs.KnownBytes.{Appends-nil}
 use Rattle.theory.specs.Image.{Image, after_heartbeat, after_insert, is_accepted}
@@ -15,13 +15,16 @@ use Rattle.endpoint.specs.Devices.{Device}
 use Rattle.endpoint.specs.declared.device_error.DeviceError.{DeviceError}
 use Rattle.messages.specs.Forms.{spelling}
 use Rattle.options.specs.declared.ends.plans.SubscribePlan.{SubscribePlan}
-use Rattle.receiver.specs.Lives.{Act, Gives, GivesNone, Hears, Lives, Ticks, given_in}
+use Rattle.receiver.specs.Lives.{Act, Gives, GivesNone, Hears, Lives, Ticks, given_in, heard_in}
 use Rattle.receiver.specs.Receiving.{Meets, MeetsAll, MeetsFrame, MeetsHeartbeat, MeetsSetup, Opened, Receiver, TakesDatagram, answer_at, at_moment, given_at, ticked}
 use Rattle.receiver.specs.Subscribing.{RepresentsSubscriber, Subscribing}
 use Rattle.receiver.specs.declared.receiver_core.Outcome.{Outcome}
-use Rattle.subscriber.proofs.Lived.{all_heard, life_ended, life_on, lives_on}
-use Rattle.subscriber.specs.Leavings.{AreUnpolled, KeepsConsumers, LivesUnpolled, StandsStill}
-use Rattle.subscriber.specs.Living.{WritesLife, WritesLives}
+use Rattle.subscriber.proofs.Lived.{all_heard, all_in, follows_on, heard_on, life_ended, life_on, lives_on}
+use Rattle.subscription.proofs.Parties.{subscribers_cycle}
+use Rattle.subscription.specs.Followers.{FollowerHears, FollowerTicks, HasNoted}
+use Rattle.subscription.specs.declared.follower.Follower.{Follower}
+use Rattle.subscriber.specs.Leavings.{AreUnpolled, KeepsConsumers, ListensOn, LivesUnpolled, StandsStill}
+use Rattle.subscriber.specs.Living.{Follows, WritesActs, WritesLife, WritesLives}
 use Rattle.subscriber.specs.declared.ended.Subscribed.{Subscribed}
 use Rattle.subscriber.specs.declared.fault.SubscribeFault.{SubscribeFault}
 
@@ -130,6 +133,10 @@ none_given (GivesNone ∷ acts) x = absurd x
 pub none_lived_through : (s : Subscribing) → LivesUnpolled s s
 none_lived_through s = record { acts = []; unpolled = tt; lived = refl }
 
+pub listens_none : (f : Follower) → ListensOn f f
+unfolding none_lived_through
+listens_none f = record { lives = none_lived_through f.subscriber; notes = record { notes = refl; session = refl; stream = refl } }
+
 pub unpolled_on : (s m t : Subscribing) → LivesUnpolled s m → LivesUnpolled m t → LivesUnpolled s t
 unpolled_on s m t a b = record { acts = a.acts ++ b.acts; unpolled = unpolled_with a.acts b.acts a.unpolled b.unpolled; lived = lives_on s m t a.acts b.acts a.lived b.lived }
 
@@ -143,6 +150,18 @@ heard_and_told now s m t heard answers given lives ticked = record {
 pub cycle_unpolled : (now : ℕ) (tells : Type 0) (s : Subscribing) (d : Device) (busy : Bool) (t : Subscribing) (e : Device) → Cycle ReceiverHears ReceiverTicks now tells s d busy t e → LivesUnpolled s t
 cycle_unpolled now tells s d busy t e c = heard_and_told now s c.middle t c.heard c.answers c.given (all_heard now s c.middle c.heard c.answers c.all_heard) c.ticked
 
+cycle_in : (now : ℕ) (tells : Type 0) (s : Subscribing) (d : Device) (busy : Bool) (t : Subscribing) (e : Device) → (c : Cycle ReceiverHears ReceiverTicks now tells s d busy t e) → heard_in (cycle_unpolled now tells s d busy t e c).acts ≡ c.heard
+unfolding cycle_unpolled heard_and_told
+cycle_in now tells s d busy t e c = heard_on (map (Hears now) c.heard) (Ticks now ∷ []) ∙ append-nil (heard_in (map (Hears now) c.heard)) ∙ all_in now c.heard
+
+pub cycle_listens : (now : ℕ) (tells : Type 0) (f : Follower) (d : Device) (busy : Bool) (g : Follower) (e : Device) → Cycle FollowerHears FollowerTicks now tells f d busy g e → ListensOn f g
+cycle_listens now tells f d busy g e c =
+    let parts = subscribers_cycle now tells f d busy g e c in
+    record {
+      lives = cycle_unpolled now tells f.subscriber d busy g.subscriber e parts.0;
+      notes = subst (λ (heard : List (List ℕ)). HasNoted f heard g) (sym (cycle_in now tells f.subscriber d busy g.subscriber e parts.0)) parts.1;
+    }
+
 pub fault_unpolled : (now : ℕ) (tells : Type 0) (fault : DeviceError) (s : Subscribing) (d : Device) (t : Subscribing) (e : Device) → Fault ReceiverHears ReceiverTicks now tells fault s d t e → LivesUnpolled s t
 fault_unpolled now tells fault s d t e f = by_tick f.ticked
   where
@@ -154,13 +173,20 @@ fault_unpolled now tells fault s d t e f = by_tick f.ticked
     by_tick (inr behind) = heard_and_told now s f.middle t f.heard f.answers f.given hears behind.ticked
 
 -- what it has written stays all that its polls gave
-pub left_life : (plan : SubscribePlan) (a b : Option (List ℕ)) (count number : ℕ) (s t : Subscribing) → WritesLife plan a count number s b → LivesUnpolled s t → WritesLife plan a count number t b
-left_life plan a b count number s t h l = life_on plan a b b count count number s t h (record {
+none_written : (plan : SubscribePlan) (b : Option (List ℕ)) (count : ℕ) (s t : Subscribing) → (l : LivesUnpolled s t) → WritesActs plan.end.form count s b count t b
+none_written plan b count s t l = record {
   acts = l.acts;
   lived = l.lived;
   counted = let none : length (given_in l.acts) ≡ 0 = ap length (none_given l.acts l.unpolled) in omega (arith, none);
   written = subst (λ xs. Appends b b (spelling plan.end.form xs)) (sym (none_given l.acts l.unpolled)) (Appends-nil b);
-})
+}
+
+pub left_life : (plan : SubscribePlan) (a b : Option (List ℕ)) (count number : ℕ) (s t : Subscribing) → WritesLife plan a count number s b → LivesUnpolled s t → WritesLife plan a count number t b
+left_life plan a b count number s t h l = life_on plan a b b count count number s t h (none_written plan b count s t l)
+
+pub listened : (plan : SubscribePlan) (a b : Option (List ℕ)) (count number : ℕ) (f g : Follower) → Follows plan a count number f b → ListensOn f g → Follows plan a count number g b
+unfolding none_written
+listened plan a b count number f g h l = follows_on plan a b b count count number f g h (record { acts = none_written plan b count f.subscriber g.subscriber l.lives; notes = l.notes })
 
 pub all_written : (plan : SubscribePlan) (a b : Option (List ℕ)) (number : ℕ) (t : Subscribing) (result : Result Subscribed SubscribeFault) → IfOk result (λ s. WritesLife plan a s.messages number t b) → IfOk result (λ s. WritesLives plan a s.messages b)
 all_written plan a b number t (Ok s) h = life_ended plan a b s.messages number t h

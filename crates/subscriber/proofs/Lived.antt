@@ -1,5 +1,5 @@
 -- What a subscriber lives through in a cycle, and from image to image.
-use Rattle.std.proofs.Common.{◌≡◌, ◌⊎◌, ℕ, ◌+◌, None, Some, List, [], ◌∷◌, ◌++◌, map, length, Option, inl, inr, refl, sym, ap, ◌∙◌, subst, arith, append_assoc, append-nil, length-append}
+use Rattle.std.proofs.Common.{◌≡◌, ◌⊎◌, ℕ, ℤ, ◌+◌, None, Some, List, [], ◌∷◌, ◌++◌, map, length, Option, inl, inr, refl, sym, ap, ◌∙◌, subst, arith, append_assoc, append-nil, length-append}
 use Rattle.std.specs.Io.KnownBytes.{Appends}
 use Rattle.std.specs.declared.net.SocketAddr.{SocketAddr}
 use Rattle.std.proofs.KnownBytes.{Appends-nil, Appends-trans}
@@ -13,12 +13,15 @@ use Rattle.options.specs.declared.ends.plans.SubscribePlan.{SubscribePlan}
 use Rattle.agents.specs.Cycles.{HearsAll}
 use Rattle.agents.specs.Parties.{ReceiverHears}
 use Rattle.receiver.specs.Subscribing.{Subscribing}
-use Rattle.receiver.specs.Lives.{Act, Gives, GivesNone, Hears, Lives, Ticks, given_in}
+use Rattle.receiver.specs.Lives.{Act, Gives, GivesNone, Hears, Lives, Ticks, given_in, heard_in}
 use Rattle.subscription.specs.Calls.{IsJoined, IsMeeting}
-use Rattle.subscriber.specs.Deliveries.{Delivers, PollsAll, PollsNone, WritesFirst}
-use Rattle.subscriber.specs.Living.{IsNumbered, Life, WritesActs, WritesLife, WritesLives, given_through}
+use Rattle.subscriber.specs.Deliveries.{Delivers, PollsAll, PollsNone, WritesAndNotes, WritesFirst}
+use Rattle.subscriber.specs.Living.{Follows, IsNumbered, Life, LivesOn, WritesActs, WritesLife, WritesLives, given_through}
 use Rattle.subscriber.specs.Turning.{Attends, Considers, ConsidersOffer, IsRenewed, Passes, Renews, Resumes, next, with_device}
 use Rattle.subscription.specs.Offers.{Offer, SubscriberDevice, setup_taken}
+use Rattle.subscription.proofs.Ends.{ends_on, greatest_end}
+use Rattle.subscription.specs.Followers.{HasNoted, IsGreatestEnd, NotesEnds}
+use Rattle.subscription.specs.declared.follower.Follower.{Follower}
 use Rattle.subscription.specs.Watches.{Seen}
 use Rattle.subscriber.specs.declared.delivery.Delivered.{Delivered}
 use Rattle.subscription.specs.declared.joined.Joined.{Joined}
@@ -36,6 +39,21 @@ given_on (Hears now bytes ∷ xs) ys = given_on xs ys
 given_on (Ticks now ∷ xs) ys = given_on xs ys
 given_on (Gives message ∷ xs) ys = ap (λ ms. message ∷ ms) (given_on xs ys)
 given_on (GivesNone ∷ xs) ys = given_on xs ys
+
+pub heard_on : (xs ys : List Act) → heard_in (xs ++ ys) ≡ heard_in xs ++ heard_in ys
+heard_on [] ys = refl
+heard_on (Hears now bytes ∷ xs) ys = ap (λ bs. bytes ∷ bs) (heard_on xs ys)
+heard_on (Ticks now ∷ xs) ys = heard_on xs ys
+heard_on (Gives message ∷ xs) ys = heard_on xs ys
+heard_on (GivesNone ∷ xs) ys = heard_on xs ys
+
+polled_unheard : (messages : List (List ℕ)) → heard_in (map Gives messages) ≡ []
+polled_unheard [] = refl
+polled_unheard (m ∷ ms) = polled_unheard ms
+
+pub all_in : (now : ℕ) (datagrams : List (List ℕ)) → heard_in (map (Hears now) datagrams) ≡ datagrams
+all_in now [] = refl
+all_in now (d ∷ ds) = ap (λ bs. d ∷ bs) (all_in now ds)
 
 pub all_polled : (s t : Subscribing) (messages : List (List ℕ)) → PollsAll s messages t → Lives s (map Gives messages) t
 all_polled s t [] all = all
@@ -56,15 +74,16 @@ heard_given now (d ∷ ds) = heard_given now ds
 -- ---- a cycle
 
 -- it polled all, and where there was none more to poll it found that
-pub delivered_lives : (form : Form) (most : ℕ) (s t : Subscribing) (a b : Option (List ℕ)) (number : ℕ) → (d : Delivers form most s a number t b) → (acts : List Act) × Lives s acts t × (given_in acts ≡ d.messages)
+pub delivered_lives : (form : Form) (most : ℕ) (s t : Subscribing) (a b : Option (List ℕ)) (number : ℕ) → (d : Delivers form most s a number t b) → (acts : List Act) × Lives s acts t × (given_in acts ≡ d.messages) × (heard_in acts ≡ [])
 delivered_lives form most s t a b number d = by_end d.ended
   where
-    by_end : (((length d.messages ≡ most) × (t ≡ d.middle)) ⊎ PollsNone d.middle t) → (acts : List Act) × Lives s acts t × (given_in acts ≡ d.messages)
-    by_end (inl full) = (map Gives d.messages, subst (Lives s (map Gives d.messages)) (sym full.1) (all_polled s d.middle d.messages d.polled), polled_given d.messages)
+    by_end : (((length d.messages ≡ most) × (t ≡ d.middle)) ⊎ PollsNone d.middle t) → (acts : List Act) × Lives s acts t × (given_in acts ≡ d.messages) × (heard_in acts ≡ [])
+    by_end (inl full) = (map Gives d.messages, subst (Lives s (map Gives d.messages)) (sym full.1) (all_polled s d.middle d.messages d.polled), polled_given d.messages, polled_unheard d.messages)
     by_end (inr none) = (
       map Gives d.messages ++ GivesNone ∷ [],
       lives_on s d.middle t (map Gives d.messages) (GivesNone ∷ []) (all_polled s d.middle d.messages d.polled) (t, none, refl),
       given_on (map Gives d.messages) (GivesNone ∷ []) ∙ append-nil (given_in (map Gives d.messages)) ∙ polled_given d.messages,
+      heard_on (map Gives d.messages) (GivesNone ∷ []) ∙ append-nil (heard_in (map Gives d.messages)) ∙ polled_unheard d.messages,
     )
 
 pub cycle_lives : (form : Form) (most now count more : ℕ) (tells : Type 0) (s : Subscribing) (a : Option (List ℕ)) (d : Device) (done : Delivered) (t : Subscribing) (b : Option (List ℕ)) (e : Device) → more ≡ count + done.messages → WritesFirst form most now tells s a d done t b e → WritesActs form count s a more t b
@@ -82,22 +101,45 @@ cycle_lives form most now count more tells s a d done t b e sum w =
       written = subst (λ xs. Appends a b (spelling form xs)) (sym given) w.delivers.written;
     }
 
+-- what it heard is what the device handed over
+cycle_heard : (form : Form) (most now count more : ℕ) (tells : Type 0) (s : Subscribing) (a : Option (List ℕ)) (d : Device) (done : Delivered) (t : Subscribing) (b : Option (List ℕ)) (e : Device) → (sum : more ≡ count + done.messages) → (w : WritesFirst form most now tells s a d done t b e)
+    → heard_in (cycle_lives form most now count more tells s a d done t b e sum w).acts ≡ w.cycle.heard
+unfolding cycle_lives
+cycle_heard form most now count more tells s a d done t b e sum w =
+    let polls = delivered_lives form _ s w.middle a b done.messages w.delivers in
+    heard_on polls.0 (map (Hears now) w.cycle.heard ++ Ticks now ∷ [])
+    ∙ ap (λ bs. bs ++ heard_in (map (Hears now) w.cycle.heard ++ Ticks now ∷ [])) polls.3
+    ∙ heard_on (map (Hears now) w.cycle.heard) (Ticks now ∷ [])
+    ∙ append-nil (heard_in (map (Hears now) w.cycle.heard))
+    ∙ all_in now w.cycle.heard
+
+pub cycle_lives_on : (form : Form) (most now count more : ℕ) (tells : Type 0) (f : Follower) (a : Option (List ℕ)) (d : Device) (done : Delivered) (g : Follower) (b : Option (List ℕ)) (e : Device) → more ≡ count + done.messages → WritesAndNotes form most now tells f a d done g b e → LivesOn form count f a more g b
+cycle_lives_on form most now count more tells f a d done g b e sum w = record {
+  acts = cycle_lives form most now count more tells f.subscriber a d done g.subscriber b e sum w.writes;
+  notes = subst (λ (heard : List (List ℕ)). HasNoted f heard g) (sym (cycle_heard form most now count more tells f.subscriber a d done g.subscriber b e sum w.writes)) w.notes;
+}
+
 -- ---- from image to image
 
 pub spelled_on : (form : Form) (xs ys : List (List ℕ)) → spelling form (xs ++ ys) ≡ spelling form xs ++ spelling form ys
 spelled_on form xs ys = flat_map-append (spelled form) xs ys
 
 -- the first image
-pub joined_life : (plan : SubscribePlan) (s : Seen) (j : Joined) (before : Option (List ℕ)) → IsJoined plan s j → WritesLife plan before 0 j.number j.subscriber before
+pub joined_life : (plan : SubscribePlan) (s : Seen) (j : Joined) (before : Option (List ℕ)) → IsJoined plan s j → Follows plan before 0 j.number j.follower before
 joined_life plan s j before h = record {
-  newest = record { setup = setup_of h.meeting.setup; opening = h.meeting.opening; number = 0; moment = s.moment; acts = [] };
-  older = [];
-  is = record { opens = h.opens; first = j.subscriber; met = h.joined.met; lived = refl };
-  number_is = sym h.joined.number;
-  numbered = refl;
-  lives = tt;
-  counted = refl;
-  written = Appends-nil before;
+  life = record {
+    newest = record { setup = setup_of h.meeting.setup; opening = h.meeting.opening; number = 0; moment = s.moment; acts = [] };
+    older = [];
+    is = record { opens = h.opens; first = j.follower.subscriber; met = h.joined.met; lived = refl };
+    number_is = sym h.joined.number;
+    numbered = refl;
+    lives = tt;
+    counted = refl;
+    written = Appends-nil before;
+  };
+  session = h.joined.fresh.own_session;
+  stream = h.joined.fresh.own_stream;
+  notes = h.joined.fresh.untold;
 }
 
 -- it lived on
@@ -121,51 +163,76 @@ life_on plan a b c count more number s t h w =
     numbered [] n = n
     numbered (m ∷ ms) n = n
 
+pub follows_on : (plan : SubscribePlan) (a b c : Option (List ℕ)) (count more number : ℕ) (f g : Follower) → Follows plan a count number f b → LivesOn plan.end.form count f b more g c → Follows plan a more number g c
+unfolding life_on
+follows_on plan a b c count more number f g h w = record {
+  life = life_on plan a b c count more number f.subscriber g.subscriber h.life w.acts;
+  session = w.notes.session ∙ h.session;
+  stream = w.notes.stream ∙ h.stream;
+  notes = subst (λ (n : ℤ). NotesEnds n g.stream (heard_in (h.life.newest.acts ++ w.acts.acts)) None g.end) (sym w.notes.session)
+      (subst (λ (n : ℤ). NotesEnds f.session n (heard_in (h.life.newest.acts ++ w.acts.acts)) None g.end) (sym w.notes.stream)
+      (subst (λ (heard : List (List ℕ)). NotesEnds f.session f.stream heard None g.end) (sym (heard_on h.life.newest.acts w.acts.acts))
+      (ends_on f.session f.stream (heard_in h.life.newest.acts) (heard_in w.acts.acts) None f.end g.end h.notes w.notes.notes)));
+}
+
 -- a SETUP opened another image in its place
-renewed : (plan : SubscribePlan) (from : SocketAddr) (f : Setup) (moment : ℕ) (m : Meeting) (a b : Option (List ℕ)) (count : ℕ) (j k : Joined) → IsMeeting plan from f m → IsRenewed plan moment m j k → WritesLife plan a count j.number j.subscriber b → WritesLife plan a count k.number k.subscriber b
-renewed plan from f moment m a b count j k meeting r h =
+renewed : (plan : SubscribePlan) (from : SocketAddr) (f : Setup) (moment : ℕ) (m : Meeting) (a b : Option (List ℕ)) (count : ℕ) (j k : Joined) → IsMeeting plan from f m → IsRenewed plan moment m j k → Follows plan a count j.number j.follower b → Follows plan a count k.number k.follower b
+renewed plan from f moment m a b count j k meeting r follows =
+    let h = follows.life in
     let l : Life = record { setup = setup_of m.setup; opening = m.opening; number = next j.number; moment = moment; acts = [] } in
     let given : given_through (l ∷ h.newest ∷ h.older) ≡ given_through (h.newest ∷ h.older) = append-nil (given_through (h.newest ∷ h.older)) in
     record {
-      newest = l;
-      older = h.newest ∷ h.older;
-      is = record { opens = meeting.opens; first = k.subscriber; met = r.met; lived = refl };
-      number_is = sym r.number;
-      numbered = ap next (sym h.number_is);
-      lives = (j.subscriber, h.is, h.numbered, h.lives);
-      counted = h.counted ∙ sym (ap length given);
-      written = subst (λ xs. Appends a b (spelling plan.end.form xs)) (sym given) h.written;
+      life = record {
+        newest = l;
+        older = h.newest ∷ h.older;
+        is = record { opens = meeting.opens; first = k.follower.subscriber; met = r.met; lived = refl };
+        number_is = sym r.number;
+        numbered = ap next (sym h.number_is);
+        lives = (j.follower.subscriber, h.is, h.numbered, h.lives);
+        counted = h.counted ∙ sym (ap length given);
+        written = subst (λ xs. Appends a b (spelling plan.end.form xs)) (sym given) h.written;
+      };
+      session = r.fresh.own_session;
+      stream = r.fresh.own_stream;
+      notes = r.fresh.untold;
     }
 
 -- the image is the same
-pub same_life : (plan : SubscribePlan) (a b : Option (List ℕ)) (count : ℕ) (j k : Joined) → k.number ≡ j.number → k.subscriber ≡ j.subscriber → WritesLife plan a count j.number j.subscriber b → WritesLife plan a count k.number k.subscriber b
-same_life plan a b count j k number same h = subst (λ n. WritesLife plan a count n k.subscriber b) (sym number) (subst (λ x. WritesLife plan a count j.number x b) (sym same) h)
+pub same_life : (plan : SubscribePlan) (a b : Option (List ℕ)) (count : ℕ) (j k : Joined) → k.number ≡ j.number → k.follower ≡ j.follower → Follows plan a count j.number j.follower b → Follows plan a count k.number k.follower b
+same_life plan a b count j k number same h = subst (λ n. Follows plan a count n k.follower b) (sym number) (subst (λ x. Follows plan a count j.number x b) (sym same) h)
 
-kept_life : (plan : SubscribePlan) (a b : Option (List ℕ)) (count : ℕ) (j k : Joined) → k ≡ j → WritesLife plan a count j.number j.subscriber b → WritesLife plan a count k.number k.subscriber b
-kept_life plan a b count j k kept h = same_life plan a b count j k (ap (λ x. x.number) kept) (ap (λ x. x.subscriber) kept) h
+kept_life : (plan : SubscribePlan) (a b : Option (List ℕ)) (count : ℕ) (j k : Joined) → k ≡ j → Follows plan a count j.number j.follower b → Follows plan a count k.number k.follower b
+kept_life plan a b count j k kept h = same_life plan a b count j k (ap (λ x. x.number) kept) (ap (λ x. x.follower) kept) h
 
-turned_life : (plan : SubscribePlan) (from : SocketAddr) (f : Setup) (s t : Seen) (m : Meeting) (a b : Option (List ℕ)) (count rebuilt : ℕ) (j k : Joined) → IsMeeting plan from f m → Passes s m j k t ⊎ Resumes s m rebuilt j k t ⊎ Renews plan s m rebuilt j k t → WritesLife plan a count j.number j.subscriber b → WritesLife plan a count k.number k.subscriber b
-turned_life plan from f s t m a b count rebuilt j k meeting (inl p) h = same_life plan a b count j k (ap (λ x. x.number) p.warns.kept) (ap (λ x. x.subscriber) p.warns.kept) h
-turned_life plan from f s t m a b count rebuilt j k meeting (inr (inl p)) h = same_life plan a b count j k (ap (λ x. x.number) p.tied) (ap (λ x. x.subscriber) p.tied) h
+turned_life : (plan : SubscribePlan) (from : SocketAddr) (f : Setup) (s t : Seen) (m : Meeting) (a b : Option (List ℕ)) (count rebuilt : ℕ) (j k : Joined) → IsMeeting plan from f m → Passes s m j k t ⊎ Resumes s m rebuilt j k t ⊎ Renews plan s m rebuilt j k t → Follows plan a count j.number j.follower b → Follows plan a count k.number k.follower b
+turned_life plan from f s t m a b count rebuilt j k meeting (inl p) h = same_life plan a b count j k (ap (λ x. x.number) p.warns.kept) (ap (λ x. x.follower) p.warns.kept) h
+turned_life plan from f s t m a b count rebuilt j k meeting (inr (inl p)) h = same_life plan a b count j k (ap (λ x. x.number) p.tied) (ap (λ x. x.follower) p.tied) h
 turned_life plan from f s t m a b count rebuilt j k meeting (inr (inr p)) h = renewed plan from f s.moment m a b count j k meeting p.renewed h
 
-considered_life : (plan : SubscribePlan) (from : SocketAddr) (f : Setup) (s t : Seen) (a b : Option (List ℕ)) (count : ℕ) (j k : Joined) → Considers plan s from f j k t → WritesLife plan a count j.number j.subscriber b → WritesLife plan a count k.number k.subscriber b
+considered_life : (plan : SubscribePlan) (from : SocketAddr) (f : Setup) (s t : Seen) (a b : Option (List ℕ)) (count : ℕ) (j k : Joined) → Considers plan s from f j k t → Follows plan a count j.number j.follower b → Follows plan a count k.number k.follower b
 considered_life plan from f s t a b count j k (inl p) h = kept_life plan a b count j k p.1 h
 considered_life plan from f s t a b count j k (inr p) h = turned_life plan from f s t p.0 a b count p.2.0 j k p.1 p.2.2 h
 
-offered_life : (plan : SubscribePlan) (s t : Seen) (offer : Offer) (a b : Option (List ℕ)) (count : ℕ) (j k : Joined) → ConsidersOffer plan s offer j k t → WritesLife plan a count j.number j.subscriber b → WritesLife plan a count k.number k.subscriber b
+offered_life : (plan : SubscribePlan) (s t : Seen) (offer : Offer) (a b : Option (List ℕ)) (count : ℕ) (j k : Joined) → ConsidersOffer plan s offer j k t → Follows plan a count j.number j.follower b → Follows plan a count k.number k.follower b
 offered_life plan s t None a b count j k p h = kept_life plan a b count j k p.0 h
 offered_life plan s t (Some offer) a b count j k p h = considered_life plan offer.0 offer.1 s t a b count j k p h
 
 -- whatever came of the SETUP that came in a cycle
-pub attended_life : (plan : SubscribePlan) (s t : Seen) (a b : Option (List ℕ)) (count : ℕ) (j k : Joined) → Attends plan s j k t → WritesLife plan a count j.number j.subscriber b → WritesLife plan a count k.number k.subscriber b
+pub attended_life : (plan : SubscribePlan) (s t : Seen) (a b : Option (List ℕ)) (count : ℕ) (j k : Joined) → Attends plan s j k t → Follows plan a count j.number j.follower b → Follows plan a count k.number k.follower b
 attended_life plan s t a b count j k p h = offered_life plan s t p.0 a b count (with_device j (setup_taken j.duty.device)) k p.2 h
 
 -- what was new of its status messages was told
-pub told_life : (plan : SubscribePlan) (a b : Option (List ℕ)) (count : ℕ) (j k : Joined) (d : SubscriberDevice) → k ≡ with_device j d → WritesLife plan a count j.number j.subscriber b → WritesLife plan a count k.number k.subscriber b
-told_life plan a b count j k d told h = same_life plan a b count j k (ap (λ x. x.number) told) (ap (λ x. x.subscriber) told) h
+pub told_life : (plan : SubscribePlan) (a b : Option (List ℕ)) (count : ℕ) (j k : Joined) (d : SubscriberDevice) → k ≡ with_device j d → Follows plan a count j.number j.follower b → Follows plan a count k.number k.follower b
+told_life plan a b count j k d told h = same_life plan a b count j k (ap (λ x. x.number) told) (ap (λ x. x.follower) told) h
 
 -- ---- to the end
+
+-- the end that it knows is the greatest that the datagrams tell which its newest image was handed
+pub told_end : (plan : SubscribePlan) (a b : Option (List ℕ)) (count number : ℕ) (f : Follower) → (h : Follows plan a count number f b) → IsGreatestEnd h.life.newest.opening.session plan.end.stream (heard_in h.life.newest.acts) f.end
+told_end plan a b count number f h =
+    greatest_end _ _ _ _
+    (subst (λ (n : ℤ). NotesEnds n plan.end.stream (heard_in h.life.newest.acts) None f.end) h.session
+    (subst (λ (n : ℤ). NotesEnds f.session n (heard_in h.life.newest.acts) None f.end) h.stream h.notes))
 
 pub none_lived : (plan : SubscribePlan) (a : Option (List ℕ)) → WritesLives plan a 0 a
 none_lived plan a = record { images = []; lives = tt; counted = refl; written = Appends-nil a }

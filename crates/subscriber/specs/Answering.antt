@@ -49,11 +49,11 @@ pub record HasAnswered (t : Subscribing) : Type 0 where
 -- whether it has all of its stream is noted, and where that is new it tells where it stands; what is heard then is no poll
 pub record AnswersEnd (moment : ℕ) (old new : Joined) (x : Stand) : Type 0 where
   pub before : Stand
-  pub stood : Stands old.subscriber old.duty.device.notes.end before
+  pub stood : Stands old.follower.subscriber old.follower.end before
   pub noted : IsTrue new.ended ↔ HasAll before
-  pub stands : Stands new.subscriber new.duty.device.notes.end x
+  pub stands : Stands new.follower.subscriber new.follower.end x
   pub still : HasAll x → IsTrue new.ended
-  pub told : IsTrue new.ended → IsTrue old.ended ⊎ TellsPlace moment old.subscriber new.subscriber
+  pub told : IsTrue new.ended → IsTrue old.ended ⊎ TellsPlace moment old.follower.subscriber new.follower.subscriber
 
 -- that a session is silent is noted while its stream hasn't ended
 pub record NotesSilence (s : Seen) (old new : Joined) : Type 0 where

@@ -10,6 +10,8 @@ use Rattle.endpoint.specs.declared.device_error.DeviceError.{DeviceError}
 use Rattle.receiver.specs.Polling.{Polls}
 use Rattle.receiver.specs.Subscribing.{Subscribing, SubscriberBecomes}
 use Rattle.receiver.specs.declared.poll_error.PollError.TheVariants.{NoImage, Unassembled}
+use Rattle.subscription.specs.Followers.{HasNoted}
+use Rattle.subscription.specs.declared.follower.Follower.{Follower}
 use Rattle.assembler.specs.declared.fault.AssemblyError.{AssemblyError}
 use Rattle.subscriber.specs.declared.delivery.Delivered.{Delivered}
 use Rattle.subscriber.specs.declared.delivery.fault.DeliveryFault.{DeliveryFault}
@@ -48,6 +50,11 @@ pub record WritesFirst (form : Form) (most now : ℕ) (tells : Type 0) (s : Subs
   pub middle : Subscribing
   pub delivers : Delivers form (min 256 most) s before done.messages middle after
   pub cycle : Cycle ReceiverHears ReceiverTicks now tells middle d done.busy t e
+
+-- and of what was heard then the end is noted that was told
+pub record WritesAndNotes (form : Form) (most now : ℕ) (tells : Type 0) (f : Follower) (before : Option (List ℕ)) (d : Device) (done : Delivered) (g : Follower) (after : Option (List ℕ)) (e : Device) : Type 0 where
+  pub writes : WritesFirst form most now tells f.subscriber before d done g.subscriber after e
+  pub notes : HasNoted f writes.cycle.heard g
 
 -- a poll whose frame the assembler refuses
 abbrev pub PollsRefused : Subscribing → AssemblyError → Subscribing → Type 0

@@ -1,11 +1,14 @@
 -- How a subscriber ends that no fault has ended: what it wrote, and why it went no further.
 use Rattle.std.specs.Prelude.{◌≡◌, ◌⊎◌, ℕ, List, Option, Some}
 use Rattle.options.specs.declared.ends.plans.SubscribePlan.{SubscribePlan}
+use Rattle.receiver.specs.Lives.{heard_in}
 use Rattle.receiver.specs.Subscribing.{Subscribing}
+use Rattle.subscription.specs.Followers.{IsGreatestEnd}
+use Rattle.subscription.specs.declared.follower.Follower.{Follower}
 use Rattle.subscription.specs.Watches.{IsQuiet, Seen}
 use Rattle.subscriber.specs.Answering.{HasAnswered}
 use Rattle.subscriber.specs.Leavings.{IsEnding, IsQuietEnding}
-use Rattle.subscriber.specs.Living.{WritesLife}
+use Rattle.subscriber.specs.Living.{Follows}
 use Rattle.subscriber.specs.Standing.{HasAll, Stands}
 use Rattle.subscriber.specs.declared.ended.Ending.{Ending}
 use Rattle.subscriber.specs.declared.ended.Subscribed.{Subscribed}
@@ -27,14 +30,15 @@ pub record EndsSo (plan : SubscribePlan) (written : ℕ) (s : Seen) (t : Subscri
   pub ending : IsEnding plan written s stand (Some how)
   pub answered : HasAll stand → HasAnswered t
 
--- it had images, and all that their polls gave is written; with the newest one it ends so
+-- it had images, and all that their polls gave is written; with the newest one it ends so, by the greatest end that the datagrams
+-- told which that was handed
 pub record EndsWithImage (plan : SubscribePlan) (before : Option (List ℕ)) (done : Subscribed) (after : Option (List ℕ)) : Type 0 where
   pub number : ℕ
-  pub newest : Subscribing
-  pub lives : WritesLife plan before done.messages number newest after
+  pub newest : Follower
+  pub follows : Follows plan before done.messages number newest after
+  pub told : IsGreatestEnd follows.life.newest.opening.session plan.end.stream (heard_in follows.life.newest.acts) newest.end
   pub seen : Seen
-  pub end : Option ℕ
-  pub ends : EndsSo plan done.messages seen newest end done.ending
+  pub ends : EndsSo plan done.messages seen newest.subscriber newest.end done.ending
 
 -- how it ends in all
 abbrev pub HasEnded : SubscribePlan → Option (List ℕ) → Subscribed → Option (List ℕ) → Type 0

@@ -3,9 +3,11 @@ use Rattle.std.specs.Prelude.{◌≡◌, ◌⊎◌, ◌≤◌, ◌+◌, ⊤, ℕ
 use Rattle.peer.specs.declared.fault.BindError.{BindError}
 use Rattle.peer.specs.declared.fault.BindError.TheVariants as binds
 use Rattle.options.specs.declared.ends.plans.SubscribePlan.{SubscribePlan}
-use Rattle.receiver.specs.Lives.{Act, Gives, GivesNone, Hears, Lives, Ticks}
+use Rattle.receiver.specs.Lives.{Act, Gives, GivesNone, Hears, Lives, Ticks, heard_in}
 use Rattle.receiver.specs.Receiving.{Opened, Receiver}
 use Rattle.receiver.specs.Subscribing.{RepresentsSubscriber, Subscribing}
+use Rattle.subscription.specs.Followers.{HasNoted}
+use Rattle.subscription.specs.declared.follower.Follower.{Follower}
 use Rattle.subscription.specs.Watches.{IsQuiet, Seen, hearing, working}
 use Rattle.subscriber.specs.Standing.{HasAll}
 use Rattle.subscriber.specs.declared.fault.SubscribeFault.{SubscribeFault}
@@ -60,6 +62,11 @@ pub record LivesUnpolled (s t : Subscribing) : Type 0 where
   pub acts : List Act
   pub unpolled : AreUnpolled acts
   pub lived : Lives s acts t
+
+-- and noted the ends that were told
+pub record ListensOn (f g : Follower) : Type 0 where
+  pub lives : LivesUnpolled f.subscriber g.subscriber
+  pub notes : HasNoted f (heard_in lives.acts) g
 
 -- an image has the consumers that it had
 abbrev pub KeepsConsumers : Option Opened → Option Opened → Type 0

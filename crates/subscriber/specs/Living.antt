@@ -1,13 +1,15 @@
 -- What a subscriber lived through with its images, and what it wrote of it.
-use Rattle.std.specs.Prelude.{◌≡◌, ◌+◌, ⊤, ℕ, List, [], ◌∷◌, ◌++◌, length, Option}
+use Rattle.std.specs.Prelude.{◌≡◌, ◌+◌, ⊤, ℕ, List, [], ◌∷◌, ◌++◌, length, Option, None}
 use Rattle.std.specs.Io.KnownBytes.{Appends}
 use Rattle.theory.specs.Wire.{Setup}
 use Rattle.messages.specs.Forms.{spelling}
 use Rattle.messages.specs.declared.form.Form.{Form}
 use Rattle.options.specs.declared.ends.plans.SubscribePlan.{SubscribePlan}
 use Rattle.receiver.specs.Subscribing.{Subscribing}
-use Rattle.receiver.specs.Lives.{Act, Lives, given_in}
+use Rattle.receiver.specs.Lives.{Act, Lives, given_in, heard_in}
+use Rattle.subscription.specs.Followers.{HasNoted, NotesEnds}
 use Rattle.subscription.specs.Meetings.{HasMet, Opens}
+use Rattle.subscription.specs.declared.follower.Follower.{Follower}
 use Rattle.subscription.specs.declared.opening.Opening.{Opening}
 use Rattle.subscriber.specs.Turning.{next}
 
@@ -17,6 +19,11 @@ pub record WritesActs (form : Form) (count : ℕ) (s : Subscribing) (before : Op
   pub lived : Lives s acts t
   pub counted : more ≡ count + length (given_in acts)
   pub written : Appends before after (spelling form (given_in acts))
+
+-- and noted the ends that were told
+pub record LivesOn (form : Form) (count : ℕ) (f : Follower) (before : Option (List ℕ)) (more : ℕ) (g : Follower) (after : Option (List ℕ)) : Type 0 where
+  pub acts : WritesActs form count f.subscriber before more g.subscriber after
+  pub notes : HasNoted f (heard_in acts.acts) g
 
 -- an image: the SETUP that opened it at a moment, its number, and what its subscriber lived through since
 pub record Life : Type 0 where
@@ -57,6 +64,13 @@ pub record WritesLife (plan : SubscribePlan) (before : Option (List ℕ)) (count
   pub lives : AreLives plan older
   pub counted : count ≡ length (given_through (newest ∷ older))
   pub written : Appends before after (spelling plan.end.form (given_through (newest ∷ older)))
+
+-- and the greatest end that it knows of its session's stream is that of the datagrams that it was handed since the image was opened
+pub record Follows (plan : SubscribePlan) (before : Option (List ℕ)) (count number : ℕ) (f : Follower) (after : Option (List ℕ)) : Type 0 where
+  pub life : WritesLife plan before count number f.subscriber after
+  pub session : f.session ≡ life.newest.opening.session
+  pub stream : f.stream ≡ plan.end.stream
+  pub notes : NotesEnds f.session f.stream (heard_in life.newest.acts) None f.end
 
 -- what it wrote in all is what the polls of its images gave
 pub record WritesLives (plan : SubscribePlan) (before : Option (List ℕ)) (count : ℕ) (after : Option (List ℕ)) : Type 0 where

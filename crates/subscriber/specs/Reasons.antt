@@ -8,8 +8,8 @@ use Rattle.subscriber.specs.Standing.{StandsHere}
 pub record IsUnfinished (j : Joined) (left : Unfinished) : Type 0 where
   pub from : left.from ≡ j.duty.device.inner.inner.inner.peer
   pub session : left.session ≡ j.opening.session
-  pub position : StandsHere j.subscriber left.position
-  pub end : left.end ≡ j.duty.device.notes.end
+  pub position : StandsHere j.follower.subscriber left.position
+  pub end : left.end ≡ j.follower.end
 
 -- that is told
 pub record TellsUnfinished (j : Joined) (tells : Unfinished → Type 0) : Type 0 where

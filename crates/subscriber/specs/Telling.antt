@@ -17,7 +17,7 @@ pub record AreCounts (j : Joined) (s : Seen) (written more : ℕ) (c : Counts) :
   pub naks : c.naks ≡ j.duty.device.naks
   pub lost : c.lost ≡ min (s.lost + j.duty.device.inner.inner.lost) (2 ^ 64 - 1)
   pub strangers : c.strangers ≡ min (s.strangers + j.duty.device.inner.inner.inner.strangers) (2 ^ 64 - 1)
-  pub refused : (r : Receiver) → RepresentsSubscriber j.subscriber r → c.refused.counts ≡ r.faults
+  pub refused : (r : Receiver) → RepresentsSubscriber j.follower.subscriber r → c.refused.counts ≡ r.faults
 
 -- without an image nothing is told
 abbrev pub TellsLine : Option Positions → ℤ → Counts → Option (List ℕ) → Option (List ℕ) → Type 0
@@ -27,7 +27,7 @@ TellsLine (Some p) session c before after = Appends before after (counters_line 
 -- where its image stands, and what it has counted
 pub record TellsCounters (j : Joined) (s : Seen) (written : ℕ) (tells : Option Positions → Counts → Type 0) : Type 0 where
   pub positions : Option Positions
-  pub stands : (r : Receiver) → RepresentsSubscriber j.subscriber r → TellsPositions r positions
+  pub stands : (r : Receiver) → RepresentsSubscriber j.follower.subscriber r → TellsPositions r positions
   pub counts : Counts
   pub counted : AreCounts j s written (written - s.written) counts
   pub told : tells positions counts

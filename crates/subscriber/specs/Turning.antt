@@ -9,6 +9,7 @@ use Rattle.std.specs.declared.net.SocketAddr.{SocketAddr}
 use Rattle.frames.specs.Frames.{setup_of}
 use Rattle.frames.specs.declared.frame.Setup.{Setup}
 use Rattle.options.specs.declared.ends.plans.SubscribePlan.{SubscribePlan}
+use Rattle.subscription.specs.Followers.{IsFresh}
 use Rattle.subscription.specs.Hearings.{turned_to}
 use Rattle.subscription.specs.Meetings.{HasMet, OpensNothing}
 use Rattle.subscription.specs.Calls.{IsMeeting}
@@ -65,7 +66,8 @@ IsTiedTo from old new = new ≡ with_device old (tied_anew old.duty.device from)
 -- a SETUP has opened a new image, whose peer is the one that sent it
 pub record IsRenewed (plan : SubscribePlan) (moment : ℕ) (m : Meeting) (old new : Joined) : Type 0 where
   pub number : new.number ≡ next old.number
-  pub met : HasMet plan (next old.number) (setup_of m.setup) moment new.subscriber
+  pub met : HasMet plan (next old.number) (setup_of m.setup) moment new.follower.subscriber
+  pub fresh : IsFresh new.follower m.opening.session plan.end.stream
   pub opening : new.opening ≡ m.opening
   pub device : new.duty ≡ record (old.duty) { device = turned_to (tied_anew old.duty.device m.from) m.opening.session }
   pub silent : new.silent ≡ false
@@ -101,7 +103,7 @@ pub record Renews (plan : SubscribePlan) (s : Seen) (m : Meeting) (rebuilt : ℕ
 -- what is made of a SETUP that would open an image
 abbrev pub Turns : SubscribePlan → Seen → Meeting → Joined → Joined → Seen → Type 0
 Turns plan s m old new t =
-    (rebuilt : ℕ) × RebuiltTo old.subscriber rebuilt × (Passes s m old new t ⊎ Resumes s m rebuilt old new t ⊎ Renews plan s m rebuilt old new t)
+    (rebuilt : ℕ) × RebuiltTo old.follower.subscriber rebuilt × (Passes s m old new t ⊎ Resumes s m rebuilt old new t ⊎ Renews plan s m rebuilt old new t)
 
 -- what is made of any SETUP
 abbrev pub Considers : SubscribePlan → Seen → SocketAddr → Setup → Joined → Joined → Seen → Type 0

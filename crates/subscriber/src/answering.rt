@@ -3,7 +3,7 @@
 ghost use Rattle.std.specs.Prelude.{◌≡◌, ◌↔◌, IfOk, IsTrue, OnOk};
 ghost use Rattle.std.specs.Io.KnownBytes.{Appends};
 ghost use Rattle.subscriber.specs.Answering.{AnswersEnd, TellsPlace};
-ghost use Rattle.subscriber.specs.Leavings.{LivesUnpolled, NotesHeard};
+ghost use Rattle.subscriber.specs.Leavings.{ListensOn, LivesUnpolled, NotesHeard};
 ghost use Rattle.subscriber.specs.Standing.{HasAll};
 ghost use Rattle.subscription.specs.Texts.{ended_line};
 
@@ -30,12 +30,13 @@ pub(crate) fn note_heard(joined: &Joined, watch: &mut Watch, before: u64)
 pub(crate) fn tell_place(joined: &mut Joined, watch: &Watch) -> Result<bool, SubscribeFault>
     requires { joined.old.duty.mtu ≡ REPLY }
     ensures size { joined.new.duty.mtu ≡ joined.old.duty.mtu }
-    ensures same { joined.new ≡ record joined.old { subscriber = joined.new.subscriber; duty = joined.new.duty } }
-    ensures unpolled { LivesUnpolled joined.old.subscriber joined.new.subscriber }
-    ensures told { OnOk result (TellsPlace watch.now.moment joined.old.subscriber joined.new.subscriber) }
+    ensures same { joined.new ≡ record joined.old { follower = joined.new.follower; duty = joined.new.duty } }
+    ensures unpolled { LivesUnpolled joined.old.follower.subscriber joined.new.follower.subscriber }
+    ensures listens { OnOk result (ListensOn joined.old.follower joined.new.follower) }
+    ensures told { OnOk result (TellsPlace watch.now.moment joined.old.follower.subscriber joined.new.follower.subscriber) }
 {
     let ahead = watch.moment().saturating_add(STATUS_INTERVAL);
-    Ok(joined.duty.cycle(&mut joined.subscriber, ahead)?)
+    Ok(joined.duty.cycle(&mut joined.follower, ahead)?)
 }
 
 /// Notes whether all of the stream is written, and tells it where that is new.
@@ -63,7 +64,8 @@ pub(crate) fn answer_end<E: Write>(
     requires { joined.old.duty.mtu ≡ REPLY }
     ensures size { joined.new.duty.mtu ≡ joined.old.duty.mtu }
     ensures number { joined.new.number ≡ joined.old.number }
-    ensures unpolled { LivesUnpolled joined.old.subscriber joined.new.subscriber }
+    ensures unpolled { LivesUnpolled joined.old.follower.subscriber joined.new.follower.subscriber }
+    ensures listens { OnOk result (ListensOn joined.old.follower joined.new.follower) }
     ensures answers { IfOk result (AnswersEnd watch.old.moment joined.old joined.new) }
     ensures heard { OnOk result (NotesHeard joined.old.duty.device.notes.frames joined.new.duty.device.notes.frames watch.old watch.new) }
 {

@@ -1,7 +1,7 @@
 //! A subscriber's cycle.
 
 ghost use Rattle.std.specs.Prelude.{◌≡◌, IfErr, IfOk};
-ghost use Rattle.subscriber.specs.Deliveries.{Ends, WritesFirst};
+ghost use Rattle.subscriber.specs.Deliveries.{Ends, WritesAndNotes};
 
 pub(crate) mod fault;
 pub(crate) mod polling;
@@ -11,8 +11,8 @@ use crate::delivery::polling::write_polled;
 use agents::{Duty, REPLY};
 use endpoint::Datagrams;
 use messages::Form;
-use receiver::Subscriber;
 use std::io::Write;
+use subscription::Follower;
 
 /// What a cycle did.
 #[derive(Clone, Copy, Debug, PartialEq, Eq)]
@@ -24,23 +24,23 @@ pub struct Delivered {
 }
 
 /// A cycle, at a moment in nanoseconds. First messages are polled, 256 and `most` at the most, each is written as its form says, and
-/// the output is flushed; behind that comes a cycle of the duty, as `Duty::cycle` makes it. At `Output` and `Message`
+/// the output is flushed; behind that comes a cycle of the duty, as `Duty::cycle` makes it, in which the end is noted that is told. At `Output` and `Message`
 /// nothing was heard or sent; at `Device` and `Memory` all that was polled is written, and the next cycle may be called.
 pub fn cycle<W: Write, D: Datagrams>(
     form: Form,
     most: usize,
-    subscriber: &mut Subscriber,
+    follower: &mut Follower,
     output: &mut W,
     duty: &mut Duty<D>,
     now: u64,
 ) -> Result<Delivered, DeliveryFault>
     requires size { duty.old.mtu ≡ REPLY }
-    ensures done { IfOk result (λ d. WritesFirst form most now (D.tells duty.old.device) subscriber.old (W.contents output.old) (D.device duty.old.device) d subscriber.new (W.contents output.new) (D.device duty.new.device)) }
-    ensures fault { IfErr result (λ f. Ends form most now (D.tells duty.old.device) (duty.new ≡ duty.old) f subscriber.old (W.contents output.old) (D.device duty.old.device) subscriber.new (W.contents output.new) (D.device duty.new.device)) }
+    ensures done { IfOk result (λ d. WritesAndNotes form most now (D.tells duty.old.device) follower.old (W.contents output.old) (D.device duty.old.device) d follower.new (W.contents output.new) (D.device duty.new.device)) }
+    ensures fault { IfErr result (λ f. Ends form most now (D.tells duty.old.device) (duty.new ≡ duty.old) f follower.old.subscriber (W.contents output.old) (D.device duty.old.device) follower.new.subscriber (W.contents output.new) (D.device duty.new.device)) }
     ensures size { duty.new.mtu ≡ duty.old.mtu }
     ensures still_tells { D.tells duty.old.device → D.tells duty.new.device }
 {
-    let messages = write_polled(form, most, subscriber, output)?;
-    let busy = duty.cycle(subscriber, now)?;
+    let messages = write_polled(form, most, &mut follower.subscriber, output)?;
+    let busy = duty.cycle(follower, now)?;
     Ok(Delivered { messages, busy })
 }

@@ -11,7 +11,7 @@ ghost use Rattle.subscriber.specs.Standing.{StandsHere, Stands};
 ghost use Rattle.subscriber.specs.declared.standing.Stand.{Stand as Standing};
 ghost use Rattle.subscription.specs.Watches.{IsBroken, TellsWhereDue};
 ghost use Rattle.subscriber.specs.declared.fault.SubscribeFault.TheVariants.{Failed};
-ghost use Rattle.subscriber.specs.Living.{WritesActs, WritesLife};
+ghost use Rattle.subscriber.specs.Living.{Follows, LivesOn};
 ghost use Rattle.subscriber.specs.Telling.{AreCounts, TellsCounters, TellsLine};
 ghost use Rattle.subscriber.specs.Texts.{silence_line};
 ghost use Rattle.subscriber.specs.Turning.{with_device};
@@ -56,28 +56,28 @@ fn cycle_once<W: Write>(
     ensures patient { IfErr result (λ fault. fault ≢ Failed Device) }
     ensures heard { OnOk result (NotesHeard joined.old.duty.device.notes.frames joined.new.duty.device.notes.frames watch.old watch.new) }
     ensures writes { IfOk result (λ r. (r.0 ≤ plan.now.messages) × Writes plan.now.end.form written (W.contents output.old) r.0 (W.contents output.new)) }
-    ensures lives { IfOk result (λ r. WritesActs plan.now.end.form written joined.old.subscriber (W.contents output.old) r.0 joined.new.subscriber (W.contents output.new)) }
+    ensures lives { IfOk result (λ r. LivesOn plan.now.end.form written joined.old.follower (W.contents output.old) r.0 joined.new.follower (W.contents output.new)) }
     // At a fault all that was told is written.
-    ensures broken { OnErr result (BreaksActs plan.now.end.form joined.old.subscriber (W.contents output.old) joined.new.subscriber (W.contents output.new)) }
+    ensures broken { OnErr result (BreaksActs plan.now.end.form joined.old.follower.subscriber (W.contents output.old) joined.new.follower.subscriber (W.contents output.new)) }
     // Last it was told the moment.
-    ensures ticked { IfOk result (λ _. IsTicked watch.old.moment joined.new.subscriber) }
+    ensures ticked { IfOk result (λ _. IsTicked watch.old.moment joined.new.follower.subscriber) }
     ensures moment { watch.new.moment ≡ watch.old.moment }
-    ensures same { joined.new ≡ record joined.old { subscriber = joined.new.subscriber; duty = joined.new.duty } }
+    ensures same { joined.new ≡ record joined.old { follower = joined.new.follower; duty = joined.new.duty } }
 {
     let before = joined.duty.device().notes().frames;
-    let stood = joined.subscriber.positions();
+    let stood = joined.follower.subscriber.positions();
     let most = (plan.messages - written).min(CYCLE_MESSAGES as u64) as usize;
     let done = cycle(
         plan.end.form,
         most,
-        &mut joined.subscriber,
+        &mut joined.follower,
         output,
         &mut joined.duty,
         watch.moment(),
     )?;
     note_heard(joined, watch, before);
     let all = written + done.messages as u64;
-    let worked = done.messages > 0 || joined.subscriber.positions() != stood;
+    let worked = done.messages > 0 || joined.follower.subscriber.positions() != stood;
     Ok((all, worked))
 }
 
@@ -130,7 +130,7 @@ fn ending_of(plan: &SubscribePlan, watch: &Watch, written: u64, stand: &Stand) -
 fn tell_silence<E: Write>(joined: &mut Joined, errors: &mut E, watch: &Watch) -> io::Result<()>
     ensures noted { NotesSilence watch.now joined.old joined.new }
     ensures same { joined.new ≡ record joined.old { silent = joined.new.silent } }
-    ensures told { joined.new.silent ≢ joined.old.silent → (place : ℕ) × StandsHere joined.old.subscriber place × OnOk result (Appends (E.contents errors.old) (E.contents errors.new) (silence_line joined.new.silent joined.old.opening.session place)) }
+    ensures told { joined.new.silent ≢ joined.old.silent → (place : ℕ) × StandsHere joined.old.follower.subscriber place × OnOk result (Appends (E.contents errors.old) (E.contents errors.new) (silence_line joined.new.silent joined.old.opening.session place)) }
     ensures quiet { joined.new.silent ≡ joined.old.silent → OnOk result (E.contents errors.new ≡ E.contents errors.old) }
 {
     let silent = watch.is_silent();
@@ -172,7 +172,7 @@ fn counts_of(joined: &Joined, watch: &Watch, written: u64, since: u64) -> Counts
         naks: device.naks(),
         lost: watch.lost().saturating_add(lost),
         strangers: strangers(joined, watch),
-        refused: joined.subscriber.refused(),
+        refused: joined.follower.subscriber.refused(),
     }
 }
 
@@ -191,7 +191,7 @@ fn tell<E: Write>(
         return Ok(());
     };
     let counts = counts_of(joined, watch, written, since);
-    match joined.subscriber.positions() {
+    match joined.follower.subscriber.positions() {
         None => Ok(()),
         Some(positions) => tell_counters(errors, joined.opening.session, &positions, &counts),
     }
@@ -220,15 +220,15 @@ pub(crate) fn follow<R: Wait + Clock, W: Write, E: Write>(
     slot: &Slot,
 ) -> Result<(u64, Ending), SubscribeFault>
     requires size { joined.old.duty.mtu ≡ REPLY }
-    requires begun { WritesLife plan.now (W.contents output.old) 0 joined.old.number joined.old.subscriber (W.contents output.old) }
+    requires begun { Follows plan.now (W.contents output.old) 0 joined.old.number joined.old.follower (W.contents output.old) }
     requires going { joined.old.ended ≡ false }
     ensures size { joined.new.duty.mtu ≡ REPLY }
     ensures few { IfOk result (λ r. r.0 ≤ plan.now.messages) }
-    ensures ended { IfOk result (λ r. EndsSo plan.now r.0 watch.new joined.new.subscriber joined.new.duty.device.notes.end r.1) }
+    ensures ended { IfOk result (λ r. EndsSo plan.now r.0 watch.new joined.new.follower.subscriber joined.new.follower.end r.1) }
     ensures writes { IfOk result (λ r. Writes plan.now.end.form 0 (W.contents output.old) r.0 (W.contents output.new)) }
     // What its images gave, each in its turn.
-    ensures lives { IfOk result (λ r. WritesLife plan.now (W.contents output.old) r.0 joined.new.number joined.new.subscriber (W.contents output.new)) }
-    ensures broken { OnErr result (BreaksLife plan.now (W.contents output.old) joined.new.subscriber (W.contents output.new)) }
+    ensures lives { IfOk result (λ r. Follows plan.now (W.contents output.old) r.0 joined.new.number joined.new.follower (W.contents output.new)) }
+    ensures broken { OnErr result (BreaksLife plan.now (W.contents output.old) joined.new.follower.subscriber (W.contents output.new)) }
 {
     let mut written: u64 = 0;
     let mut idle = IdleStrategy::new();
@@ -259,10 +259,10 @@ fn bid_farewell<R: Wait + Clock>(
     watch: &mut Watch,
 ) -> Result<(), SubscribeFault>
     requires { joined.old.duty.mtu ≡ REPLY }
-    ensures unpolled { LivesUnpolled joined.old.subscriber joined.new.subscriber }
-    ensures still { StandsStill joined.old.subscriber joined.new.subscriber }
+    ensures unpolled { LivesUnpolled joined.old.follower.subscriber joined.new.follower.subscriber }
+    ensures still { StandsStill joined.old.follower.subscriber joined.new.follower.subscriber }
     ensures number { joined.new.number ≡ joined.old.number }
-    ensures farewell { OnOk result (BidsFarewell joined.old.subscriber watch.old.moment joined.new.subscriber watch.new.moment) }
+    ensures farewell { OnOk result (BidsFarewell joined.old.follower.subscriber watch.old.moment joined.new.follower.subscriber watch.new.moment) }
 {
     watch.see(rt)?;
     let ended = watch.moment();
@@ -294,10 +294,10 @@ pub(crate) fn leave<R: Wait + Clock>(
     watch: &mut Watch,
 ) -> Result<(), SubscribeFault>
     requires { joined.old.duty.mtu ≡ REPLY }
-    ensures unpolled { LivesUnpolled joined.old.subscriber joined.new.subscriber }
-    ensures still { StandsStill joined.old.subscriber joined.new.subscriber }
+    ensures unpolled { LivesUnpolled joined.old.follower.subscriber joined.new.follower.subscriber }
+    ensures still { StandsStill joined.old.follower.subscriber joined.new.follower.subscriber }
     ensures number { joined.new.number ≡ joined.old.number }
-    ensures leaves { (x : Standing) × Stands joined.old.subscriber joined.old.duty.device.notes.end x × LeavesFrom plan.now watch.old x (joined.new ≡ joined.old) (OnOk result (BidsFarewell joined.old.subscriber watch.old.moment joined.new.subscriber watch.new.moment)) }
+    ensures leaves { (x : Standing) × Stands joined.old.follower.subscriber joined.old.follower.end x × LeavesFrom plan.now watch.old x (joined.new ≡ joined.old) (OnOk result (BidsFarewell joined.old.follower.subscriber watch.old.moment joined.new.follower.subscriber watch.new.moment)) }
 {
     if is_settled(plan, watch, &stand_of(joined)) {
         return Ok(());

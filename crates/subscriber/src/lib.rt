@@ -4,10 +4,17 @@
 //! new; the first one tells it what was sent by a slot that keeps the newest (`StatusRepeater`). What
 //! opens an image, what is heard, and the time that passes are `subscription`'s.
 //!
-//! While the session isn't silent no SETUP changes anything; of a silent one a SETUP of its own ties the device to
-//! who sent it and changes nothing else, and another one that would open an image opens it, with the next number, in
-//! the old one's place (`attend`). A subscriber ends whole or short only as `IsEnding` says, by where its consumer
-//! stands (`follow`), and in all as `HasEnded` says: one that had no image has written nothing, and was quiet.
+//! A stream has ended where an end was told that isn't below what is rebuilt, and the consumer stands there: all is written then.
+//! That is noted, and told, in the cycle in which it is so, and at once a status message is due (`answer_end`, by
+//! `AnswersEnd`); so a subscriber that ends whole with its stream has answered its end (`HasAnswered`). Of an ended session a
+//! SETUP of its own from its peer changes nothing, and the next publisher's opens an image in the old one's place at once.
+//!
+//! While a session that hasn't ended isn't silent no SETUP changes anything, but that another sender or session is told; of a
+//! silent one a SETUP of its own ties the device to who sent it and changes nothing else, and another one that would open an
+//! image opens it, with the next number, in the old one's place (`attend`). A subscriber ends whole or short only as `IsEnding`
+//! says, by where its consumer stands and the greatest end that the datagrams told which its newest image was handed (`follow`),
+//! and in all as `HasEnded` says: one that had no image has written nothing, and was quiet. Why one ends short is a line of exact
+//! text (`tell_short`).
 //!
 //! A cycle that succeeds has polled up to 256 messages and as many as were asked for, all that were there if they are
 //! fewer, and a writer that tells what it holds has grown by exactly these, in order, each spelled by its form; then

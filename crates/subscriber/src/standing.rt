@@ -18,12 +18,12 @@ pub struct Stand {
 
 /// Where it stands.
 pub(crate) fn stand_of(joined: &Joined) -> Stand
-    ensures { Stands joined.now.subscriber joined.now.duty.device.notes.end result }
+    ensures { Stands joined.now.follower.subscriber joined.now.follower.end result }
 {
     Stand {
         place: joined.place(),
         rebuilt: joined.rebuilt(),
-        end: joined.duty.device().notes().end,
+        end: joined.follower.end,
     }
 }
 

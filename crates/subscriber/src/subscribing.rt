@@ -8,7 +8,7 @@ ghost use Rattle.subscriber.specs.Endings.{EndsWithImage, HasEnded};
 ghost use Rattle.subscriber.specs.Leavings.{of_bind};
 ghost use Rattle.subscriber.specs.Reasons.{IsUnfinished, TellsUnfinished};
 ghost use Rattle.subscription.specs.Texts.{nobody_line, unfinished_line};
-ghost use Rattle.subscriber.specs.Living.{WritesLife, WritesLives};
+ghost use Rattle.subscriber.specs.Living.{Follows, WritesLife, WritesLives};
 ghost use Rattle.subscriber.specs.Writings.{Writes};
 ghost use Rattle.subscriber.specs.declared.ended.Ending.TheVariants.{Short, Whole};
 
@@ -81,7 +81,7 @@ fn unfinished(joined: &Joined) -> Unfinished
         from: tied_of(joined.duty.device()).peer(),
         session: joined.opening.session,
         position: joined.place(),
-        end: joined.duty.device().notes().end,
+        end: joined.follower.end,
     }
 }
 
@@ -109,21 +109,21 @@ fn follow_all<R: Wait + Clock, W: Write, E: Write>(
     slot: &Slot,
 ) -> Result<Subscribed, SubscribeFault>
     requires size { joined.old.duty.mtu ≡ REPLY }
-    requires begun { WritesLife plan.now (W.contents output.old) 0 joined.old.number joined.old.subscriber (W.contents output.old) }
+    requires begun { Follows plan.now (W.contents output.old) 0 joined.old.number joined.old.follower (W.contents output.old) }
     requires going { joined.old.ended ≡ false }
     ensures few { IfOk result (λ s. s.messages ≤ plan.now.messages) }
     ensures short { IfOk result (λ s. s.ending ≡ Short → IsTrue plan.now.once) }
     ensures writes { IfOk result (λ s. Writes plan.now.end.form 0 (W.contents output.old) s.messages (W.contents output.new)) }
-    ensures lives { IfOk result (λ s. WritesLife plan.now (W.contents output.old) s.messages joined.new.number joined.new.subscriber (W.contents output.new)) }
+    ensures lives { IfOk result (λ s. WritesLife plan.now (W.contents output.old) s.messages joined.new.number joined.new.follower.subscriber (W.contents output.new)) }
     ensures ended { IfOk result (λ s. EndsWithImage plan.now (W.contents output.old) s (W.contents output.new)) }
-    ensures broken { OnErr result (BreaksLife plan.now (W.contents output.old) joined.new.subscriber (W.contents output.new)) }
+    ensures broken { OnErr result (BreaksLife plan.now (W.contents output.old) joined.new.follower.subscriber (W.contents output.new)) }
 {
     let _ = tell_joined(errors, joined.opening.session, joined.place());
     let followed = follow(rt, alloc, plan, joined, output, errors, watch, slot);
     slot.end(rt);
     let _ = tell_refused(
         errors,
-        joined.subscriber.refused(),
+        joined.follower.subscriber.refused(),
         strangers(joined, watch),
     );
     let (messages, ending) = followed?;

@@ -17,8 +17,8 @@ use std::io;
 use std::io::Write;
 use std::net::SocketAddr;
 use subscription::{
-    Joined, Meeting, Opening, SubscriberDevice, Unheard, Watch, meeting_of, offered, opened,
-    tell_another, tell_closed, tell_joined, tell_unheard, tie, tied_of,
+    Follower, Joined, Meeting, Opening, SubscriberDevice, Unheard, Watch, meeting_of, offered,
+    opened, tell_another, tell_closed, tell_joined, tell_unheard, tie, tied_of,
 };
 
 /// Whether a SETUP is the session's own, so that an image goes on that is rebuilt up to here.
@@ -117,11 +117,17 @@ fn renew(
     now: u64,
 ) -> Result<(), SubscribeFault>
     ensures renewed { OnOk result (IsRenewed plan.now now meeting.now joined.old joined.new) }
-    ensures kept { OnErr result (joined.new.subscriber ≡ joined.old.subscriber) }
+    ensures kept { OnErr result (joined.new.follower.subscriber ≡ joined.old.follower.subscriber) }
     ensures size { joined.new.duty.mtu ≡ joined.old.duty.mtu }
 {
     let number = joined.number.wrapping_add(1);
-    joined.subscriber = opened(alloc, plan, number, &meeting.setup, now)?;
+    let subscriber = opened(alloc, plan, number, &meeting.setup, now)?;
+    joined.follower = Follower {
+        subscriber,
+        session: meeting.opening.session,
+        stream: plan.end.stream,
+        end: None,
+    };
     joined.number = number;
     joined.opening = meeting.opening;
     joined.silent = false;
@@ -142,10 +148,10 @@ fn replace<E: Write>(
     now: u64,
 ) -> Result<(), SubscribeFault>
     ensures renewed { OnOk result (IsRenewed plan.now now meeting.now joined.old joined.new) }
-    ensures kept { OnErr result (joined.new.subscriber ≡ joined.old.subscriber) }
+    ensures kept { OnErr result (joined.new.follower.subscriber ≡ joined.old.follower.subscriber) }
     ensures size { joined.new.duty.mtu ≡ joined.old.duty.mtu }
 {
-    let refused = joined.subscriber.refused();
+    let refused = joined.follower.subscriber.refused();
     let _ = tell_closed(errors, joined.opening.session, joined.place(), refused);
     renew(alloc, plan, joined, meeting, now)?;
     let _ = tell_joined(errors, joined.opening.session, joined.place());
@@ -162,7 +168,7 @@ fn turns<E: Write>(
     watch: &mut Watch,
 ) -> Result<(), SubscribeFault>
     ensures turns { OnOk result (Turns plan.now watch.old meeting.now joined.old joined.new watch.new) }
-    ensures kept { OnErr result (joined.new.subscriber ≡ joined.old.subscriber) }
+    ensures kept { OnErr result (joined.new.follower.subscriber ≡ joined.old.follower.subscriber) }
     ensures size { joined.new.duty.mtu ≡ joined.old.duty.mtu }
 {
     let rebuilt = joined.rebuilt();
@@ -189,7 +195,7 @@ fn consider<E: Write>(
     watch: &mut Watch,
 ) -> Result<(), SubscribeFault>
     ensures considers { OnOk result (Considers plan.now watch.old offer.0 offer.1 joined.old joined.new watch.new) }
-    ensures kept { OnErr result (joined.new.subscriber ≡ joined.old.subscriber) }
+    ensures kept { OnErr result (joined.new.follower.subscriber ≡ joined.old.follower.subscriber) }
     ensures size { joined.new.duty.mtu ≡ joined.old.duty.mtu }
 {
     match meeting_of(plan, offer.0, &offer.1) {
@@ -213,7 +219,7 @@ pub(crate) fn attend<E: Write>(
     watch: &mut Watch,
 ) -> Result<(), SubscribeFault>
     ensures attends { OnOk result (Attends plan.now watch.old joined.old joined.new watch.new) }
-    ensures kept { OnErr result (joined.new.subscriber ≡ joined.old.subscriber) }
+    ensures kept { OnErr result (joined.new.follower.subscriber ≡ joined.old.follower.subscriber) }
     ensures size { joined.new.duty.mtu ≡ joined.old.duty.mtu }
 {
     match offered(joined.duty.device_mut()) {

@@ -4,3 +4,5 @@ pub mod Calling
 pub mod Repeaters
 mod Repeated
 pub mod Due
+pub mod Ends
+pub mod Parties

@@ -9,6 +9,7 @@ use Rattle.loss_injector.specs.Losing.{begun}
 use Rattle.options.specs.declared.ends.plans.SubscribePlan.{SubscribePlan}
 use Rattle.peer.specs.Patience.{patient}
 use Rattle.peer.specs.Ties.{Came, Listening, asking, tied_to}
+use Rattle.subscription.specs.Followers.{IsFresh}
 use Rattle.subscription.specs.Hearings.{following}
 use Rattle.subscription.specs.Meetings.{HasMet, Opens, OpensNothing, TakesSession, TellsHeader, TellsSetup, id_of}
 use Rattle.subscription.specs.Watches.{Seen, called, hearing, with_stranger}
@@ -88,7 +89,8 @@ Heeds plan (Some came) old found new = HeedsCall plan came old found new
 pub record IsJoinedBy (plan : SubscribePlan) (moment : ℕ) (m : Meeting) (socket : Listening) (j : Joined) : Type 0 where
   pub opening : j.opening ≡ m.opening
   pub number : j.number ≡ 0
-  pub met : HasMet plan 0 (setup_of m.setup) moment j.subscriber
+  pub met : HasMet plan 0 (setup_of m.setup) moment j.follower.subscriber
+  pub fresh : IsFresh j.follower m.opening.session plan.end.stream
   pub duty : j.duty ≡ record { device = following (begun (patient (tied_to socket m.from)) plan.end.rates plan.end.seed) m.opening.session plan.end.stream; mtu = 40 }
   pub silent : j.silent ≡ false
   pub warned : j.warned ≡ false

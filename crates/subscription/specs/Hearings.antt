@@ -1,9 +1,8 @@
 -- What a device notes of what it hears of a session, and of what it is given to send.
-use Rattle.std.specs.Prelude.{◌≡◌, ◌+◌, ◌%◌, ◌^◌, ℕ, ℤ, Bool, false, ◌&&◌, nat_eq, List, length, take, max, Option, None, Some, option_map, if◌then◌else◌}
+use Rattle.std.specs.Prelude.{◌≡◌, ◌+◌, ◌%◌, ◌^◌, ℕ, ℤ, Bool, false, ◌&&◌, nat_eq, List, length, take, Option, None, Some, option_map, if◌then◌else◌}
 use Rattle.std.specs.Ordering.{int_eq}
 use Rattle.theory.specs.Wire.{Header, Setup}
 use Rattle.frames.specs.Frames.{setup_of}
-use Rattle.peer.specs.Farewells.{EndsAt}
 use Rattle.endpoint.specs.Devices.{counted}
 use Rattle.subscription.specs.Meetings.{TellsHeader, TellsSetup}
 use Rattle.subscription.specs.declared.followed.Noted.{Noted}
@@ -23,7 +22,7 @@ pub record Following (D : Type 0) : Type 0 where
 
 -- nothing was heard yet
 abbrev pub unheard : Notes
-unheard = record { frames = 0; end = None; setup = None }
+unheard = record { frames = 0; setup = None }
 
 -- nothing was heard of this session yet, nor sent
 abbrev pub following : {D : Type 0} → D → ℤ → ℤ → Following D
@@ -35,7 +34,7 @@ clearing f = record f { noted = Cleared }
 
 -- it turns to another session, of which it has heard nothing, and for which it was given nothing
 abbrev pub turned_to : {D : Type 0} → Following D → ℤ → Following D
-turned_to f session = record f { session = session; notes = record (f.notes) { end = None; setup = None }; noted = Cleared }
+turned_to f session = record f { session = session; notes = record (f.notes) { setup = None }; noted = Cleared }
 
 -- a header of the session's stream
 abbrev pub is_own : ℤ → ℤ → Option Header → Bool
@@ -51,20 +50,6 @@ abbrev pub latest : Option Setup → Option Setup → Option Setup
 latest before None = before
 latest before (Some f) = Some f
 
--- the greatest end that was told, with this one
-abbrev pub with_end : Option ℕ → ℕ → Option ℕ
-with_end None end = Some end
-with_end (Some before) end = Some (max before end)
-
--- the end that a SETUP tells of the session's stream is noted, if it tells one
-pub record NotesEnd (session stream : ℤ) (f : Setup) (old new : Option ℕ) : Type 0 where
-  pub told : (end : ℕ) → EndsAt session stream f end → new ≡ with_end old end
-  pub untold : ((end : ℕ) → EndsAt session stream f end → ⊥) → new ≡ old
-
-abbrev pub NotesEndIn : ℤ → ℤ → Option Setup → Option ℕ → Option ℕ → Type 0
-NotesEndIn session stream None old new = new ≡ old
-NotesEndIn session stream (Some f) old new = NotesEnd session stream f old new
-
 -- what a datagram tells of the session's stream
 pub record NotesDatagram (session stream : ℤ) (bytes : List ℕ) (old new : Notes) : Type 0 where
   pub header : Option Header
@@ -73,7 +58,6 @@ pub record NotesDatagram (session stream : ℤ) (bytes : List ℕ) (old new : No
   pub tells_setup : TellsSetup bytes found
   -- a frame of the stream in front counts
   pub frames : new.frames ≡ frames_after (is_own session stream header) old.frames
-  pub end : NotesEndIn session stream found old.end new.end
   pub setup : option_map setup_of new.setup ≡ latest (option_map setup_of old.setup) found
 
 -- of a datagram that was found what it tells is noted

@@ -10,3 +10,4 @@ pub mod Sendings
 pub mod Repeats
 pub mod Texts
 pub mod Unheards
+pub mod Followers

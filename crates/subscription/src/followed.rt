@@ -1,19 +1,19 @@
 //! A device that notes what it hears of a session.
 
-ghost use Rattle.std.specs.Prelude.{◌≡◌, IfOk, None, OnErr, Some, option_map};
+ghost use Rattle.std.specs.Prelude.{◌≡◌, IfOk, OnErr, option_map};
 ghost use Rattle.endpoint.specs.Calls.{Receives, Sends};
 ghost use Rattle.endpoint.specs.Devices.{NeverFall};
-ghost use Rattle.frames.specs.Frames.{header_of, setup_of};
+ghost use Rattle.frames.specs.Frames.{header_of};
 ghost use Rattle.std.specs.Borrow.{Lends, sem};
-ghost use Rattle.subscription.specs.Hearings.{HearsFound, NotesDatagram, NotesEnd, after_sending, clearing, following, frames_after, is_own, noted_after, turned_to, with_end};
+ghost use Rattle.subscription.specs.Hearings.{HearsFound, NotesDatagram, after_sending, clearing, following, frames_after, is_own, noted_after, turned_to};
 ghost use Rattle.subscription.specs.Sendings.{news_of, news_taken};
 ghost use Rattle.subscription.specs.contracts.followed.Followed.{the_row};
 
 use crate::invitation::{header_in, setup_in};
 use endpoint::{Datagrams, DeviceFailed};
-use frames::{Frame, Header, Setup};
+use frames::{Header, Setup};
 use loss_injector::Lossy;
-use peer::{PatientDevice, STATUS_BYTES, TiedDevice, end_told};
+use peer::{PatientDevice, STATUS_BYTES, TiedDevice};
 use std::marker::Model;
 use std::net::SocketAddr;
 
@@ -25,8 +25,6 @@ const NAK_BYTES: usize = 28;
 pub struct Notes {
     /// How many datagrams began with a DATA frame, a padding or a heartbeat of its stream, modulo 2^64.
     pub frames: u64,
-    /// The greatest position at which its stream ends, as farewells tell.
-    pub end: Option<u64>,
     /// The last SETUP, of any session, until it is taken.
     pub setup: Option<Setup>,
 }
@@ -118,26 +116,6 @@ fn is_own(session: i32, stream: i32, header: Option<Header>) -> bool
     }
 }
 
-/// The greatest end that was told, with this one.
-fn with_end(before: Option<u64>, end: u64) -> Option<u64>
-    ensures { result ≡ with_end before end }
-{
-    match before {
-        None => Some(end),
-        Some(before) => Some(before.max(end)),
-    }
-}
-
-/// The greatest end that was told, with the one that a SETUP tells of the session's stream.
-fn after_setup(session: i32, stream: i32, setup: &Setup, before: Option<u64>) -> Option<u64>
-    ensures { NotesEnd session stream (setup_of setup.now) before result }
-{
-    match end_told(&Frame::Setup(*setup), session, stream) {
-        None => before,
-        Some(end) => with_end(before, end),
-    }
-}
-
 /// What is noted once a datagram was given.
 fn noted_after(before: Noted, datagram: &[u8]) -> Noted
     ensures { result ≡ noted_after before datagram.now }
@@ -160,22 +138,13 @@ impl Notes {
         }
     }
 
-    /// Notes a SETUP.
-    fn note_setup(&mut self, session: i32, stream: i32, setup: &Setup)
-        ensures end { NotesEnd session stream (setup_of setup.now) self.old.end self.new.end }
-        ensures setup { self.new ≡ record self.old { end = self.new.end; setup = Some setup.now } }
-    {
-        self.end = after_setup(session, stream, setup, self.end);
-        self.setup = Some(*setup);
-    }
-
     /// Notes what a datagram tells of a session's stream.
     fn note(&mut self, session: i32, stream: i32, datagram: &[u8])
         ensures { NotesDatagram session stream datagram.now self.old self.new }
     {
         self.note_header(session, stream, header_in(datagram));
         if let Some(setup) = setup_in(datagram) {
-            self.note_setup(session, stream, &setup);
+            self.setup = Some(setup);
         }
     }
 }
@@ -191,7 +160,6 @@ impl<D> Followed<D> {
             stream,
             notes: Notes {
                 frames: 0,
-                end: None,
                 setup: None,
             },
             naks: 0,
@@ -248,7 +216,6 @@ impl<D> Followed<D> {
         ensures { self.new ≡ turned_to self.old session }
     {
         self.session = session;
-        self.notes.end = None;
         self.notes.setup = None;
         self.clear();
     }

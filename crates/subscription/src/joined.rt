@@ -8,6 +8,7 @@ ghost use Rattle.subscription.specs.Places.{IsRebuiltTo, StandsAt};
 ghost use Rattle.subscription.specs.Offers.{IsIn, IsOffered, setup_taken, tied_anew};
 
 use crate::followed::Followed;
+use crate::follower::Follower;
 use crate::invitation::setup_in;
 use crate::opening::Opening;
 use crate::unheard::Unheard;
@@ -15,7 +16,6 @@ use agents::Duty;
 use frames::Setup;
 use loss_injector::Lossy;
 use peer::{PatientDevice, TiedDevice};
-use receiver::Subscriber;
 use std::net::SocketAddr;
 
 /// The device of a subscriber with an image.
@@ -28,7 +28,7 @@ pub struct Joined {
     pub opening: Opening,
     /// The number of the image, from 0.
     pub number: u64,
-    pub subscriber: Subscriber,
+    pub follower: Follower,
     pub duty: Duty<SubscriberDevice>,
     /// Whether its session's silence was told.
     pub silent: bool,
@@ -43,9 +43,9 @@ pub struct Joined {
 impl Joined {
     /// Where its consumer stands, in bytes of the stream: 0 without an image.
     pub fn place(&self) -> u64
-        ensures { (r : Receiver) → RepresentsSubscriber self.now.subscriber r → StandsAt r.image result }
+        ensures { (r : Receiver) → RepresentsSubscriber self.now.follower.subscriber r → StandsAt r.image result }
     {
-        match self.subscriber.positions() {
+        match self.follower.subscriber.positions() {
             None => 0,
             Some(positions) => positions.least,
         }
@@ -53,9 +53,9 @@ impl Joined {
 
     /// How far its image is rebuilt without a gap, in bytes of the stream: 0 without an image.
     pub fn rebuilt(&self) -> u64
-        ensures { (r : Receiver) → RepresentsSubscriber self.now.subscriber r → IsRebuiltTo r.image result }
+        ensures { (r : Receiver) → RepresentsSubscriber self.now.follower.subscriber r → IsRebuiltTo r.image result }
     {
-        match self.subscriber.positions() {
+        match self.follower.subscriber.positions() {
             None => 0,
             Some(positions) => positions.rebuilt,
         }

@@ -7,8 +7,9 @@
 //! its id (`id_of`), and the subscriber that is opened has met that SETUP (`opened`). Its window is one that the rules allow,
 //! and that the socket's buffer is sure to hold (`window_of`).
 //!
-//! A device that follows a session counts the datagrams that begin with a frame of it, and keeps the last SETUP and the
-//! greatest end that was told, exactly; it notes the last status message that it is given to send, whether that is taken or
+//! The greatest end that was told of a session is the greatest of the datagrams that its subscriber was handed (`Follower`,
+//! `greatest_ends`). A device that follows a session counts the datagrams that begin with a frame of it, and keeps the last
+//! SETUP, exactly; it notes the last status message that it is given to send, whether that is taken or
 //! not, and what it was given for another session or another peer it forgets (`Followed`). Only such a device makes a
 //! `SentStatus`, so whoever has one knows that the device was given it. The last one that it was told is sent again by a
 //! `StatusRepeater`, which has the socket, where 300 ms have gone by without a newer one, byte for byte and to the same
@@ -22,6 +23,7 @@
 #![tactic(auto)]
 
 mod followed;
+mod follower;
 mod invitation;
 mod joined;
 mod listening;
@@ -34,6 +36,7 @@ mod watch;
 mod window;
 
 pub use followed::{Followed, News, Noted, Notes, SentStatus};
+pub use follower::{Follower, greatest_ends};
 pub use invitation::{
     GREATEST_MESSAGE, header_in, id_of, opened, opening_of, setup_in, takes_session,
 };

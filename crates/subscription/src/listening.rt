@@ -15,6 +15,7 @@ ghost use Rattle.subscription.specs.Texts.{waiting_counts, waiting_line};
 ghost use Rattle.subscription.specs.Watches.{IsQuiet, TellsWhereDue, after_call};
 
 use crate::followed::Followed;
+use crate::follower::Follower;
 use crate::invitation::{header_in, id_of, opened, setup_in, takes_session};
 use crate::joined::{Joined, SubscriberDevice};
 use crate::meeting::{Meeting, meeting_of};
@@ -150,7 +151,12 @@ fn join(
     Ok(Joined {
         opening: meeting.opening,
         number: 0,
-        subscriber,
+        follower: Follower {
+            subscriber,
+            session: meeting.opening.session,
+            stream: plan.end.stream,
+            end: None,
+        },
         duty,
         silent: false,
         warned: false,

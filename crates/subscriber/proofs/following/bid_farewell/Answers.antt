@@ -23,7 +23,7 @@ returns-then-saturating_sub-ge-FAREWELL-clause-farewell g c =
     let passed = c.saturating_sub.ensures in
     let second = c.if-saturating_sub-ge-FAREWELL.true in
     record {
-      middle = c.loop.joined.subscriber;
+      middle = c.loop.joined.follower.subscriber;
       unpolled = c.loop.invariant.1;
       at = c.loop.watch.moment;
       since = omega (arith, began, c.loop.invariant.3);

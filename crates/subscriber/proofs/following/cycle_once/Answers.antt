@@ -2,7 +2,7 @@ use Rattle.std.proofs.Common.{◌+◌, ℕ, refl, subst}
 use Rattle.receiver.specs.Lives.{ActsSo, Ticks}
 use Rattle.std.proofs.lemmas.Result.{err_from_is_err_and}
 use Rattle.subscriber.proofs.Breaking.{cycle_broken}
-use Rattle.subscriber.proofs.Lived.{cycle_lives}
+use Rattle.subscriber.proofs.Lived.{cycle_lives_on}
 use Rattle.subscriber.proofs.Patience.{patient}
 use Rattle.subscriber.proofs.following.cycle_once.Goals as goal
 
@@ -12,10 +12,10 @@ returns-in_err-done-clause-patient g c =
     rw (p.1, p.2) (patient _ _ _ _ _ _ _ _ _ _ _ _ refl refl c.in_err-done.ensures.fault)
 
 pub returns-then-done-gt0-clause-lives : goal.returns-then-done-gt0-clause-lives
-returns-then-done-gt0-clause-lives g c = cycle_lives c.args.plan.now.end.form _ _ c.args.written (c.args.written + c.in_ok-done.done.messages) _ _ _ _ c.in_ok-done.done _ _ _ refl c.in_ok-done.ensures.done
+returns-then-done-gt0-clause-lives g c = cycle_lives_on c.args.plan.now.end.form _ _ c.args.written (c.args.written + c.in_ok-done.done.messages) _ _ _ _ c.in_ok-done.done _ _ _ refl c.in_ok-done.ensures.done
 
 pub returns-else-done-gt0-clause-lives : goal.returns-else-done-gt0-clause-lives
-returns-else-done-gt0-clause-lives g c = cycle_lives c.args.plan.now.end.form _ _ c.args.written (c.args.written + c.in_ok-done.done.messages) _ _ _ _ c.in_ok-done.done _ _ _ refl c.in_ok-done.ensures.done
+returns-else-done-gt0-clause-lives g c = cycle_lives_on c.args.plan.now.end.form _ _ c.args.written (c.args.written + c.in_ok-done.done.messages) _ _ _ _ c.in_ok-done.done _ _ _ refl c.in_ok-done.ensures.done
 
 pub returns-in_err-done-clause-broken : goal.returns-in_err-done-clause-broken
 returns-in_err-done-clause-broken g c =
@@ -24,10 +24,10 @@ returns-in_err-done-clause-broken g c =
 
 pub returns-then-done-gt0-clause-ticked : goal.returns-then-done-gt0-clause-ticked
 returns-then-done-gt0-clause-ticked g c =
-    let w = c.in_ok-done.ensures.done in
-    (w.cycle.middle, subst (λ (n : ℕ). ActsSo w.cycle.middle (Ticks n) c.cycle.new.subscriber) c.moment.ensures w.cycle.ticked.becomes)
+    let w = c.in_ok-done.ensures.done.writes in
+    (w.cycle.middle, subst (λ (n : ℕ). ActsSo w.cycle.middle (Ticks n) c.cycle.new.follower.subscriber) c.moment.ensures w.cycle.ticked.becomes)
 
 pub returns-else-done-gt0-clause-ticked : goal.returns-else-done-gt0-clause-ticked
 returns-else-done-gt0-clause-ticked g c =
-    let w = c.in_ok-done.ensures.done in
-    (w.cycle.middle, subst (λ (n : ℕ). ActsSo w.cycle.middle (Ticks n) c.cycle.new.subscriber) c.moment.ensures w.cycle.ticked.becomes)
+    let w = c.in_ok-done.ensures.done.writes in
+    (w.cycle.middle, subst (λ (n : ℕ). ActsSo w.cycle.middle (Ticks n) c.cycle.new.follower.subscriber) c.moment.ensures w.cycle.ticked.becomes)

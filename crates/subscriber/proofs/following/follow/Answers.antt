@@ -17,15 +17,15 @@ loop-preserved g c =
     let told = c.tell_silence.ensures.same in
     let news = c.tell_news.ensures in
     let size = ap (λ (j : Joined). j.duty.mtu) news ∙ c.attend.ensures.size ∙ ap (λ (j : Joined). j.duty.mtu) told ∙ c.answer_end.ensures.size ∙ c.cycle_once.ensures.size in
-    let lived = answered_life _ _ _ _ _ _ c.loop.joined c.cycle_once.new.joined c.answer_end.new.joined c.tell_silence.new.joined (ap (λ (j : Joined). j.number) cycled) c.answer_end.ensures.number told c.loop.invariant.3 c.in_ok-all.ensures.lives c.answer_end.ensures.unpolled in
-    let ended = ends_answered _ _ _ _ _ _ c.loop.joined c.cycle_once.new.joined c.answer_end.new.joined _ (ap (λ (j : Joined). j.ended) cycled) c.in_ok-all.ensures.lives (ticked_at c.cycle_once.new.joined.subscriber _ _ (c.check_works.ensures.moment ∙ c.cycle_once.ensures.moment) c.in_ok-all.ensures.ticked) c.answer_end.ensures.unpolled c.in_ok-stand.ensures.answers c.loop.invariant.4 in
-    let silenced = same_answered c.answer_end.new.joined c.tell_silence.new.joined (ap (λ (j : Joined). j.ended) told) (ap (λ (j : Joined). j.subscriber) told) ended in
+    let lived = answered_life _ _ _ _ _ _ c.loop.joined c.cycle_once.new.joined c.answer_end.new.joined c.tell_silence.new.joined (ap (λ (j : Joined). j.number) cycled) c.answer_end.ensures.number told c.loop.invariant.3 c.in_ok-all.ensures.lives c.in_ok-stand.ensures.listens in
+    let ended = ends_answered _ _ _ _ _ _ c.loop.joined c.cycle_once.new.joined c.answer_end.new.joined _ (ap (λ (j : Joined). j.ended) cycled) c.in_ok-all.ensures.lives.acts (ticked_at c.cycle_once.new.joined.follower.subscriber _ _ (c.check_works.ensures.moment ∙ c.cycle_once.ensures.moment) c.in_ok-all.ensures.ticked) c.answer_end.ensures.unpolled c.in_ok-stand.ensures.answers c.loop.invariant.4 in
+    let silenced = same_answered c.answer_end.new.joined c.tell_silence.new.joined (ap (λ (j : Joined). j.ended) told) (ap (λ (j : Joined). j.follower.subscriber) told) ended in
     let attended = attended_answered _ _ _ _ c.attend.new.joined c.in_ok-attend.ensures.attends silenced in (
       size,
       wrote.0,
       writes_more _ _ _ _ _ _ _ c.loop.invariant.2 wrote.1,
       told_life _ _ _ _ c.attend.new.joined c.tell_news.new.joined _ news (attended_life _ _ _ _ _ _ _ _ c.in_ok-attend.ensures.attends lived),
-      same_answered c.attend.new.joined c.tell_news.new.joined (ap (λ (j : Joined). j.ended) news) (ap (λ (j : Joined). j.subscriber) news) attended,
+      same_answered c.attend.new.joined c.tell_news.new.joined (ap (λ (j : Joined). j.ended) news) (ap (λ (j : Joined). j.follower.subscriber) news) attended,
     )
 
 pub returns-in-Some-ending_of-clause-writes : goal.returns-in-Some-ending_of-clause-writes
@@ -35,39 +35,39 @@ pub returns-in-Some-ending_of-clause-ended : goal.returns-in-Some-ending_of-clau
 returns-in-Some-ending_of-clause-ended g c =
     let told = c.tell_silence.ensures.same in
     let answers = c.in_ok-stand.ensures.answers in
-    let ended = ends_answered _ _ _ _ _ _ c.loop.joined c.cycle_once.new.joined c.answer_end.new.joined _ (ap (λ (j : Joined). j.ended) c.cycle_once.ensures.same) c.in_ok-all.ensures.lives (ticked_at c.cycle_once.new.joined.subscriber _ _ (c.check_works.ensures.moment ∙ c.cycle_once.ensures.moment) c.in_ok-all.ensures.ticked) c.answer_end.ensures.unpolled answers c.loop.invariant.4 in
+    let ended = ends_answered _ _ _ _ _ _ c.loop.joined c.cycle_once.new.joined c.answer_end.new.joined _ (ap (λ (j : Joined). j.ended) c.cycle_once.ensures.same) c.in_ok-all.ensures.lives.acts (ticked_at c.cycle_once.new.joined.follower.subscriber _ _ (c.check_works.ensures.moment ∙ c.cycle_once.ensures.moment) c.in_ok-all.ensures.ticked) c.answer_end.ensures.unpolled answers c.loop.invariant.4 in
     record {
       stand = c.in_ok-stand.stand;
-      stands = subst (λ (j : Joined). Stands j.subscriber j.duty.device.notes.end c.in_ok-stand.stand) (sym told) answers.stands;
+      stands = subst (λ (j : Joined). Stands j.follower.subscriber j.follower.end c.in_ok-stand.stand) (sym told) answers.stands;
       ending = c.in-Some-ending_of.ensures;
-      answered = λ all. subst (λ (j : Joined). HasAnswered j.subscriber) (sym told) (ended (answers.still all));
+      answered = λ all. subst (λ (j : Joined). HasAnswered j.follower.subscriber) (sym told) (ended (answers.still all));
     }
 
 pub returns-in-Some-ending_of-clause-lives : goal.returns-in-Some-ending_of-clause-lives
-returns-in-Some-ending_of-clause-lives g c = answered_life _ _ _ _ _ _ c.loop.joined c.cycle_once.new.joined c.answer_end.new.joined c.tell_silence.new.joined (ap (λ (j : Joined). j.number) c.cycle_once.ensures.same) c.answer_end.ensures.number c.tell_silence.ensures.same c.loop.invariant.3 c.in_ok-all.ensures.lives c.answer_end.ensures.unpolled
+returns-in-Some-ending_of-clause-lives g c = answered_life _ _ _ _ _ _ c.loop.joined c.cycle_once.new.joined c.answer_end.new.joined c.tell_silence.new.joined (ap (λ (j : Joined). j.number) c.cycle_once.ensures.same) c.answer_end.ensures.number c.tell_silence.ensures.same c.loop.invariant.3 c.in_ok-all.ensures.lives c.in_ok-stand.ensures.listens
 
 pub returns-in_err-see-clause-broken : goal.returns-in_err-see-clause-broken
 returns-in_err-see-clause-broken g c =
     let p = err_from_is_err_and c.from_residual.result c.from_residual.ensures.1 in
-    rw p.1 (life_kept _ _ _ _ _ _ _ refl c.loop.invariant.3)
+    rw p.1 (life_kept _ _ _ _ _ _ _ refl c.loop.invariant.3.life)
 
 pub returns-in_err-all-clause-broken : goal.returns-in_err-all-clause-broken
 returns-in_err-all-clause-broken g c =
     let p = err_from_is_err_and c.from_residual-in_err-all.result c.from_residual-in_err-all.ensures.1 in
-    rw p.1 (life_broken _ _ _ _ _ _ _ _ c.loop.invariant.3 c.in_err-all.ensures.broken)
+    rw p.1 (life_broken _ _ _ _ _ _ _ _ c.loop.invariant.3.life c.in_err-all.ensures.broken)
 
 pub returns-in_err-check_works-clause-broken : goal.returns-in_err-check_works-clause-broken
 returns-in_err-check_works-clause-broken g c =
     let p = err_from_is_err_and c.from_residual-in_err-check_works.result c.from_residual-in_err-check_works.ensures.1 in
-    rw p.1 (life_kept _ _ _ _ _ _ _ refl (life_on _ _ _ _ _ _ _ _ _ c.loop.invariant.3 c.in_ok-all.ensures.lives))
+    rw p.1 (life_kept _ _ _ _ _ _ _ refl (life_on _ _ _ _ _ _ _ _ _ c.loop.invariant.3.life c.in_ok-all.ensures.lives.acts))
 
 pub returns-in_err-stand-clause-broken : goal.returns-in_err-stand-clause-broken
 returns-in_err-stand-clause-broken g c =
     let p = err_from_is_err_and c.from_residual-in_err-stand.result c.from_residual-in_err-stand.ensures.1 in
-    rw p.1 (life_kept _ _ _ _ _ _ _ refl (left_life _ _ _ _ _ _ _ (life_on _ _ _ _ _ _ _ _ _ c.loop.invariant.3 c.in_ok-all.ensures.lives) c.answer_end.ensures.unpolled))
+    rw p.1 (life_kept _ _ _ _ _ _ _ refl (left_life _ _ _ _ _ _ _ (life_on _ _ _ _ _ _ _ _ _ c.loop.invariant.3.life c.in_ok-all.ensures.lives.acts) c.answer_end.ensures.unpolled))
 
 pub returns-in_err-attend-clause-broken : goal.returns-in_err-attend-clause-broken
 returns-in_err-attend-clause-broken g c =
     let p = err_from_is_err_and c.from_residual-in_err-attend.result c.from_residual-in_err-attend.ensures.1 in
-    let same = c.in_err-attend.ensures.kept ∙ ap (λ (j : Joined). j.subscriber) c.tell_silence.ensures.same in
-    rw p.1 (life_kept _ _ _ _ _ _ _ same (left_life _ _ _ _ _ _ _ (life_on _ _ _ _ _ _ _ _ _ c.loop.invariant.3 c.in_ok-all.ensures.lives) c.answer_end.ensures.unpolled))
+    let same = c.in_err-attend.ensures.kept ∙ ap (λ (j : Joined). j.follower.subscriber) c.tell_silence.ensures.same in
+    rw p.1 (life_kept _ _ _ _ _ _ _ same (left_life _ _ _ _ _ _ _ (life_on _ _ _ _ _ _ _ _ _ c.loop.invariant.3.life c.in_ok-all.ensures.lives.acts) c.answer_end.ensures.unpolled))
