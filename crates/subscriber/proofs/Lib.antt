@@ -7,3 +7,4 @@ pub mod Told
 pub mod Breaking
 pub mod Answered
 pub mod EndRows
+pub mod TurnRows
