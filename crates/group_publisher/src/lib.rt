@@ -5,15 +5,19 @@
 //!
 //! What a cycle has shown along each way is exact (`seen_along`), and so is when a publisher ends by that, and how
 //! (`group_ending`): whole exactly where along each way one receiver was heard from the start to the tail, and no other. It
-//! gives up where along one way nobody was ever heard for too long, or nothing more is waited for along any. Along one way that
-//! is how a publisher to one ends (`ends_as_one`).
+//! gives up where nothing more is waited for along any way: the tail was told, it was silent or nobody was heard for too long,
+//! or its receiver is left behind (`peer`). Along one way that is how a publisher to one ends (`ends_as_one`).
+//!
+//! Those that weren't heard within the plan's wait are left out: the sender goes on by a group of the others
+//! (`begin_with_heard`), of whose ways nothing but the numbers changes.
 //!
 //! Its reading and what is left of its input are as with one subscriber (`publish_group_over`, by `EndsInput`, over any reader
 //! and any devices); its log isn't closed. Where it ends whole, the reading has ended at the input's end, and what was accepted
 //! of it has arrived along as many ways as it began with (`AllHaveArrived`; `publish_group`, by `PublishesAllAlong`). In a
 //! cycle it keeps the log (`KeepsLog`), and its core hears what came along the ways and is told the moment last (`CyclesAt`); a
 //! fault is the devices' or the reading's, and no other (`FailsBy`). The lines that name a way are exact, and so is how often
-//! the stream's end is told along each, one by one. That ways keep their numbers while datagrams go along them isn't said, nor
+//! the stream's end is told along each, one by one. Where it ends whole each end that a way's device was given to tell is where
+//! the reading's messages end (`are_told_alone`). That ways keep their numbers while datagrams go along them isn't said, nor
 //! that what a group's sender gives out is honest for its stream.
 #![tactic(auto)]
 

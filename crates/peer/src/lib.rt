@@ -11,8 +11,9 @@
 //! than was sent, or a greater window than a receiver can have, isn't believed; of the negative acknowledgements of a
 //! cycle those are held back that would ask for more than a window together; all else is handed over. A publisher's
 //! device meets the trait round any other, and does by each datagram that is one frame exactly what that verdict says,
-//! and by others nothing; what it held back goes first in the next receive; each datagram that it sends is counted
-//! (`Attended`, by `Takes` and `Gives`).
+//! and by others nothing; where there are several receivers, of one that is left behind, since what it lacks can't be sent again,
+//! neither status messages nor negative acknowledgements are handed over (`screened`); what it held back goes first in the next receive; each datagram that it sends is counted,
+//! and the ends that it tells are noted (`Attended`, by `Takes` and `Gives`).
 //!
 //! What each status message makes of the receivers that were heard, and when and how a publisher ends by that, is
 //! exact (`Attendance::hear`, `Attendance::ending`). It ends whole exactly where its input has ended, and nothing was to
