@@ -1,5 +1,5 @@
 -- Where an end's socket is bound, and to whom it sends.
-use Rattle.std.specs.Prelude.{◌≡◌, ◌≢◌, ◌<◌, length, slice_index_or, ◌++◌, ⊤, ℕ, List, [], ◌∷◌, codes, Option, None, Some}
+use Rattle.std.specs.Prelude.{◌≡◌, ◌≢◌, ◌<◌, length, slice_index_or, All, ◌++◌, ⊤, ℕ, List, [], ◌∷◌, codes, Option, None, Some}
 use Rattle.std.specs.Net.Addr.{IsUnspecifiedV4, IsUnspecifiedV6, IsV4And, IsV6And, MatchIp}
 use Rattle.std.specs.Net.Socket.{IsPlainSocket, socket_ip, socket_port}
 use Rattle.std.specs.declared.net.IpAddr.{IpAddr}
@@ -66,12 +66,17 @@ route_text (Twice peer) = joined (codes "to: " ∷ socket_text peer ∷ codes " 
 route_text Memory = codes "memory"
 
 -- one of these leads to this peer
-abbrev pub LeadsThere : List Route → SocketAddr → Type 0
-LeadsThere routes peer = (k : ℕ) × (k < length routes) × ((d : Route) → (slice_index_or routes k d).peer ≡ peer)
+pub record LeadsThere (routes : List Route) (peer : SocketAddr) : Type 0 where
+  pub number : ℕ
+  pub within : number < length routes
+  pub there : (d : Route) → (slice_index_or routes number d).peer ≡ peer
+
+abbrev pub LeadsAway : SocketAddr → Route → Type 0
+LeadsAway peer route = route.peer ≢ peer
 
 -- none does
 abbrev pub LeadElsewhere : List Route → SocketAddr → Type 0
-LeadElsewhere routes peer = (k : ℕ) (d : Route) → k < length routes → (slice_index_or routes k d).peer ≢ peer
+LeadElsewhere routes peer = All (LeadsAway peer) routes
 
 -- no two lead to one peer
 abbrev pub ArePeersApart : List Route → Type 0

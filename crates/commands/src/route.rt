@@ -4,7 +4,7 @@ ghost use Rattle.std.specs.Prelude.{◌≡◌, ◌≢◌, Some, IfErr, IfOk, IfS
 ghost use Rattle.channel.specs.declared.host.Host.TheVariants.{Name as Named};
 ghost use Rattle.channel.specs.declared.host.Name.{Name as AnyName};
 ghost use Rattle.commands.specs.declared.route.RouteFault.TheVariants.{Memory as Refused};
-ghost use Rattle.commands.specs.Routes.{ArePeersApart, AreRoutesAlong, IsAnyAddress, IsBindingOf, IsFound, IsPeer, IsRouteAlong, IsRouteOf, LeadElsewhere, LeadsThere, route_text};
+ghost use Rattle.commands.specs.Routes.{ArePeersApart, AreRoutesAlong, IsAnyAddress, IsBindingOf, IsFound, IsPeer, IsRouteAlong, IsRouteOf, LeadElsewhere, LeadsAway, LeadsThere, route_text};
 
 use channel::{Host, Name, Transport};
 use endpoint::{Binding, Route};
@@ -126,13 +126,21 @@ fn route_along<'a, R: Net>(rt: &R, way: &'a Transport) -> Result<Route, RouteFau
     }
 }
 
+/// Whether a route leads to this peer.
+fn leads_to(route: &Route, peer: SocketAddr) -> bool
+    ensures there { result ≡ true → route.now.peer ≡ peer }
+    ensures away { result ≡ false → LeadsAway peer route.now }
+{
+    route.peer == peer
+}
+
 /// Whether one of the routes leads to this peer.
 fn is_led(routes: &[Route], peer: SocketAddr) -> bool
     ensures led { result ≡ true → LeadsThere routes.now peer }
     ensures elsewhere { result ≡ false → LeadElsewhere routes.now peer }
 {
     for route in routes {
-        if route.peer == peer {
+        if leads_to(route, peer) {
             return true;
         }
     }
