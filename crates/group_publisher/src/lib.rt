@@ -9,7 +9,7 @@
 //! or its receiver is left behind (`peer`). Along one way that is how a publisher to one ends (`ends_as_one`).
 //!
 //! Those that weren't heard within the plan's wait are left out: the sender goes on by a group of the others
-//! (`begin_with_heard`), of whose ways nothing but the numbers changes.
+//! (`begin_with_heard`). That it does, and by which numbers, isn't said, but that nothing else changes is.
 //!
 //! Its reading and what is left of its input are as with one subscriber (`publish_group_over`, by `EndsInput`, over any reader
 //! and any devices); its log isn't closed. Where it ends whole, the reading has ended at the input's end, and what was accepted

@@ -301,7 +301,7 @@ fn tell_if_unshown<E: Write>(
 /// short a line says why.
 ///
 /// Where its input has ended, by its end or a fault, and all was sent, it tells the subscriber where the stream ends: each
-/// 100 ms until that has acknowledged all, and five times at its own end. It tells no other end.
+/// 100 ms until that has acknowledged all, and five times at its own end. Where it ends whole it has told no other end.
 ///
 /// It waits for nobody but receivers: where it ends the input may still be read, by a thread of its own that ends with the
 /// process, or at its next message. It ends whole only where all of the input was read, and its log is closed then.
