@@ -1,20 +1,19 @@
 -- What the inserter's words say of the units that it stored.
-use Rattle.std.proofs.Common.{◌≡◌, ℕ, ◌+◌, ◌-◌, ◌*◌, ◌/◌, ◌%◌, ◌^◌, ◌<◌, ◌≤◌, inl, inr, ⊎_elim, length, min, sym, ap, ◌∙◌, subst, arith, mod-lt}
+use Rattle.std.proofs.Common.{◌≡◌, ℕ, ◌+◌, ◌-◌, ◌*◌, ◌/◌, ◌%◌, ◌^◌, ◌<◌, ◌≤◌, inl, inr, ⊎_elim, min, sym, ap, ◌∙◌, subst, arith, mod-lt, List}
 use Rattle.std.proofs.lemmas.Nat.{and_le_l}
 use Rattle.std.proofs.lemmas.Bool.{cases_lt, eq-eqb, eqb-true}
 use Rattle.std.specs.Prelude.{◌↔◌, Bool, IsTrue, bit_and, nat_eq, slice_index}
 use Rattle.std.specs.Int.{bit_at, w64, to_le_bytes, trailing_zeros}
 use Rattle.std.proofs.lemmas.Nat.Bits.{bit_at-lt, bit_at-trailing_zeros, bit_at_and, shr_and_one}
-use Rattle.theory.specs.Placed as placed
 use Rattle.theory.specs.Placed.{Placed}
 use Rattle.theory.specs.Units.{HasUnit}
 use Rattle.position.specs.declared.head.FrameHead.{FrameHead}
 use Rattle.position.specs.Heads.{head_of}
-use Rattle.frame_words.specs.Contents.{frame_of, head_by}
+use Rattle.frame_words.specs.Contents.{head_by}
 use Rattle.image_rule.specs.declared.view.Frame.{Frame}
 use Rattle.image_rule.specs.declared.view.Held.{Held}
 use Rattle.image_rule.specs.declared.view.Key.{Key}
-use Rattle.image_rule.specs.Frames.{Has, HasStart, StartsAt, data_place, held_bit, held_place, placed_all, ring, start_bit, start_place, stored_count}
+use Rattle.image_rule.specs.Frames.{Has, HasStart, StartsAt, held_bit, held_place, placed_all, ring, start_bit, start_place}
 use Rattle.image_rule.specs.Bits as bits
 use Rattle.image_rule.specs.Bits.{InRun, IsExact, IsMask}
 use Rattle.image_rule.specs.Rule.{IsKey}
@@ -23,6 +22,7 @@ use Rattle.image_rule.proofs.Spelt.{says}
 use Rattle.image_rule.proofs.Units.{AreCovered, has_at, has_unit, placed_among, placed_starts, sound_covered, starts_placed, unit_at}
 use Rattle.image.specs.Handles.{InserterSeat, IsInserting, stored_by}
 use Rattle.image.proofs.RingPlaces.{times_place}
+use Rattle.image.specs.Memory.{HasMemory}
 use Rattle.image.specs.Looking.{AreFree, IsFirstWord, IsHeadOf, TellsUnits}
 
 -- ---- a word and a mask have a bit together: a unit of the run was stored
@@ -87,22 +87,17 @@ module _ (n : InserterSeat) (is : IsInserting n.key n.view) where
         λ has. bit ∙ is.exact.started.set u (omega arith) (omega arith) (inl (placed_starts n.view.held.got u (subst (HasStart (placed_all n.view.held.got)) (sym e) has))),
       )
 
-  pub first_word : (position word : ℕ) → position % 32 ≡ 0 → 32 * n.view.held.floor ≤ position → word ≡ slice_index n.view.held.words (data_place (ring n.key) (4 * (position / 32))) → IsFirstWord n position word
-  first_word p word unit lo w f among at =
-      let s = says n.key.identity f (is.exact.sound.spelt f among) in let c = s.count in
-      let some : 0 < length f.words = (let l = four (frame_of f.words) in omega arith) in
-      let e : 4 * (p / 32) ≡ 4 * f.unit + 0 = omega arith in
-      w ∙ ap (λ (x : ℕ). slice_index n.view.held.words (data_place (ring n.key) x)) e ∙ is.exact.sound.shown f among (omega arith) 0 some
-    where
-      four : (c : placed.Frame) → 4 ≤ stored_count c
-      four (placed.Data flags payload) = omega arith
-      four (placed.Pad n) = omega arith
+  -- the first bytes of a frame that were written down
+  pub first_bytes : (position word place : ℕ) (free : List Bool) (heads : List ℕ) → HasMemory (ring n.key) n.view.held free heads → n.view.held.freed ≡ n.view.held.floor → position % 32 ≡ 0 → 32 * n.view.held.floor ≤ position → place ≡ position / 32 % ring n.key → word ≡ slice_index heads place → IsFirstWord n position word
+  first_bytes p word place free heads mem freed unit lo there w f among at =
+      let e : f.unit ≡ p / 32 = omega arith in let b = mem.bytes f among (omega (arith, freed)) in
+      ap (to_le_bytes w64) (w ∙ ap (slice_index heads) (there ∙ ap (λ (u : ℕ). u % ring n.key) (sym e))) ∙ b.head
 
   pub head_is : (position first : ℕ) (head : FrameHead) → IsFirstWord n position first → head ≡ head_by position (to_le_bytes w64 first) → IsHeadOf n position head
   head_is p first head is_first is_head s among at =
       let q = placed_among s n.view.held.got among in let f : Frame = q.frame in
       let here : 32 * f.unit ≡ p = sym (ap (λ (x : Placed). x.at) q.is) ∙ at in
-      is_head ∙ ap (λ (x : ℕ). head_by p (to_le_bytes w64 x)) (is_first f q.among here) ∙ (says n.key.identity f (is.exact.sound.spelt f q.among)).head p ∙ ap (λ (x : Placed). head_of p x.frame) (sym q.is)
+      is_head ∙ ap (head_by p) (is_first f q.among here) ∙ (says n.key.identity f (is.exact.sound.spelt f q.among)).head p ∙ ap (λ (x : Placed). head_of p x.frame) (sym q.is)
 
 -- ---- what the calls say, of the very inserter
 

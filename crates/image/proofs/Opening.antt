@@ -1,5 +1,5 @@
 -- An image that opens.
-use Rattle.std.proofs.Common.{◌≡◌, ℕ, ◌*◌, ◌/◌, ◌%◌, ◌≤◌, [], sym, ap, ◌∙◌, subst, arith}
+use Rattle.std.proofs.Common.{◌≡◌, ℕ, ◌*◌, ◌/◌, ◌%◌, ◌<◌, ◌≤◌, List, [], Some, length, refl, sym, ap, ◌∙◌, subst, arith}
 use Rattle.std.specs.Prelude.{replicate}
 use Rattle.std.proofs.lemmas.List.{length-replicate}
 use Rattle.theory.specs.Bytes.{Identity}
@@ -10,7 +10,15 @@ use Rattle.image.specs.Seen.{IsCount, IsJoin}
 use Rattle.image_rule.specs.declared.view.Key.{Key}
 use Rattle.image_rule.specs.declared.view.View.{View}
 use Rattle.image_rule.specs.Frames.{placed_all}
-use Rattle.image_rule.specs.Rule.{whole_seat}
+use Rattle.region.specs.declared.access.RegionKey.{RegionKey}
+use Rattle.region.specs.Pooled.{all_of}
+use Rattle.image_rule.specs.Frames.{ring}
+use Rattle.image_rule.specs.Rule.{IsKey, first_held, first_seat}
+use Rattle.image_rule.specs.Steps.{Mine}
+use Rattle.image_rule.proofs.Opening.{first_exact}
+use Rattle.image.specs.declared.inserter.room.Room.{Room}
+use Rattle.image.specs.Rests.{Rests}
+use Rattle.image.proofs.Memories.{memory_first}
 use Rattle.image.specs.Handles.{ImageWords, InserterSeat}
 use Rattle.image.specs.Handles as words
 use Rattle.image.specs.Rebuilding.{Inserting, IsRebuilding, inserting}
@@ -22,9 +30,9 @@ key_of identity join consumers = record { identity = identity; join = join / 32;
 abbrev pub first : ImageWords → ℕ → ℕ → ℕ → Inserting
 first image window join consumers = record { of = image.of; key = image.key; window = window; stored = []; high = join; floor = join; seen = replicate consumers join; looks = replicate consumers 0; undealt = consumers }
 
-module _ (image : ImageWords) (n : InserterSeat) (identity : Identity) (join window consumers : ℕ) (key : image.key ≡ key_of identity join consumers) (fits : words.IsStoreOf image n) (whole : n.view ≡ whole_seat image.key) (unit : join % 32 ≡ 0) where
-  whole_view : n.view ≡ whole_seat (key_of identity join consumers)
-  whole_view = whole ∙ ap whole_seat key
+module _ (image : ImageWords) (n : InserterSeat) (identity : Identity) (join window consumers : ℕ) (key : image.key ≡ key_of identity join consumers) (fits : words.IsStoreOf image n) (whole : n.view ≡ first_seat image.key) (unit : join % 32 ≡ 0) where
+  whole_view : n.view ≡ first_seat (key_of identity join consumers)
+  whole_view = whole ∙ ap first_seat key
 
   aligned_join : 32 * (join / 32) ≡ join
   aligned_join = omega arith
@@ -65,3 +73,19 @@ module _ (image : ImageWords) (n : InserterSeat) (identity : Identity) (join win
         some = count.0;
         behind = all_replicate (λ q. (32 * (join / 32) ≤ q) × (q ≤ join)) consumers join (omega arith, omega arith);
       }
+
+-- the inserter's room of an image that holds nothing
+pub first_rests : (key : Key) (region : RegionKey) (m : Mine) (room : Room) (heads : List ℕ) → IsKey key → 0 < key.consumers → m ≡ (first_seat key, []) → room.pool.identity ≡ region.identity → room.pool.free ≡ all_of (32 * ring key) → length heads ≡ ring key → Rests key region m (Some room) heads
+first_rests key region m room heads is some first lies free long = subst (λ (x : Mine). Rests key region x (Some room) heads) (sym first) (record {
+  inserting = record {
+    is_key = is;
+    some = some;
+    inserts = refl;
+    seen = length-replicate key.consumers key.join;
+    looks = length-replicate key.consumers 0;
+    exact = first_exact key is;
+    idle = refl;
+  };
+  slots = refl;
+  has = record { lies = lies; memory = memory_first key (first_held key) room.pool.free heads is refl refl free long; freed = refl };
+})

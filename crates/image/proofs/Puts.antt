@@ -49,6 +49,7 @@ may_data n start flags payload is short fits =
         padding = λ e. absurd (cc);
         long = omega arith;
         few = omega arith;
+        in_term = omega (arith, fits.in_term, size);
         in_stream = omega arith;
       };
       from = fits.from;
@@ -68,6 +69,7 @@ may_pad n start size few fits =
         padding = λ e. refl;
         long = fits.long;
         few = few;
+        in_term = fits.in_term;
         in_stream = fits.low;
       };
       from = fits.from;

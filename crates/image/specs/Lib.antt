@@ -4,7 +4,10 @@ pub mod Stored
 pub mod Seen
 pub mod Looks
 pub mod Handles
-pub mod Spelled
+pub mod Parts
+pub mod Drafted
+pub mod Memory
+pub mod Rests
 pub mod Inserting
 pub mod Reading
 pub mod Looking

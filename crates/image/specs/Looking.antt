@@ -1,6 +1,6 @@
 -- What the inserter's looks say.
-use Rattle.std.specs.Prelude.{◌≡◌, ℕ, ◌+◌, ◌*◌, ◌/◌, ◌%◌, ◌<◌, ◌≤◌, ◌↔◌, slice_index}
-use Rattle.std.specs.Int.{bit_at}
+use Rattle.std.specs.Prelude.{◌≡◌, ℕ, ◌+◌, ◌*◌, ◌/◌, ◌%◌, ◌<◌, ◌≤◌, ◌↔◌, take}
+use Rattle.std.specs.Int.{bit_at, to_le_bytes, w64}
 use Rattle.theory.specs.Placed as placed
 use Rattle.theory.specs.Placed.{Placed}
 use Rattle.theory.specs.Units.{HasUnit}
@@ -20,9 +20,9 @@ abbrev pub TellsUnits : InserterSeat → ℕ → ℕ → Type 0
 TellsUnits n index word =
     (p : ℕ) → p % 32 ≡ 0 → floor_of n ≤ p → p < floor_of n + 3 * n.key.identity.geometry.term_length → p % (3 * n.key.identity.geometry.term_length) / 2048 ≡ index → (bit_at word (p % 2048 / 32) ≡ 1) ↔ HasUnit (stored_by n) p
 
--- the first word of each frame that was stored there, which is one
+-- the first bytes of each frame that was stored there, which is one
 abbrev pub IsFirstWord : InserterSeat → ℕ → ℕ → Type 0
-IsFirstWord n position word = (f : Frame) → Among f n.view.held.got → 32 * f.unit ≡ position → word ≡ slice_index f.words 0
+IsFirstWord n position word = (f : Frame) → Among f n.view.held.got → 32 * f.unit ≡ position → to_le_bytes w64 word ≡ take 8 f.bytes
 
 abbrev pub IsHeadOf : InserterSeat → ℕ → FrameHead → Type 0
 IsHeadOf n position head = (s : Placed) → placed.Among s (stored_by n) → s.at ≡ position → head ≡ head_of position s.frame

@@ -1,13 +1,13 @@
 -- What a reader's calls say.
-use Rattle.std.specs.Prelude.{◌≡◌, ℕ, ◌*◌, ◌<◌, List, ◌++◌, drop, length, take}
+use Rattle.std.specs.Prelude.{◌≡◌, ℕ, ◌*◌, ◌<◌, List, ◌++◌, drop, length}
+use Rattle.theory.specs.Placed as placed
 use Rattle.theory.specs.Placed.{covered, payload_of}
 use Rattle.position.specs.declared.head.FrameHead.{FrameHead}
 use Rattle.position.specs.Heads.{head_of}
-use Rattle.frame_words.specs.Contents.{bytes_in, frame_of}
 use Rattle.image_rule.specs.declared.view.Frame.{Frame}
 use Rattle.image_rule.specs.declared.view.View.{View}
-use Rattle.image_rule.specs.Frames.{Among, IsContent, end_of, placed_of}
-use Rattle.image_rule.specs.Steps.{moved_to, with_known, with_miss}
+use Rattle.image_rule.specs.Frames.{Among, IsContent, end_of, frame_said, placed_of}
+use Rattle.image_rule.specs.Steps.{holding, moved_to, with_known, with_miss}
 use Rattle.image.specs.Handles.{ReaderSeat}
 
 -- ---- by views
@@ -21,14 +21,14 @@ pub record FindsNone (v w : View) : Type 0 where
 pub record Finds (v : View) (head : FrameHead) (w : View) : Type 0 where
   pub frame : Frame
   pub here : frame.unit ≡ v.reading.unit
-  pub content : IsContent (frame_of frame.words)
-  pub shown : head ≡ head_of (32 * v.reading.unit) (frame_of frame.words)
+  pub content : IsContent (frame_said frame.bytes)
+  pub shown : head ≡ head_of (32 * v.reading.unit) (frame_said frame.bytes)
   pub only : (g : Frame) → Among g v.reading.known → g.unit ≡ v.reading.unit → g ≡ frame
-  pub after : w ≡ with_known v frame
+  pub after : w ≡ holding (with_known v frame) w.reading.round w.reading.book
 
--- the first bytes behind a frame's header stand in front of others
-abbrev pub Copied : Frame → ℕ → List ℕ → List ℕ → Type 0
-Copied f count before after = after ≡ take count (bytes_in (drop 4 f.words)) ++ drop count before
+-- a frame's payload stands in front of other bytes
+abbrev pub IsCopied : placed.Frame → List ℕ → List ℕ → Type 0
+IsCopied f before after = after ≡ payload_of f ++ drop (length (payload_of f)) before
 
 -- ---- by readers
 
@@ -36,7 +36,7 @@ Copied f count before after = after ≡ take count (bytes_in (drop 4 f.words)) +
 -- then on; its payload stands in the block's front
 pub record ReadsFrame (r : ReaderSeat) (head : FrameHead) (before : List ℕ) (q : ReaderSeat) (after : List ℕ) : Type 0 where
   pub finds : Finds r.view head q.view
-  pub copied : after ≡ payload_of (frame_of finds.frame.words) ++ drop (length (payload_of (frame_of finds.frame.words))) before
+  pub copied : IsCopied (frame_said finds.frame.bytes) before after
   pub read_to : q.read_to ≡ end_of finds.frame
   pub covers : 32 * finds.frame.units ≡ covered (placed_of finds.frame)
   pub same : q ≡ record r { view = q.view; read_to = q.read_to }

@@ -1,7 +1,6 @@
 -- What contracts see of an inserter that rebuilds a stream, and what holds of each.
 use Rattle.std.specs.Prelude.{◌≡◌, ℕ, suc, ◌+◌, ◌*◌, ◌%◌, ◌<◌, ◌≤◌, max, List, ◌∷◌, map, length, slice_index}
 use Rattle.std.specs.List.{AllByRecursion}
-use Rattle.atomic_table.specs.Seated.{TableId}
 use Rattle.theory.specs.Image.{IsWindow}
 use Rattle.theory.specs.Insert.{AreApart, head_of}
 use Rattle.theory.specs.Placed.{Placed, covered, end_of, frame_length}
@@ -9,11 +8,11 @@ use Rattle.theory.specs.Position.{Geometry, IsGeometry, max_position}
 use Rattle.theory.specs.Units.{HasUnit, IsContiguous}
 use Rattle.image.specs.Seen.{IsFit, IsJoin, least}
 use Rattle.image_rule.specs.declared.view.Key.{Key}
-use Rattle.image.specs.Handles.{ImageWords, InserterSeat, floor_of, seen_by, stored_by}
+use Rattle.image.specs.Handles.{ImageId, ImageWords, InserterSeat, floor_of, seen_by, stored_by}
 
 pub record Inserting : Type 0 where
   -- which image it is of, and what that was told: the stream, the unit at which it joins, and how many consumers it has
-  pub of : TableId
+  pub of : ImageId
   pub key : Key
   pub window : ℕ
   -- all frames that were ever stored, newest first

@@ -6,30 +6,38 @@ ghost use Rattle.theory.specs.Position.{IsGeometry, max_position};
 ghost use Rattle.theory.specs.Image.{IsWindow};
 ghost use Rattle.theory.specs.Insert.{AreApart, head_of};
 ghost use Rattle.theory.specs.Units.{IsContiguous};
+ghost use Rattle.region.specs.Identity.{start_address};
+ghost use Rattle.region.specs.Pooled.{all_of};
 ghost use Rattle.image.specs.Seen.{IsCount, IsFit, IsJoin, least};
 ghost use Rattle.image.specs.Handles.{IsReaderOf, position_of, IsStoreOf};
 ghost use Rattle.image.specs.Rebuilding.{IsInserterOf, Looked, geometry_of, join_of};
-ghost use Rattle.image_rule.specs.Frames.{ring};
-ghost use Rattle.image_rule.specs.Rule.{BeginsAt, Begun, IsKey, dealing_seat, reader_seat, whole_seat};
+ghost use Rattle.image_rule.specs.Frames.{image_length, ring};
+ghost use Rattle.image_rule.specs.Rule.{BeginsAt, Begun, IsKey, dealing_seat, first_seat, image_place, reader_seat};
 
 pub(crate) mod clearing;
+pub(crate) mod frame_store;
 pub(crate) mod gap;
 pub(crate) mod hand;
 pub(crate) mod inserting;
 pub(crate) mod looking;
+pub(crate) mod room;
 pub(crate) mod spelling;
 pub(crate) mod storing;
 
 use crate::fault::{CONSUMERS, ImageError};
 use crate::inserter::clearing::{clear_to, sweep};
-use crate::inserter::hand::{FrameStore, Hand};
+use crate::inserter::frame_store::FrameStore;
+use crate::inserter::hand::Hand;
+use crate::inserter::room::Room;
 use crate::reader::{ImageReader, Standing};
-use crate::words::{IMAGE, Image, Words};
-use atomic_table::Table;
-use image_rule::{Chosen, Deal, Key};
+use crate::words::{IMAGE, Image, ImageTable, Words};
+use atomic_table::{Seat, Table};
+use image_rule::{Chosen, Deal, Key, Site, View};
 use position::Identity;
+use region::{Pool, ReadAccess, Region, RegionStart};
 use std::alloc::{AllocError, Global};
 use std::marker::{Brand, Model};
+use std::sync::Arc;
 
 /// The units of three terms.
 fn units_of(key: &Key) -> u64
@@ -62,9 +70,81 @@ fn first_words(alloc: Global, units: u64, key: &Key) -> Result<Vec<u64>, AllocEr
     ensures { IfOk result (λ words. Begun key.now words.items) }
 {
     let units = units as usize;
-    let mut words = vec![in alloc; 0; IMAGE + (units / 64 * 2 + 4 * units)]?;
+    let mut words = vec![in alloc; 0; IMAGE + units / 64 * 2]?;
     begin(&mut words, key.consumers, key.join);
     Ok(words)
+}
+
+/// As many slots, with no part of any right.
+fn no_parts(alloc: Global, count: usize) -> Result<Vec<ReadAccess>, AllocError>
+    ensures { IfOk result (λ parts. length parts.items ≡ count) }
+{
+    let mut parts = Vec::new(alloc);
+    for _ in 0..count {
+        if parts.push(ReadAccess::none()).is_err() {
+            return Err(AllocError);
+        }
+    }
+    Ok(parts)
+}
+
+/// The region where the frames of an image lie, and where that begins; and all its bytes, which are free.
+fn open_room(alloc: Global, units: u64) -> Result<(Arc<Region>, RegionStart, Room), AllocError>
+    requires some { 0 < units }
+    requires few { units ≤ 2 ^ 40 }
+    ensures { IfOk result (λ r. (r.1.address ≡ start_address r.0.value.identity) ×
+        (r.2.pool.identity ≡ r.0.value.identity) × (r.2.pool.free ≡ all_of (32 * units))) }
+{
+    let bytes = vec![in alloc; 0u8; 32 * units as usize]?;
+    let (start, region, access) = Region::from_vec(bytes);
+    let Ok(region) = Arc::new(alloc, region) else {
+        return Err(AllocError);
+    };
+    let Ok(shared) = Arc::try_clone(&region) else {
+        return Err(AllocError);
+    };
+    let pool = Pool::new(access);
+    let room = Room {
+        pool,
+        region: shared,
+        start,
+    };
+    Ok((region, start, room))
+}
+
+/// The table of an image that opens, and its inserter's seat.
+fn open_table(
+    alloc: Global,
+    units: u64,
+    key: &Key,
+    region: &Region,
+) -> Result<(ImageTable, Seat<ReadAccess, View>), AllocError>
+    requires units { units ≡ ring key.now }
+    requires key { IsKey key.now }
+    requires few { units ≤ 2 ^ 40 }
+    requires low { key.now.join ≤ 2 ^ 56 }
+    ensures key { IfOk result (λ r. (r.0.shared.key.key ≡ key.now) × (r.0.shared.key.region.identity
+        ≡ region.now.identity)) }
+    ensures counts { IfOk result (λ r. (r.0.shared.table_id.words ≡ image_place + image_length
+        units) × (r.0.shared.table_id.slots ≡ 8 * units)) }
+    ensures seat { IfOk result (λ r. (r.1.table_id ≡ r.0.shared.table_id) × (r.1.me ≡ (
+      first_seat
+          key.now,
+      [],
+    ))) }
+{
+    let words = first_words(alloc, units, key)?;
+    let slots = no_parts(alloc, 8 * units as usize)?;
+    let site = Site {
+        key: *key,
+        region: region.key(),
+    };
+    let opened = Table::new(alloc, words.as_slice(), slots, &site);
+    let Site { key: _, region: _ } = site;
+    let Ok((table, seat)) = opened else {
+        return Err(AllocError);
+    };
+    Ok((table, seat))
 }
 
 /// An image that holds nothing, and its frames. The error comes only where memory was refused.
@@ -80,7 +160,7 @@ pub(crate) fn open_words(
     requires few { consumers ≤ 8 }
     ensures key { IfOk result (λ r. r.0.key ≡ record { identity = identity; join = join / 32; consumers = consumers }) }
     ensures fits { IfOk result (λ r. IsStoreOf r.0 r.1) }
-    ensures whole { IfOk result (λ r. r.1.view ≡ whole_seat r.0.key) }
+    ensures whole { IfOk result (λ r. r.1.view ≡ first_seat r.0.key) }
 {
     let _ = identity.geometry();
     let key = Key {
@@ -89,14 +169,29 @@ pub(crate) fn open_words(
         consumers,
     };
     let units = units_of(&key);
-    let words = first_words(alloc, units, &key)?;
-    let (table, seat) = Table::of_words(alloc, &words, &key)?;
+    let heads = vec![in alloc; 0; units as usize]?;
+    let (region, start, room) = open_room(alloc, units)?;
+    let (table, seat) = open_table(alloc, units, &key, &region)?;
     let floor = key.join;
+    let place = region.key();
     let image = Image {
-        words: Words { table, key, units },
+        words: Words {
+            table,
+            key,
+            units,
+            region,
+            start,
+        },
     };
     let hand = Hand { seat, floor };
-    Ok((image, FrameStore { hand, key }))
+    let store = FrameStore {
+        hand,
+        key,
+        region: place,
+        room: Some(room),
+        heads,
+    };
+    Ok((image, store))
 }
 
 /// The last reader that the inserter has.
@@ -107,7 +202,9 @@ fn deal_as<N: Chosen>(image: &Words, hand: &mut Hand, number: u64, join: u64) ->
     requires join { join ≡ image.now.key.join }
     requires chosen { N.number ≡ join }
     ensures fits { (hand.new.seat.table_id ≡ hand.old.seat.table_id) × (result.seat.table_id ≡ hand.old.seat.table_id) }
-    ensures left { hand.new.seat.me.0 ≡ dealing_seat hand.old.seat.me.0 }
+    ensures lies { (result.units ≡ image.now.units) × (result.region ≡
+        image.now.table.shared.key.region) }
+    ensures left { hand.new.seat.me ≡ (dealing_seat hand.old.seat.me.0, hand.old.seat.me.1) }
     ensures reader { (result.seat.me.0 ≡ reader_seat join hand.old.seat.me.0) × (result.read_to ≡ join) }
 {
     let _ = &image.table;
@@ -118,6 +215,8 @@ fn deal_as<N: Chosen>(image: &Words, hand: &mut Hand, number: u64, join: u64) ->
         number,
         unit: join,
         read_to: join,
+        units: image.units,
+        region: image.region.key(),
     }
 }
 

@@ -9,6 +9,10 @@
 //! takes at most two looks at words of bits and one for each 2,048 of its bytes (`first_gap`, `held_word`, `Steps`).
 //! `LossDetector::scan` says when a gap is told.
 //!
+//! The bytes of frames lie in plain memory, each as on the wire, and are copied in and out by plain copies. The words that
+//! are shared have a held bit and a start bit for each unit, and where the consumers stand. Who may write a frame's bytes, and
+//! who may read them, goes by rights that take no memory (`region`), which change hands with the bits.
+//!
 //! A reader reads the frame where it stands (`read`) and moves behind it (`advance`). Where it and the inserter meet (`meet`),
 //! the reader knows just the frames that were stored, and the inserter has seen it where it stands. So where one hand has
 //! both, `read_past` is exact. What `insert` and `heartbeat` say is an event of the definitions' image

@@ -9,7 +9,7 @@ ghost use Rattle.image.specs.Meeting.{Meets, AreAlone, ReadsPast, StandsAtEnd};
 ghost use Rattle.image.specs.Rebuilding.{IsInserterOf};
 
 use crate::inserter::Inserter;
-use crate::inserter::hand::FrameStore;
+use crate::inserter::frame_store::FrameStore;
 use crate::reader::ImageReader;
 use crate::reader::reading::{advance, read};
 use crate::words::Image;

@@ -2,83 +2,70 @@
 
 ghost use Rattle.std.specs.Prelude.{◌≡◌, ◌*◌, [], ◌+◌, ◌/◌, ◌%◌, ◌^◌, ◌<◌, ◌≤◌};
 ghost use Rattle.image.specs.Handles.{position_of};
-ghost use Rattle.image_rule.specs.Frames.{data_place, end_of, ring};
+ghost use Rattle.image.specs.Parts.{CarriesPart};
+ghost use Rattle.image_rule.specs.Frames.{end_of, ring};
 ghost use Rattle.image_rule.specs.Reads.{IsRead};
-ghost use Rattle.image_rule.specs.Steps.{Looks, MayMove, MayReread, Moves, Rereads};
+ghost use Rattle.image_rule.specs.Steps.{Looks, MayMove, Moves};
 
 pub(crate) mod reading;
 
 use crate::words::{IMAGE, Words};
 use atomic_table::Seat;
-use image_rule::{Look, Move, Reread, Rereading, View};
+use image_rule::{Look, Move, Picked, View};
+use region::{ReadAccess, RegionKey};
 use std::marker::Model;
 
 /// One of an image's consumers.
 #[derive(Drop)]
 pub(crate) struct Standing {
-    pub(crate) seat: Seat<(), View>,
+    pub(crate) seat: Seat<ReadAccess, View>,
     pub(crate) number: u64,
     /// The unit where it stands.
     pub(crate) unit: u64,
     /// The unit where the frame ends that it has read here; its own unit, if it has read none.
     pub(crate) read_to: u64,
-    ghost free: { seat.me.1 ≡ [] },
+    /// How many units the image's ring has, and which region its frames lie in.
+    pub(crate) units: u64,
+    pub(crate) region: RegionKey,
     ghost plain: { seat.me.0.inserting ≡ 0 },
     ghost reads: { seat.me.0.reading.reads ≡ 1 },
     ghost number_is: { number ≡ seat.me.0.reading.number },
     ghost unit_is: { unit ≡ seat.me.0.reading.unit },
     ghost few: { number < 8 },
     ghost low: { unit ≤ 2 ^ 56 },
-    ghost read: { unit < read_to → IsRead seat.me.0 read_to },
+    ghost read: { unit < read_to → IsRead seat.me.0 read_to × (seat.me.0.reading.holds ≡ 1) },
+    ghost carries: { CarriesPart units region seat.me },
 }
 
-/// Loads the word of held bits where the reader stands.
+/// Loads the word of held bits where the reader stands. Where the bit is set, the reader has its part of the frame there.
 #[inline(always)]
-pub(crate) fn look(image: &Words, reader: &mut Standing) -> u64
+pub(crate) fn look_as<N: Picked>(image: &Words, reader: &mut Standing) -> u64
     requires fits { reader.old.seat.table_id ≡ image.now.table.shared.table_id }
+    requires chosen { N.site ≡ image.now.table.shared.key }
+    requires ring { (reader.old.units ≡ ring image.now.key) × (reader.old.region ≡
+        image.now.table.shared.key.region) }
     ensures fits { reader.new.seat.table_id ≡ reader.old.seat.table_id }
     ensures same { (reader.new.unit ≡ reader.old.unit) × (reader.new.number ≡ reader.old.number) × (reader.new.read_to ≡ reader.old.unit) }
-    ensures told { Looks reader.old.seat.me.0 result reader.new.seat.me.0 }
+    ensures ring { (reader.new.units ≡ reader.old.units) × (reader.new.region ≡ reader.old.region) }
+    ensures told { Looks image.now.table.shared.key reader.old.seat.me result reader.new.seat.me }
 {
     let place = IMAGE + image.held_word(reader.unit);
     let words = &image.table.shared;
     reader.read_to = reader.unit;
-    words.load::<Look>(&mut reader.seat, place)
+    words.load::<Look<N>>(&mut reader.seat, place)
 }
 
-/// Loads a word of a frame that the reader knows, from its place.
+/// Stores the end of the frame that the reader has its part of, and gives that back.
 #[inline(always)]
-pub(crate) fn word_as<N: Rereading>(
-    image: &Words,
-    reader: &mut Standing,
-    place: usize,
-    unit: u64,
-    index: u64,
-) -> u64
-    requires fits { reader.old.seat.table_id ≡ image.now.table.shared.table_id }
-    requires there { place ≡ data_place (ring image.now.key) (4 * unit + index) }
-    requires chosen { (N.frame.unit ≡ unit) × (N.index ≡ index) }
-    requires may { MayReread N.frame index reader.old.seat.me.0 }
-    ensures fits { reader.new.seat.table_id ≡ reader.old.seat.table_id }
-    ensures same { (reader.new.unit ≡ reader.old.unit) × (reader.new.number ≡ reader.old.number) × (reader.new.read_to ≡ reader.old.read_to) }
-    ensures told { Rereads N.frame index reader.old.seat.me.0 result reader.new.seat.me.0 }
-{
-    let _ = unit;
-    let _ = index;
-    let words = &image.table.shared;
-    words.load::<Reread<N>>(&mut reader.seat, IMAGE + place)
-}
-
-/// Stores the end of a frame that the reader knows where it stands.
-#[inline(always)]
-pub(crate) fn move_as<N: Rereading>(image: &Words, reader: &mut Standing, end: u64)
+pub(crate) fn move_as<N: Picked>(image: &Words, reader: &mut Standing, end: u64)
     requires fits { reader.old.seat.table_id ≡ image.now.table.shared.table_id }
     requires low { end ≤ 2 ^ 56 }
     requires ends { end ≡ end_of N.frame }
-    requires may { MayMove N.frame reader.old.seat.me.0 }
+    requires may { MayMove image.now.table.shared.key N.frame reader.old.seat.me }
     ensures fits { reader.new.seat.table_id ≡ reader.old.seat.table_id }
     ensures same { (reader.new.unit ≡ end) × (reader.new.number ≡ reader.old.number) × (reader.new.read_to ≡ end) }
-    ensures told { Moves N.frame reader.old.seat.me.0 reader.new.seat.me.0 }
+    ensures ring { (reader.new.units ≡ reader.old.units) × (reader.new.region ≡ reader.old.region) }
+    ensures told { Moves N.frame reader.old.seat.me (32 * end) reader.new.seat.me }
 {
     let _ = &image.table;
     let words = &image.table.shared;
@@ -98,7 +85,7 @@ impl Model for ImageReader {
 
     ghost Value = { ReaderSeat };
 
-    ghost view = { λ r. record { of = r.standing.seat.table_id; view = r.standing.seat.me.0; read_to = r.standing.read_to } };
+    ghost view = { λ r. record { of = record { table = r.standing.seat.table_id; region = r.standing.region; units = r.standing.units }; view = r.standing.seat.me.0; read_to = r.standing.read_to } };
 }
 
 impl ImageReader {

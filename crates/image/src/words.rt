@@ -1,38 +1,42 @@
-//! The words of an image, which its inserter and its readers share.
+//! The words of an image, which its inserter and its readers share, and the region where its frames lie.
 
 ghost use Rattle.std.specs.Prelude.{◌≡◌, ◌+◌, ◌*◌, ◌/◌, ◌%◌, ◌^◌, ◌<◌, ◌≤◌};
-ghost use Rattle.image_rule.specs.Frames.{data_place, held_place, image_length, ring, start_place};
+ghost use Rattle.image_rule.specs.Frames.{byte_place, held_place, image_length, ring, slot_of, start_place};
 ghost use Rattle.image_rule.specs.Rule.{IsKey, image_place};
 ghost use Rattle.image_rule.specs.Bits.{IsMask};
+ghost use Rattle.region.specs.Identity.{start_address};
 
 use atomic_table::Table;
-use image_rule::{ImageRule, Key, View};
+use image_rule::{ImageRule, Key, Site, View};
 use position::{Identity, split_by};
+use region::{ReadAccess, Region, RegionStart};
 use std::alloc::Global;
 use std::marker::Model;
+use std::sync::Arc;
 
 /// Where the image's words begin, behind the consumers' positions.
 pub(crate) const IMAGE: usize = 128;
 
-/// The table, what it is told of, and the units of its ring.
+/// The words of an image, and the slots with the parts of its frames.
+pub(crate) type ImageTable = Table<ReadAccess, View, Site, ImageRule, Global>;
+
+/// The table, what it is told of, the units of its ring, and the region where the frames lie.
 #[derive(Drop)]
 pub(crate) struct Words {
-    pub(crate) table: Table<(), View, Key, ImageRule, Global>,
+    pub(crate) table: ImageTable,
     pub(crate) key: Key,
     pub(crate) units: u64,
-    ghost is_of: { table.shared.key ≡ key },
+    pub(crate) region: Arc<Region>,
+    pub(crate) start: RegionStart,
+    ghost is_of: { table.shared.key.key ≡ key },
+    ghost lies: { table.shared.key.region.identity ≡ region.value.identity },
+    ghost starts: { start.address ≡ start_address region.value.identity },
     ghost is_key: { IsKey key },
     ghost units_is: { units ≡ ring key },
     ghost few: { units ≤ 2 ^ 40 },
     ghost low: { key.join ≤ 2 ^ 56 },
     ghost wide: { table.shared.table_id.words ≡ image_place + image_length units },
-}
-
-/// How many words of the stream an image has, and where they end in it.
-#[derive(Clone, Copy)]
-pub(crate) struct Ring {
-    pub(crate) length: usize,
-    pub(crate) end: usize,
+    ghost shelves: { table.shared.table_id.slots ≡ 8 * units },
 }
 
 impl Words {
@@ -68,50 +72,35 @@ impl Words {
         (self.units / 64 + self.ring_unit(unit) / 64) as usize
     }
 
-    /// The word of the image at which a unit's first word stands.
+    /// Where a unit lies in the ring.
     #[inline(always)]
-    pub(crate) fn first_word(&self, unit: u64) -> usize
-        ensures is { result ≡ data_place (ring self.now.key) (4 * unit) }
-        ensures inside { result < image_length (ring self.now.key) }
+    pub(crate) fn place(&self, unit: u64) -> usize
+        ensures is { result ≡ unit % ring self.now.key }
+        ensures low { result < ring self.now.key }
     {
         let _ = &self.table;
-        (self.units / 64 * 2 + 4 * self.ring_unit(unit)) as usize
+        self.ring_unit(unit) as usize
     }
 
-    /// The ring of the stream's words.
+    /// The slot with the part of a consumer of the frame that begins at a unit.
     #[inline(always)]
-    pub(crate) fn ring(&self) -> Ring
-        ensures length { result.length ≡ 4 * ring self.now.key }
-        ensures end { result.end ≡ image_length (ring self.now.key) }
-        ensures large { 24576 ≤ result.length }
+    pub(crate) fn slot(&self, unit: u64, number: u64) -> usize
+        requires few { number < 8 }
+        ensures is { result ≡ slot_of (ring self.now.key) unit number }
+        ensures inside { result < 8 * ring self.now.key }
     {
         let _ = &self.table;
-        let _ = self.key.identity.geometry().term_length();
-        let length = 4 * self.units;
-        Ring {
-            length: length as usize,
-            end: (self.units / 64 * 2 + length) as usize,
-        }
+        (8 * self.ring_unit(unit) + number) as usize
     }
 
-    /// The word of the image at which a word of the stream stands, so many behind one that stands at a place.
+    /// Where a unit's bytes begin in the region.
     #[inline(always)]
-    pub(crate) fn word_behind(&self, bounds: Ring, place: usize, number: u64, count: usize) -> usize
-        requires length { bounds.length ≡ 4 * ring self.now.key }
-        requires end { bounds.end ≡ image_length (ring self.now.key) }
-        requires there { place ≡ data_place (ring self.now.key) number }
-        requires few { count ≤ bounds.length }
-        ensures is { result ≡ data_place (ring self.now.key) (number + count) }
-        ensures inside { result < bounds.end }
+    pub(crate) fn byte(&self, unit: u64) -> usize
+        ensures is { result ≡ byte_place (ring self.now.key) unit }
+        ensures inside { result + 32 ≤ 32 * ring self.now.key }
     {
         let _ = &self.table;
-        let _ = number;
-        let next = place + count;
-        if next < bounds.end {
-            next
-        } else {
-            next - bounds.length
-        }
+        (32 * self.ring_unit(unit)) as usize
     }
 }
 
@@ -125,7 +114,7 @@ pub(crate) fn mask(low: u64, high: u64) -> u64
     (u64::MAX << low) & (u64::MAX >> (64 - high))
 }
 
-/// An image that threads share: its words stand in a table.
+/// An image that threads share: its words stand in a table, its frames lie in a region.
 #[derive(Drop)]
 pub struct Image {
     pub(crate) words: Words,
@@ -136,7 +125,7 @@ impl Model for Image {
 
     ghost Value = { ImageWords };
 
-    ghost view = { λ i. record { of = i.words.table.shared.table_id; key = i.words.key } };
+    ghost view = { λ i. record { of = record { table = i.words.table.shared.table_id; region = i.words.table.shared.key.region; units = i.words.units }; key = i.words.key } };
 }
 
 impl Image {

@@ -99,6 +99,8 @@ module _ (key : Key) (is : IsKey key) (v : View) (one : v.inserting ≡ 1) (exac
     after = refl;
     floor = refl;
     got = refl;
+    freed = refl;
+    out = refl;
     marked = marked_still d.bits;
     started = started_clear key is v.held at count d.bits exact.marked.long here some short near d.mask exact.started;
     sound = (may_empty_part d.bits d.mask).sound exact.sound;
@@ -183,6 +185,8 @@ module _ (key : Key) (is : IsKey key) (v : View) (one : v.inserting ≡ 1) (exac
     after = refl;
     floor_is = refl;
     got = refl;
+    freed = refl;
+    out = refl;
     exact = record {
       sound = (may_drop_part d.bits d.mask).sound sound;
       marked = marked_part d.bits d.mask;
@@ -194,13 +198,13 @@ module _ (key : Key) (is : IsKey key) (v : View) (one : v.inserting ≡ 1) (exac
 
 -- the two one after the other
 pub cleared_both : (key : Key) (v w y : View) (low : ℕ) → Emptied key v low w → Cleared key w low y → Cleared key v low y
-cleared_both key v w y low e c = record { after = c.after ∙ (λ j. record (e.after j) { held = y.held }); floor_is = c.floor_is; got = c.got ∙ e.got; exact = c.exact }
+cleared_both key v w y low e c = record { after = c.after ∙ (λ j. record (e.after j) { held = y.held }); floor_is = c.floor_is; got = c.got ∙ e.got; freed = c.freed ∙ e.freed; out = c.out ∙ e.out; exact = c.exact }
 
 pub cleared_none : (key : Key) (v : View) → IsExact key v.held → Cleared key v v.held.floor v
-cleared_none key v e = record { after = refl; floor_is = refl; got = refl; exact = e }
+cleared_none key v e = record { after = refl; floor_is = refl; got = refl; freed = refl; out = refl; exact = e }
 
 pub cleared_on : (key : Key) (v w y : View) (a c : ℕ) → Cleared key v a w → Cleared key w c y → Cleared key v c y
-cleared_on key v w y a c p q = record { after = q.after ∙ (λ j. record (p.after j) { held = y.held }); floor_is = q.floor_is; got = q.got ∙ p.got; exact = q.exact }
+cleared_on key v w y a c p q = record { after = q.after ∙ (λ j. record (p.after j) { held = y.held }); floor_is = q.floor_is; got = q.got ∙ p.got; freed = q.freed ∙ p.freed; out = q.out ∙ p.out; exact = q.exact }
 
 -- where all consumers were seen, the floor may rise to the least
 pub may_rise : (key : Key) (v w : View) (least : ℕ) → IsExact key v.held → IsKey key → Sweeps key v (length v.seen) least w → MayRise key w least

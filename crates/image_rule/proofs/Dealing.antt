@@ -7,16 +7,19 @@ use native.Mathlib.Decide.{dec_le}
 use lib.ListN.{get_elem?}
 use Rattle.atomic_table.specs.Table.{Allows, Joins, Splits, State, keeps}
 use Rattle.atomic_table.proofs.Lists.{at_set}
+use Rattle.region.specs.declared.access.ReadAccess.{ReadAccess}
 use Rattle.image_rule.specs.declared.view.Frame.{Frame}
 use Rattle.image_rule.specs.declared.view.Held.{Held}
 use Rattle.image_rule.specs.declared.view.Key.{Key}
+use Rattle.image_rule.specs.declared.view.Site.{Site}
 use Rattle.image_rule.specs.declared.view.View.{View}
 use Rattle.image_rule.specs.Frames.{Among, Has, end_of}
-use Rattle.image_rule.specs.Rule.{ImageRuled, Knows, Owners, attending_seat, consumer_place, dealing_seat, findings_seat, greater_each, news_seat, only_at, reader_seat, told_seat}
+use Rattle.image_rule.specs.Rule.{Holds, ImageRuled, Knows, Owners, WordsRuled, attending_seat, consumer_place, dealing_seat, findings_seat, greater_each, news_seat, only_at, reader_seat, told_seat}
 use Rattle.image_rule.specs.Steps.{Confirms, Mine, Settles, told}
 use Rattle.image_rule.specs.Reads.{Meets}
 use Rattle.image_rule.proofs.Standing.{stands_there}
-use Rattle.image_rule.proofs.Staying.{loaded}
+use Rattle.image_rule.proofs.Memory.{core, kept_memory, seat_less, seat_more}
+use Rattle.image_rule.proofs.Moves.{learned}
 
 -- an element of a longer list, with its place
 at_end : {A : Type 0} (l : List A) (a b : A) (j : ℕ) → get_elem? (l ++ a ∷ []) j ≡ some b → (get_elem? l j ≡ some b) ⊎ ((j ≡ length l) × (a ≡ b))
@@ -46,13 +49,11 @@ news_knows key h o words i known seen all few swept = record {
   known = all;
 }
 
-module _ (key : Key) (s : State (Unit {0}) View) (r : ImageRuled key s) (id : ℕ) (v : View) (at : get_elem? s.views id ≡ some v) where
+module _ (key : Key) (s : State ReadAccess View) (hd : Held) (ow : Owners) (r : WordsRuled key s hd ow) (id : ℕ) (v : View) (at : get_elem? s.views id ≡ some v) where
   -- a seat more, with other owners
-  more : (o : Owners) (left right : View) → ((i : ℕ) (u : View) → i ≢ id → i < length s.views → Knows key r.held r.owners s.words i u → Knows key r.held o s.words i u) → Knows key r.held o s.words id left → Knows key r.held o s.words (length s.views) right
-      → ImageRuled key record { words = s.words; homes = s.homes; views = set s.views id left ++ right ∷ [] }
+  more : (o : Owners) (left right : View) → ((i : ℕ) (u : View) → i ≢ id → i < length s.views → Knows key hd ow s.words i u → Knows key hd o s.words i u) → Knows key hd o s.words id left → Knows key hd o s.words (length s.views) right
+      → WordsRuled key (record { words = s.words; homes = s.homes; views = set s.views id left ++ right ∷ [] }) hd o
   more o left right others mine new = record {
-    held = r.held;
-    owners = o;
     is_key = r.is_key;
     sound = r.sound;
     long = r.long;
@@ -60,39 +61,53 @@ module _ (key : Key) (s : State (Unit {0}) View) (r : ImageRuled key s) (id : �
     stands = r.stands;
     each = λ i u e. ⊎_elim
         (λ (t : get_elem? (set s.views id left) i ≡ some u). ⊎_elim
-        (λ p. subst (λ (x : ℕ × View). Knows key r.held o s.words x.0 x.1) (λ k. (sym p.0 k, p.1 k)) mine)
+        (λ p. subst (λ (x : ℕ × View). Knows key hd o s.words x.0 x.1) (λ k. (sym p.0 k, p.1 k)) mine)
         (λ p. others i u p.0 (at_low s.views i u p.1) (r.each i u p.1))
         (at_set s.views id i left u t))
-        (λ p. subst (λ (x : ℕ × View). Knows key r.held o s.words x.0 x.1) (λ k. (sym (p.0 ∙ set_length s.views id left) k, p.1 k)) new)
+        (λ p. subst (λ (x : ℕ × View). Knows key hd o s.words x.0 x.1) (λ k. (sym (p.0 ∙ set_length s.views id left) k, p.1 k)) new)
         (at_end (set s.views id left) right u i e);
   }
 
+-- the words' rule, and the parts are where they were
+with_more : (t : Site) (s : State ReadAccess View) (r : ImageRuled t s) (id : ℕ) (v left right : View) (o : Owners) → get_elem? s.views id ≡ some v → core left.reading ≡ core v.reading → (Holds right → ⊥) → WordsRuled t.key (record { words = s.words; homes = s.homes; views = set s.views id left ++ right ∷ [] }) r.held o → ImageRuled t record { words = s.words; homes = s.homes; views = set s.views id left ++ right ∷ [] }
+with_more t s r id v left right o at same none' words = record {
+  held = r.held;
+  owners = o;
+  rounds = r.rounds;
+  words = words;
+  memory = kept_memory t s r.held r.owners r.words r.rounds r.memory s.words (set s.views id left ++ right ∷ []) r.held (seat_more t s r.held r.owners r.words r.rounds r.memory id v left right at same none') record { further = λ j lt. omega arith; got = refl; freed = refl; out = refl; floor = inl refl };
+}
+
+-- who reads nothing has no part
+no_reader : (known : List Frame) (seen : List ℕ) → Holds (news_seat known seen) → ⊥
+no_reader known seen has = suc-ne-zero 0 (sym has.reads)
+
 -- ---- a reader is dealt
 
-module _ (key : Key) (s : State (Unit {0}) View) (r : ImageRuled key s) (id : ℕ) (v : View) (at : get_elem? s.views id ≡ some v) (number : ℕ) (some_left : v.undealt ≡ suc number) where
+module _ (key : Key) (s : State ReadAccess View) (hd : Held) (ow : Owners) (r : WordsRuled key s hd ow) (id : ℕ) (v : View) (at : get_elem? s.views id ≡ some v) (number : ℕ) (some_left : v.undealt ≡ suc number) where
   abbrev owners : Owners
-  owners = record { inserter = r.owners.inserter; sits = λ j. cond (j == number) (length s.views) (r.owners.sits j) }
+  owners = record { inserter = ow.inserter; sits = λ j. cond (j == number) (length s.views) (ow.sits j) }
 
   sits_new : (j : ℕ) → j ≡ number → owners.sits j ≡ length s.views
-  sits_new j e = ap (λ b. cond b (length s.views) (r.owners.sits j)) (eq-eqb j number e)
+  sits_new j e = ap (λ b. cond b (length s.views) (ow.sits j)) (eq-eqb j number e)
 
-  sits_old : (j : ℕ) → j ≢ number → owners.sits j ≡ r.owners.sits j
-  sits_old j ne = ap (λ b. cond b (length s.views) (r.owners.sits j)) (ne_eqb j number ne)
+  sits_old : (j : ℕ) → j ≢ number → owners.sits j ≡ ow.sits j
+  sits_old j ne = ap (λ b. cond b (length s.views) (ow.sits j)) (ne_eqb j number ne)
 
-  k : Knows key r.held r.owners s.words id v
+  k : Knows key hd ow s.words id v
   k = r.each id v at
 
-  other : (i : ℕ) (u : View) → i ≢ id → i < length s.views → Knows key r.held r.owners s.words i u → Knows key r.held owners s.words i u
+  other : (i : ℕ) (u : View) → i ≢ id → i < length s.views → Knows key hd ow s.words i u → Knows key hd owners s.words i u
   other i u ne lt q = let mine = (k.deals number (omega arith)).seat in record {
     inserts = λ one. (let a = q.inserts one in record { seat = a.seat; held = a.held; seen = a.seen; looks = a.looks });
     few = q.few;
     swept = q.swept;
-    reads = λ one. (let a = q.reads one in record { inside = a.inside; seat = sits_old u.reading.number (λ e. ne (sym a.seat ∙ ap r.owners.sits e ∙ mine)) ∙ a.seat; position = a.position; dealt = a.dealt });
-    deals = λ j l. (let a = q.deals j l in record { inside = a.inside; seat = sits_old j (λ e. ne (sym a.seat ∙ ap r.owners.sits e ∙ mine)) ∙ a.seat; position = a.position });
+    reads = λ one. (let a = q.reads one in record { inside = a.inside; seat = sits_old u.reading.number (λ e. ne (sym a.seat ∙ ap ow.sits e ∙ mine)) ∙ a.seat; position = a.position; dealt = a.dealt });
+    deals = λ j l. (let a = q.deals j l in record { inside = a.inside; seat = sits_old j (λ e. ne (sym a.seat ∙ ap ow.sits e ∙ mine)) ∙ a.seat; position = a.position });
     known = q.known;
   }
 
-  dealer : Knows key r.held owners s.words id (dealing_seat v)
+  dealer : Knows key hd owners s.words id (dealing_seat v)
   dealer = record {
     inserts = λ one. (let a = k.inserts one in record { seat = a.seat; held = a.held; seen = a.seen; looks = a.looks });
     few = k.few;
@@ -102,7 +117,7 @@ module _ (key : Key) (s : State (Unit {0}) View) (r : ImageRuled key s) (id : �
     known = k.known;
   }
 
-  dealt : Knows key r.held owners s.words (length s.views) (reader_seat key.join v)
+  dealt : Knows key hd owners s.words (length s.views) (reader_seat key.join v)
   dealt = let n : v.undealt - 1 ≡ number = omega arith in let a = k.deals (v.undealt - 1) (omega arith) in record {
     inserts = λ one. absurd (suc-ne-zero 0 (sym one));
     few = omega arith;
@@ -112,16 +127,17 @@ module _ (key : Key) (s : State (Unit {0}) View) (r : ImageRuled key s) (id : �
     known = λ f b. absurd b;
   }
 
-pub deal : (key : Key) (id : ℕ) (v : View) (number unit : ℕ) → v.undealt ≡ suc number → unit ≡ key.join → Splits (ImageRuled key) id v (dealing_seat v) (reader_seat unit v)
-deal key id v number unit left is s r at = subst (λ (x : ℕ). ImageRuled key record { words = s.words; homes = s.homes; views = set s.views id (dealing_seat v) ++ reader_seat x v ∷ [] }) (sym is)
-    (more key s r id v at (owners key s r id v at number left) (dealing_seat v) (reader_seat key.join v) (other key s r id v at number left) (dealer key s r id v at number left) (dealt key s r id v at number left))
+pub deal : (t : Site) (id : ℕ) (v : View) (number unit : ℕ) → v.undealt ≡ suc number → unit ≡ t.key.join → Splits (ImageRuled t) id v (dealing_seat v) (reader_seat unit v)
+deal t id v number unit left is s r at = let key = t.key in let hd = r.held in let ow = r.owners in let rw = r.words in subst (λ (x : ℕ). ImageRuled t record { words = s.words; homes = s.homes; views = set s.views id (dealing_seat v) ++ reader_seat x v ∷ [] }) (sym is)
+    (with_more t s r id v (dealing_seat v) (reader_seat key.join v) (owners key s hd ow rw id v at number left) at refl (λ has. suc-ne-zero 0 (sym has.holds))
+    (more key s hd ow rw id v at (owners key s hd ow rw id v at number left) (dealing_seat v) (reader_seat key.join v) (other key s hd ow rw id v at number left) (dealer key s hd ow rw id v at number left) (dealt key s hd ow rw id v at number left)))
 
 -- ---- what one knows is told to another
 
 -- what the inserter stored, and where it saw the consumers
-pub news : (key : Key) (id : ℕ) (v : View) → v.inserting ≡ 1 → Splits (ImageRuled key) id v v (news_seat v.held.got v.seen)
-news key id v one s r at = let k = r.each id v at in more key s r id v at r.owners v (news_seat v.held.got v.seen) (λ i u ne lt q. q) k
-    (news_knows key r.held r.owners s.words (length s.views) v.held.got v.seen (λ f a. subst (λ (h : Held). Among f h.got) (k.inserts one).held a) k.few k.swept)
+pub news : (t : Site) (id : ℕ) (v : View) → v.inserting ≡ 1 → Splits (ImageRuled t) id v v (news_seat v.held.got v.seen)
+news t id v one s r at = let key = t.key in let hd = r.held in let ow = r.owners in let rw = r.words in let k = rw.each id v at in with_more t s r id v v (news_seat v.held.got v.seen) ow at refl (no_reader v.held.got v.seen) (more key s hd ow rw id v at ow v (news_seat v.held.got v.seen) (λ i u ne lt q. q) k
+    (news_knows key hd ow s.words (length s.views) v.held.got v.seen (λ f a. subst (λ (h : Held). Among f h.got) (k.inserts one).held a) k.few k.swept))
 
 only_length : (n unit : ℕ) → length (only_at n unit) ≡ suc n
 only_length zero unit = refl
@@ -143,11 +159,11 @@ only_swept words n unit le j lt =
     subst (λ (x : ℕ). 32 * slice_index (only_at n unit) j ≤ slice_index words (consumer_place x)) d (only_low words n unit 0 (subst (λ (x : ℕ). 32 * unit ≤ slice_index words (consumer_place x)) e le) j lt)
 
 -- what a reader knows, and where it stands
-pub findings : (key : Key) (id : ℕ) (v : View) → v.reading.reads ≡ 1 → Splits (ImageRuled key) id v v (findings_seat v)
-findings key id v one s r at = let k = r.each id v at in let a = k.reads one in more key s r id v at r.owners v (findings_seat v) (λ i u ne lt q. q) k
-    (news_knows key r.held r.owners s.words (length s.views) v.reading.known (only_at v.reading.number v.reading.unit) k.known
+pub findings : (t : Site) (id : ℕ) (v : View) → v.reading.reads ≡ 1 → Splits (ImageRuled t) id v v (findings_seat v)
+findings t id v one s r at = let key = t.key in let hd = r.held in let ow = r.owners in let rw = r.words in let k = rw.each id v at in let a = k.reads one in with_more t s r id v v (findings_seat v) ow at refl (no_reader v.reading.known (only_at v.reading.number v.reading.unit)) (more key s hd ow rw id v at ow v (findings_seat v) (λ i u ne lt q. q) k
+    (news_knows key hd ow s.words (length s.views) v.reading.known (only_at v.reading.number v.reading.unit) k.known
     (let l = only_length v.reading.number v.reading.unit in let i = a.inside in omega arith)
-    (only_swept s.words v.reading.number v.reading.unit (let p = a.position in omega arith)))
+    (only_swept s.words v.reading.number v.reading.unit (let p = a.position in omega arith))))
 
 among_both : (f : Frame) (a b : List Frame) → Among f (a ++ b) → Among f a ⊎ Among f b
 among_both f [] b h = inr h
@@ -158,42 +174,50 @@ pub among_right : (f : Frame) (a b : List Frame) → Among f b → Among f (a ++
 among_right f [] b h = h
 among_right f (x ∷ xs) b h = inr (among_right f xs b h)
 
-module _ (key : Key) (s : State (Unit {0}) View) (r : ImageRuled key s) (id : ℕ) (v : View) (other : ℕ) (w b : View) (at : get_elem? s.views id ≡ some v) (apart : ¬ (other ≡ id)) (there : get_elem? (set s.views id b) other ≡ some w) where
+module _ (key : Key) (s : State ReadAccess View) (hd : Held) (ow : Owners) (r : WordsRuled key s hd ow) (id : ℕ) (v : View) (other : ℕ) (w b : View) (at : get_elem? s.views id ≡ some v) (apart : ¬ (other ≡ id)) (there : get_elem? (set s.views id b) other ≡ some w) where
   -- what the other knows
-  theirs : Knows key r.held r.owners s.words other w
+  theirs : Knows key hd ow s.words other w
   theirs = ⊎_elim (λ p. absurd (apart p.0)) (λ p. r.each other w p.1) (at_set s.views id other b w there)
 
   -- a seat less
-  less : Knows key r.held r.owners s.words id b → ImageRuled key record { words = s.words; homes = s.homes; views = set (set s.views id b) other (news_seat [] []) }
+  less : Knows key hd ow s.words id b → WordsRuled key (record { words = s.words; homes = s.homes; views = set (set s.views id b) other (news_seat [] []) }) hd ow
   less mine = record {
-    held = r.held;
-    owners = r.owners;
     is_key = r.is_key;
     sound = r.sound;
     long = r.long;
     mirrors = r.mirrors;
     stands = r.stands;
     each = λ i u e. ⊎_elim
-        (λ p. subst (λ (x : ℕ × View). Knows key r.held r.owners s.words x.0 x.1) (λ j. (sym p.0 j, p.1 j)) (news_knows key r.held r.owners s.words other [] [] (λ f a. absurd a) (omega arith) (λ j lt. absurd (omega arith))))
+        (λ p. subst (λ (x : ℕ × View). Knows key hd ow s.words x.0 x.1) (λ j. (sym p.0 j, p.1 j)) (news_knows key hd ow s.words other [] [] (λ f a. absurd a) (omega arith) (λ j lt. absurd (omega arith))))
         (λ p. ⊎_elim
-        (λ q. subst (λ (x : ℕ × View). Knows key r.held r.owners s.words x.0 x.1) (λ j. (sym q.0 j, q.1 j)) mine)
+        (λ q. subst (λ (x : ℕ × View). Knows key hd ow s.words x.0 x.1) (λ j. (sym q.0 j, q.1 j)) mine)
         (λ q. r.each i u q.1)
         (at_set s.views id i b u p.1))
         (at_set (set s.views id b) other i (news_seat [] []) u e);
   }
 
--- a seat that isn't the inserter's is told
-pub tells : (key : Key) (id : ℕ) (v : View) (other : ℕ) (w : View) → v.inserting ≢ 1 → Joins (ImageRuled key) id v other w (told_seat v w) (news_seat [] [])
-tells key id v other w not_one s r at apart there =
-    let k = r.each id v at in let t = theirs key s r id v other w (told_seat v w) at apart there in
-    less key s r id v other w (told_seat v w) at apart there record {
+with_less : (t : Site) (s : State ReadAccess View) (r : ImageRuled t s) (id : ℕ) (v : View) (other : ℕ) (w b : View) → get_elem? s.views id ≡ some v → get_elem? (set s.views id b) other ≡ some w → core b.reading ≡ core v.reading → (Holds w → ⊥) → WordsRuled t.key (record { words = s.words; homes = s.homes; views = set (set s.views id b) other (news_seat [] []) }) r.held r.owners → ImageRuled t record { words = s.words; homes = s.homes; views = set (set s.views id b) other (news_seat [] []) }
+with_less t s r id v other w b at there same none' words = record {
+  held = r.held;
+  owners = r.owners;
+  rounds = r.rounds;
+  words = words;
+  memory = kept_memory t s r.held r.owners r.words r.rounds r.memory s.words (set (set s.views id b) other (news_seat [] [])) r.held (seat_less t s r.held r.owners r.words r.rounds r.memory id v b other w (news_seat [] []) at same there none' (no_reader [] [])) record { further = λ j lt. omega arith; got = refl; freed = refl; out = refl; floor = inl refl };
+}
+
+-- a seat that isn't the inserter's is told by one that reads nothing
+pub tells : (t : Site) (id : ℕ) (v : View) (other : ℕ) (w : View) → v.inserting ≢ 1 → w.reading.reads ≡ 0 → Joins (ImageRuled t) id v other w (told_seat v w) (news_seat [] [])
+tells z id v other w not_one none' s r at apart there =
+    let key = z.key in let hd = r.held in let ow = r.owners in let rw = r.words in
+    let k = rw.each id v at in let t = theirs key s hd ow rw id v other w (told_seat v w) at apart there in
+    with_less z s r id v other w (told_seat v w) at there refl (λ has. suc-ne-zero 0 (sym has.reads ∙ none')) (less key s hd ow rw id v other w (told_seat v w) at apart there record {
       inserts = λ one. absurd (not_one one);
       few = t.few;
       swept = t.swept;
       reads = λ one. (let a = k.reads one in record { inside = a.inside; seat = a.seat; position = a.position; dealt = a.dealt });
       deals = k.deals;
       known = λ f b. ⊎_elim (λ (c : Among f v.reading.known). k.known f c) (λ (c : Among f w.reading.known). t.known f c) (among_both f v.reading.known w.reading.known b);
-    }
+    })
 
 greater_length : (xs ys : List ℕ) → length (greater_each xs ys) ≡ length xs
 greater_length [] ys = refl
@@ -221,17 +245,18 @@ greater_swept xs ys words a b j lt =
     subst (λ (q : ℕ). 32 * slice_index (greater_each xs ys) j ≤ slice_index words (consumer_place q)) d (greater_low xs ys words 0 (on xs a) (on ys b) j lt)
 
 -- the inserter is told
-pub attends : (key : Key) (id : ℕ) (v : View) (other : ℕ) (w : View) → Joins (ImageRuled key) id v other w (attending_seat v w) (news_seat [] [])
-attends key id v other w s r at apart there =
-    let k = r.each id v at in let b : View = attending_seat v w in let t = theirs key s r id v other w b at apart there in let long = greater_length v.seen w.seen in
-    less key s r id v other w b at apart there record {
+pub attends : (t : Site) (id : ℕ) (v : View) (other : ℕ) (w : View) → w.reading.reads ≡ 0 → Joins (ImageRuled t) id v other w (attending_seat v w) (news_seat [] [])
+attends z id v other w none' s r at apart there =
+    let key = z.key in let hd = r.held in let ow = r.owners in let rw = r.words in
+    let k = rw.each id v at in let b : View = attending_seat v w in let t = theirs key s hd ow rw id v other w b at apart there in let long = greater_length v.seen w.seen in
+    with_less z s r id v other w b at there refl (λ has. suc-ne-zero 0 (sym has.reads ∙ none')) (less key s hd ow rw id v other w b at apart there record {
       inserts = λ one. (let a = k.inserts one in record { seat = a.seat; held = a.held; seen = long ∙ a.seen; looks = a.looks });
       few = (let f = k.few in omega arith);
       swept = greater_swept v.seen w.seen s.words k.swept t.swept;
       reads = λ one. (let a = k.reads one in record { inside = a.inside; seat = a.seat; position = a.position; dealt = a.dealt });
       deals = k.deals;
       known = λ f c. ⊎_elim (λ (d : Among f v.reading.known). k.known f d) (λ (d : Among f w.reading.known). t.known f d) (among_both f v.reading.known w.reading.known c);
-    }
+    })
 
 -- what was told of a reader, where it says where it stands
 pub greater_only : (xs : List ℕ) (n unit : ℕ) → slice_index xs n ≤ unit → greater_each xs (only_at n unit) ≡ set xs n unit
@@ -246,32 +271,34 @@ past (x ∷ xs) zero le = absurd (omega arith)
 past (x ∷ xs) (suc n) le = past xs n (omega arith)
 
 -- a reader finds that it stands where it was seen, or further on
-pub settle : (key : Key) (slots id i : ℕ) (m : Mine) → m.0.reading.reads ≡ 1 → Allows (ImageRuled key) slots id m i (λ n. n) (told (λ v _ w. Settles v w) m)
-settle key slots id i m one s r homes at fits =
-    let v : View = m.0 in let k = r.each id v at in let a = k.reads one in (
+pub settle : (t : Site) (slots id i : ℕ) (m : Mine) → m.0.reading.reads ≡ 1 → Allows (ImageRuled t) slots id m i (λ n. n) (told (λ v _ w. Settles v w) m)
+settle t slots id i m one s r homes at fits =
+    let key = t.key in let hd = r.held in let ow = r.owners in let rw = r.words in
+    let v : View = m.0 in let k = rw.each id v at in let a = k.reads one in (
       v,
       keeps,
       tt,
-      loaded key s r id i v k,
-      (refl, record { further = dite (dec_le (length v.seen) v.reading.number) (λ le. let z = past v.seen v.reading.number le in omega arith) (λ gt. let b = k.swept v.reading.number (omega arith) in let p = a.position in omega arith); edge = λ f known below. (stands_there key s r v.reading.number v.reading.unit a.inside a.position).edge f (k.known f known) below; after = refl }),
+      learned t s r id i v v at refl k,
+      (refl, record { further = dite (dec_le (length v.seen) v.reading.number) (λ le. let z = past v.seen v.reading.number le in omega arith) (λ gt. let b = k.swept v.reading.number (omega arith) in let p = a.position in omega arith); edge = λ f known below. (stands_there key s hd ow rw v.reading.number v.reading.unit a.inside a.position).edge f (k.known f known) below; after = refl }),
     )
 
 -- all up to where a consumer was seen was stored
-up_to : (key : Key) (s : State (Unit {0}) View) (r : ImageRuled key s) (id : ℕ) (v : View) → Knows key r.held r.owners s.words id v → v.held ≡ r.held → (j u : ℕ) → j < length v.seen → v.held.floor ≤ u → u < slice_index v.seen j → Has v.held.got u
-up_to key s r id v k mine j u lt from below =
+up_to : (key : Key) (s : State ReadAccess View) (hd : Held) (ow : Owners) (r : WordsRuled key s hd ow) (id : ℕ) (v : View) → Knows key hd ow s.words id v → v.held ≡ hd → (j u : ℕ) → j < length v.seen → v.held.floor ≤ u → u < slice_index v.seen j → Has v.held.got u
+up_to key s hd ow r id v k mine j u lt from below =
     let w = k.swept j lt in let few = k.few in let a = r.stands j (omega arith) in let at = a.is in let joined = r.sound.joined in
-    let over : r.held.floor ≤ u = subst (λ (h : Held). h.floor ≤ u) mine from in
+    let over : hd.floor ≤ u = subst (λ (h : Held). h.floor ≤ u) mine from in
     subst (λ (h : Held). Has h.got u) (sym mine) (a.stands.reached u (omega arith) (omega arith))
 
 -- the inserter finds that what it knows was stored by it
-pub confirm : (key : Key) (slots id i : ℕ) (m : Mine) → m.0.inserting ≡ 1 → Allows (ImageRuled key) slots id m i (λ n. n) (told (λ v _ w. Confirms v w) m)
-confirm key slots id i m one s r homes at fits =
-    let v : View = m.0 in let k = r.each id v at in (
+pub confirm : (t : Site) (slots id i : ℕ) (m : Mine) → m.0.inserting ≡ 1 → Allows (ImageRuled t) slots id m i (λ n. n) (told (λ v _ w. Confirms v w) m)
+confirm t slots id i m one s r homes at fits =
+    let key = t.key in let hd = r.held in let ow = r.owners in let rw = r.words in
+    let v : View = m.0 in let k = rw.each id v at in (
       v,
       keeps,
       tt,
-      loaded key s r id i v k,
-      (refl, record { stored = λ f a. subst (λ (h : Held). Among f h.got) (sym (k.inserts one).held) (k.known f a); reached = up_to key s r id v k (k.inserts one).held; after = refl }),
+      learned t s r id i v v at refl k,
+      (refl, record { stored = λ f a. subst (λ (h : Held). Among f h.got) (sym (k.inserts one).held) (k.known f a); reached = up_to key s hd ow rw id v k (k.inserts one).held; after = refl }),
     )
 
 -- ---- the six steps by which an inserter and a reader meet

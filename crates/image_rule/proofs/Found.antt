@@ -4,7 +4,7 @@ use Rattle.image_rule.specs.declared.view.Frame.{Frame}
 use Rattle.image_rule.specs.declared.view.View.{View}
 use Rattle.image_rule.specs.Frames.{Among, end_of}
 use Rattle.image_rule.specs.Reads.{IsFound, IsRead, first_of}
-use Rattle.image_rule.specs.Steps.{FindsFrame, MayMove, MayReread}
+use Rattle.image_rule.specs.Steps.{FindsFrame, IsBefore}
 
 pub first_among : (known : List Frame) → 0 < length known → Among (first_of known) known
 first_among [] some' = absurd (omega arith)
@@ -14,11 +14,8 @@ first_among (f ∷ fs) some' = inl refl
 pub found_now : (v w : View) → v.reading.reads ≡ 1 → FindsFrame v w → IsFound w
 found_now v w one f = subst IsFound (sym f.after) record { reads = one; some = omega arith; here = f.here; low = f.low; says = f.says }
 
-pub may_reread : (w : View) (i : ℕ) → IsFound w → i < length (first_of w.reading.known).words → MayReread (first_of w.reading.known) i w
-may_reread w i f lt = record { reads = f.reads; known = first_among w.reading.known f.some; from = (let e = f.here in omega arith); inside = lt }
-
-pub may_move : (w : View) (end : ℕ) → w.reading.reads ≡ 1 → IsRead w end → MayMove (first_of w.reading.known) w
-may_move w end one r = record { reads = one; known = first_among w.reading.known r.some; here = r.here }
+pub is_before : (w : View) (end : ℕ) → w.reading.reads ≡ 1 → IsRead w end → IsBefore (first_of w.reading.known) w
+is_before w end one r = record { reads = one; known = first_among w.reading.known r.some; here = r.here }
 
 -- what a reader has read stays, where it learns of more frames
 pub read_on : (v w : View) (end : ℕ) (more : List Frame) → w.reading.known ≡ v.reading.known ++ more → w.reading.unit ≡ v.reading.unit → IsRead v end → IsRead w end

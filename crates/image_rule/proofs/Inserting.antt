@@ -3,34 +3,24 @@ use Rattle.std.proofs.Common.{◌≡◌, ℕ, suc, ◌+◌, ◌*◌, ◌<◌, �
 use Rattle.std.specs.Prelude.{slice_index}
 use mathlib.Core.Logic.{dite}
 use native.Mathlib.Decide.{ℕ_discrete}
-use Rattle.atomic_table.specs.Table.{Allows, State, keeps}
+use Rattle.atomic_table.specs.Table.{State}
+use Rattle.region.specs.declared.access.ReadAccess.{ReadAccess}
 use Rattle.image_rule.specs.declared.view.Frame.{Frame}
 use Rattle.image_rule.specs.declared.view.Held.{Held}
 use Rattle.image_rule.specs.declared.view.Key.{Key}
 use Rattle.image_rule.specs.declared.view.View.{View}
 use Rattle.image_rule.specs.Frames.{Among, image_length, ring}
-use Rattle.image_rule.specs.Rule.{ImageRuled, Inserts, Knows, Sound, Stands, StandsAt, consumer_place, image_place}
-use Rattle.image_rule.specs.Steps.{Changes, Fetches, May, Mine, Sweeps, changed, told}
+use Rattle.image_rule.specs.Rule.{Inserts, Knows, Owners, Sound, Stands, StandsAt, WordsRuled, consumer_place, image_place}
+use Rattle.image_rule.specs.Steps.{May, Sweeps, changed}
 use Rattle.image_rule.proofs.Staying.{after, loaded}
-
--- the inserter loads a word of the image
-pub fetch : (key : Key) (slots id : ℕ) (m : Mine) (k : ℕ) → m.0.inserting ≡ 1 → k < image_length (ring key) → Allows (ImageRuled key) slots id m (image_place + k) (λ n. n) (told (Fetches k) m)
-fetch key slots id m k one inside s r homes at fits =
-    let v : View = m.0 in let kn = r.each id v at in let mine = kn.inserts one in (
-      v,
-      keeps,
-      tt,
-      loaded key s r id (image_place + k) v kn,
-      (refl, (r.mirrors k inside ∙ ap (λ (h : Held). slice_index h.words k) (sym mine.held), refl)),
-    )
 
 -- ---- it looks at a consumer
 
-module _ (key : Key) (s : State (Unit {0}) View) (r : ImageRuled key s) (id : ℕ) (v : View) (k : Knows key r.held r.owners s.words id v) (one : v.inserting ≡ 1) (j : ℕ) (inside : j < key.consumers) where
-  abbrev at : StandsAt key r.held (slice_index s.words (consumer_place j))
+module _ (key : Key) (s : State ReadAccess View) (hd : Held) (ow : Owners) (r : WordsRuled key s hd ow) (id : ℕ) (v : View) (k : Knows key hd ow s.words id v) (one : v.inserting ≡ 1) (j : ℕ) (inside : j < key.consumers) where
+  abbrev pub at : StandsAt key hd (slice_index s.words (consumer_place j))
   at = r.stands j inside
 
-  abbrev after_look : View
+  abbrev pub after_look : View
   after_look = record v { seen = set v.seen j at.unit; looks = set v.looks j (suc (slice_index v.looks j)) }
 
   short : j < length v.seen
@@ -41,7 +31,7 @@ module _ (key : Key) (s : State (Unit {0}) View) (r : ImageRuled key s) (id : �
       (λ e. let a : slice_index (set v.seen j at.unit) i ≡ at.unit = ap (slice_index (set v.seen j at.unit)) e ∙ get_or-set_same v.seen j at.unit 0 short in let b : slice_index s.words (consumer_place i) ≡ 32 * at.unit = ap (λ (x : ℕ). slice_index s.words (consumer_place x)) e ∙ at.is in omega arith)
       (λ ne. let a : slice_index (set v.seen j at.unit) i ≡ slice_index v.seen i = get_or-set_other v.seen j i at.unit 0 ne in let l = length-set v.seen j at.unit in let b = k.swept i (omega arith) in omega arith)
 
-  pub look_knows : Knows key r.held r.owners s.words id after_look
+  pub look_knows : Knows key hd ow s.words id after_look
   look_knows = record {
     inserts = λ y. (let a = k.inserts one in record { seat = a.seat; held = a.held; seen = length-set v.seen j at.unit ∙ a.seen; looks = length-set v.looks j (suc (slice_index v.looks j)) ∙ a.looks });
     few = (let l = length-set v.seen j at.unit in let f = k.few in omega arith);
@@ -63,36 +53,25 @@ module _ (key : Key) (s : State (Unit {0}) View) (r : ImageRuled key s) (id : �
         after = refl;
       }
 
--- the inserter loads the position of a consumer
-pub sweep : (key : Key) (slots id : ℕ) (m : Mine) (j : ℕ) → m.0.inserting ≡ 1 → j < key.consumers → Allows (ImageRuled key) slots id m (consumer_place j) (λ n. n) (told (Sweeps j) m)
-sweep key slots id m j one inside s r homes at fits =
-    let v : View = m.0 in let k = r.each id v at in (
-      after_look key s r id v k one j inside,
-      keeps,
-      tt,
-      loaded key s r id (consumer_place j) (after_look key s r id v k one j inside) (look_knows key s r id v k one j inside),
-      (refl, look_tells key s r id v k one j inside),
-    )
-
 -- ---- it stores
 
-module _ (key : Key) (s : State (Unit {0}) View) (r : ImageRuled key s) (id : ℕ) (v : View) (k : Knows key r.held r.owners s.words id v) (i x floor : ℕ) (got : List Frame) (inside : i < image_length (ring key)) (may : May key v i x floor got) where
-  abbrev words : List ℕ
+module _ (key : Key) (s : State ReadAccess View) (hd : Held) (ow : Owners) (r : WordsRuled key s hd ow) (id : ℕ) (v : View) (k : Knows key hd ow s.words id v) (i x floor : ℕ) (got : List Frame) (inside : i < image_length (ring key)) (may : May key v i x floor got) where
+  abbrev pub words : List ℕ
   words = set s.words (image_place + i) x
 
-  abbrev held : Held
+  abbrev pub held : Held
   held = changed v.held i x floor got
 
-  abbrev after_store : View
+  abbrev pub after_store : View
   after_store = record v { held = held }
 
-  mine : Inserts key r.held r.owners id v
+  mine : Inserts key hd ow id v
   mine = k.inserts may.inserts
 
   sound_before : Sound key v.held
   sound_before = subst (Sound key) (sym mine.held) r.sound
 
-  low : (j : ℕ) → j < key.consumers → slice_index words (consumer_place j) ≡ slice_index s.words (consumer_place j)
+  pub low : (j : ℕ) → j < key.consumers → slice_index words (consumer_place j) ≡ slice_index s.words (consumer_place j)
   low j lt = let few = r.is_key.few in get_or-set_other s.words (image_place + i) (consumer_place j) x 0 (λ e. omega arith)
 
   mirrored : (q : ℕ) → q < image_length (ring key) → slice_index words (image_place + q) ≡ slice_index held.words q
@@ -104,7 +83,7 @@ module _ (key : Key) (s : State (Unit {0}) View) (r : ImageRuled key s) (id : �
       (λ ne. get_or-set_other s.words (image_place + i) (image_place + q) x 0 (λ e. ne (omega arith)) ∙ r.mirrors q lt ∙ ap (λ (h : Held). slice_index h.words q) (sym mine.held) ∙ sym (get_or-set_other v.held.words i q x 0 ne))
 
   -- who stands somewhere isn't below the new floor
-  above : (j : ℕ) → j < key.consumers → (u : ℕ) → slice_index s.words (consumer_place j) ≡ 32 * u → Stands key v.held u → floor ≤ u
+  pub above : (j : ℕ) → j < key.consumers → (u : ℕ) → slice_index s.words (consumer_place j) ≡ 32 * u → Stands key v.held u → floor ≤ u
   above j lt u e st = ⊎_elim
       (λ (same : floor ≡ v.held.floor). let a = st.from in omega arith)
       (λ (seen : (j : ℕ) → j < length v.seen → floor ≤ slice_index v.seen j). let n = mine.seen in let a = seen j (omega arith) in let b = k.swept j (omega arith) in omega arith)
@@ -114,11 +93,11 @@ module _ (key : Key) (s : State (Unit {0}) View) (r : ImageRuled key s) (id : �
   stand j lt = let a = r.stands j lt in let st : Stands key v.held a.unit = subst (λ (h : Held). Stands key h a.unit) (sym mine.held) a.stands in
       record { unit = a.unit; is = a.is; stands = may.stands sound_before a.unit st (above j lt a.unit a.is st) }
 
-  grow : (f : Frame) → Among f r.held.got → Among f got
+  grow : (f : Frame) → Among f hd.got → Among f got
   grow f a = may.grows f (subst (λ (h : Held). Among f h.got) (sym mine.held) a)
 
-  pub stored_rule : ImageRuled key record { words = words; homes = s.homes; views = set s.views id after_store }
-  stored_rule = after key s r id words held after_store record {
+  pub stored_rule : WordsRuled key (record { words = words; homes = s.homes; views = set s.views id after_store }) held ow
+  stored_rule = after key s hd ow r id words held after_store record {
     leaves = record { grows = grow; same = inr mine.seat; further = λ j lt. (let e = low j lt in omega arith); still = λ j lt ne. low j lt };
     sound = may.sound sound_before;
     long = length-set s.words (image_place + i) x;
@@ -133,14 +112,3 @@ module _ (key : Key) (s : State (Unit {0}) View) (r : ImageRuled key s) (id : �
       known = λ f a. grow f (k.known f a);
     };
   }
-
--- the inserter stores a word of the image
-pub change : (key : Key) (slots id : ℕ) (m : Mine) (i x floor : ℕ) (got : List Frame) → i < image_length (ring key) → May key m.0 i x floor got → Allows (ImageRuled key) slots id m (image_place + i) (λ _. x) (λ _. told (λ v n w. Changes i n floor got v w) m x)
-change key slots id m i x floor got inside may s r homes at fits =
-    let v : View = m.0 in let k = r.each id v at in (
-      after_store key s r id v k i x floor got inside may,
-      keeps,
-      tt,
-      stored_rule key s r id v k i x floor got inside may,
-      (refl, refl),
-    )

@@ -8,9 +8,13 @@ pub mod Runs
 pub mod Starts
 pub mod Storing
 pub mod Clearing
+pub mod Memory
+pub mod Moves
+pub mod Slots
 pub mod Opening
 pub mod Dealing
 pub mod Found
 pub mod Units
 pub mod Events
 pub mod MissRows
+pub mod Saying

@@ -3,10 +3,11 @@ use Rattle.std.proofs.Common.{◌≡◌, [], refl}
 use Rattle.image_rule.specs.declared.view.View.{View}
 use Rattle.image_rule.specs.Steps.{moved_to, with_known, with_miss}
 use Rattle.image_rule.specs.Reads.{no_frame}
+use Rattle.image_rule.specs.Rule.{empty_held, no_reading}
 
 -- a reader at unit 5 that has missed twice
 abbrev reader : View
-reader = record { inserting = 0; held = record { floor = 0; got = []; words = [] }; seen = []; looks = []; undealt = 0; reading = record { reads = 1; number = 0; unit = 5; misses = 2; known = [] } }
+reader = record { inserting = 0; held = empty_held; seen = []; looks = []; undealt = 0; reading = record no_reading { reads = 1; unit = 5; misses = 2 } }
 
 -- it has missed a third time, and nothing else is different
 miss_row : with_miss reader ≡ record reader { reading = record reader.reading { misses = 3 } }

@@ -5,32 +5,33 @@ use Rattle.std.specs.Int.{bit_at}
 use Rattle.std.proofs.lemmas.Nat.Bits.{bit_at-lt}
 use mathlib.Core.Logic.{dite}
 use native.Mathlib.Decide.{dec_le, ℕ_discrete}
-use Rattle.atomic_table.specs.Table.{Allows, State, keeps}
+use Rattle.atomic_table.specs.Table.{State}
+use Rattle.region.specs.declared.access.ReadAccess.{ReadAccess}
 use Rattle.image_rule.specs.declared.view.Frame.{Frame}
 use Rattle.image_rule.specs.declared.view.Held.{Held}
 use Rattle.image_rule.specs.declared.view.Key.{Key}
 use Rattle.image_rule.specs.declared.view.View.{View}
-use Rattle.image_rule.specs.Frames.{Among, Has, data_place, end_of, held_place, image_length, ring}
-use Rattle.image_rule.specs.Rule.{ImageRuled, Knows, Sound, Stands, StandsAt, consumer_place, image_place}
-use Rattle.image_rule.specs.Steps.{FindsFrame, Looks, MayMove, MayReread, Mine, Moves, Rereads, moved_to, told, with_known, with_miss}
+use Rattle.image_rule.specs.Frames.{Among, Has, end_of, held_place, image_length, ring}
+use Rattle.image_rule.specs.Rule.{Knows, Owners, Sound, Stands, StandsAt, WordsRuled, consumer_place, image_place}
+use Rattle.image_rule.specs.Steps.{FindsFrame, IsBefore, holding, moved_to, with_known, with_miss}
 use Rattle.image_rule.proofs.Spelt.{says}
 use Rattle.image_rule.proofs.Standing.{begins, bit_shows, contiguous, held_word, stands_there}
 use Rattle.image_rule.proofs.Staying.{after, loaded}
 
-module _ (key : Key) (s : State (Unit {0}) View) (r : ImageRuled key s) (id : ℕ) (v : View) (k : Knows key r.held r.owners s.words id v) where
+module _ (key : Key) (s : State ReadAccess View) (hd : Held) (ow : Owners) (r : WordsRuled key s hd ow) (id : ℕ) (v : View) (k : Knows key hd ow s.words id v) where
   -- what is known of a frame that was stored
-  knows_frame : (f : Frame) → Among f r.held.got → Knows key r.held r.owners s.words id (with_known v f)
-  knows_frame f among = record {
+  pub knows_frame : (f : Frame) (round book : ℕ) → Among f hd.got → Knows key hd ow s.words id (holding (with_known v f) round book)
+  knows_frame f round book among = record {
     inserts = λ one. (let a = k.inserts one in record { seat = a.seat; held = a.held; seen = a.seen; looks = a.looks });
     few = k.few;
     swept = k.swept;
     reads = λ one. (let a = k.reads one in record { inside = a.inside; seat = a.seat; position = a.position; dealt = a.dealt });
     deals = k.deals;
-    known = λ g here. ⊎_elim (λ (e : g ≡ f). subst (λ (x : Frame). Among x r.held.got) (sym e) among) (λ (a : Among g v.reading.known). k.known g a) here;
+    known = λ g here. ⊎_elim (λ (e : g ≡ f). subst (λ (x : Frame). Among x hd.got) (sym e) among) (λ (a : Among g v.reading.known). k.known g a) here;
   }
 
   -- it found none
-  knows_miss : Knows key r.held r.owners s.words id (with_miss v)
+  pub knows_miss : Knows key hd ow s.words id (with_miss v)
   knows_miss = record {
     inserts = λ one. (let a = k.inserts one in record { seat = a.seat; held = a.held; seen = a.seen; looks = a.looks });
     few = k.few;
@@ -41,24 +42,24 @@ module _ (key : Key) (s : State (Unit {0}) View) (r : ImageRuled key s) (id : �
   }
 
   -- two frames that begin at one unit are one
-  one_frame : (f g : Frame) → Among f r.held.got → Among g r.held.got → g.unit ≡ f.unit → g ≡ f
+  pub one_frame : (f g : Frame) → Among f hd.got → Among g hd.got → g.unit ≡ f.unit → g ≡ f
   one_frame f g a b e = let p = r.sound.full f a in let q = r.sound.full g b in r.sound.apart g f f.unit b a (omega arith, omega arith) (omega arith, omega arith)
 
-  found : (one : v.reading.reads ≡ 1) → (n : ℕ) → n ≡ slice_index s.words (image_place + held_place (ring key) v.reading.unit) → bit_at n (v.reading.unit % 64) ≡ 1 → Has r.held.got v.reading.unit
+  pub found : (one : v.reading.reads ≡ 1) → (n : ℕ) → n ≡ slice_index s.words (image_place + held_place (ring key) v.reading.unit) → bit_at n (v.reading.unit % 64) ≡ 1 → Has hd.got v.reading.unit
   found one n e bit =
-      let a = k.reads one in let u : ℕ = v.reading.unit in let st = stands_there key s r v.reading.number u a.inside a.position in
-      bit_shows key r.held u r.is_key r.sound st (ap (λ (x : ℕ). bit_at x (u % 64)) (sym (e ∙ held_word key s r u)) ∙ bit)
+      let a = k.reads one in let u : ℕ = v.reading.unit in let st = stands_there key s hd ow r v.reading.number u a.inside a.position in
+      bit_shows key hd u r.is_key r.sound st (ap (λ (x : ℕ). bit_at x (u % 64)) (sym (e ∙ held_word key s hd ow r u)) ∙ bit)
 
-  missing : (one : v.reading.reads ≡ 1) → (n : ℕ) → n ≡ slice_index s.words (image_place + held_place (ring key) v.reading.unit) → bit_at n (v.reading.unit % 64) ≡ 0 → (g : Frame) → Among g v.reading.known → g.unit ≡ v.reading.unit → ⊥
+  pub missing : (one : v.reading.reads ≡ 1) → (n : ℕ) → n ≡ slice_index s.words (image_place + held_place (ring key) v.reading.unit) → bit_at n (v.reading.unit % 64) ≡ 0 → (g : Frame) → Among g v.reading.known → g.unit ≡ v.reading.unit → ⊥
   missing one n e bit g known at =
-      let a = k.reads one in let u : ℕ = v.reading.unit in let st = stands_there key s r v.reading.number u a.inside a.position in
+      let a = k.reads one in let u : ℕ = v.reading.unit in let st = stands_there key s hd ow r v.reading.number u a.inside a.position in
       let p = r.sound.full g (k.known g known) in
-      contiguous key r.held u r.sound st (ap (λ (x : ℕ). bit_at x (u % 64)) (sym (e ∙ held_word key s r u)) ∙ bit)
+      contiguous key hd u r.sound st (ap (λ (x : ℕ). bit_at x (u % 64)) (sym (e ∙ held_word key s hd ow r u)) ∙ bit)
       record { frame = g; among = k.known g known; covers = (omega arith, omega arith) }
 
-  finds : (one : v.reading.reads ≡ 1) → (has : Has r.held.got v.reading.unit) → FindsFrame v (with_known v has.frame)
-  finds one has =
-      let a = k.reads one in let st = stands_there key s r v.reading.number v.reading.unit a.inside a.position in let b = begins key r.held v.reading.unit st has in record {
+  abbrev pub finds : (one : v.reading.reads ≡ 1) → (has : Has hd.got v.reading.unit) (round book : ℕ) → FindsFrame v (holding (with_known v has.frame) round book)
+  finds one has round book =
+      let a = k.reads one in let st = stands_there key s hd ow r v.reading.number v.reading.unit a.inside a.position in let b = begins key hd v.reading.unit st has in record {
         frame = has.frame;
         here = b;
         low = r.sound.low has.frame has.among;
@@ -66,31 +67,6 @@ module _ (key : Key) (s : State (Unit {0}) View) (r : ImageRuled key s) (id : �
         only = λ g known at. one_frame has.frame g has.among (k.known g known) (at ∙ sym b);
         after = refl;
       }
-
--- a reader loads the word of held bits where it stands
-pub look : (key : Key) (slots id : ℕ) (m : Mine) → m.0.reading.reads ≡ 1 → Allows (ImageRuled key) slots id m (image_place + held_place (ring key) m.0.reading.unit) (λ n. n) (told Looks m)
-look key slots id m one s r homes at fits =
-    let v : View = m.0 in let k = r.each id v at in let i : ℕ = image_place + held_place (ring key) v.reading.unit in let n : ℕ = slice_index s.words i in let b = bit_at-lt n (v.reading.unit % 64) in
-    dite (ℕ_discrete (bit_at n (v.reading.unit % 64)) 1)
-    (λ yes'. let has = found key s r id v k one n refl yes' in
-    (with_known v has.frame, keeps, tt, loaded key s r id i (with_known v has.frame) (knows_frame key s r id v k has.frame has.among), (refl, record { none = λ z. absurd (omega arith); found = λ y. finds key s r id v k one has })))
-    (λ no'. (with_miss v, keeps, tt, loaded key s r id i (with_miss v) (knows_miss key s r id v k), (refl, record { none = λ z. (refl, missing key s r id v k one n refl z); found = λ y. absurd (no' y) })))
-
-data_inside : (key : Key) (x : ℕ) → 0 < (ring key) → data_place (ring key) x < image_length (ring key)
-data_inside key x any = let n : ℕ = 4 * (ring key) in let q : ℕ = x % n in let m : q < n = mod-lt x (omega arith) in omega arith
-
--- a reader loads a word of a frame that it knows
-pub word : (key : Key) (slots id : ℕ) (m : Mine) (f : Frame) (i : ℕ) → MayReread f i m.0 → Allows (ImageRuled key) slots id m (image_place + data_place (ring key) (4 * f.unit + i)) (λ n. n) (told (Rereads f i) m)
-word key slots id m f i may s r homes at fits =
-    let v : View = m.0 in let k = r.each id v at in let a = k.reads may.reads in let st = stands_there key s r v.reading.number v.reading.unit a.inside a.position in let among = k.known f may.known in
-    let from : r.held.floor ≤ f.unit = (let p = st.from in let q = may.from in omega arith) in
-    let place : ℕ = data_place (ring key) (4 * f.unit + i) in (
-      v,
-      keeps,
-      tt,
-      loaded key s r id (image_place + place) v k,
-      (refl, (r.mirrors place (data_inside key (4 * f.unit + i) r.is_key.some) ∙ r.sound.shown f among from i may.inside, refl)),
-    )
 
 -- ---- a reader moves on
 
@@ -104,7 +80,7 @@ next_stand key h f s among st = record {
       (λ gt. let e = st.edge g here (omega arith) in omega arith);
 }
 
-module _ (key : Key) (s : State (Unit {0}) View) (r : ImageRuled key s) (id : ℕ) (v : View) (k : Knows key r.held r.owners s.words id v) (f : Frame) (may : MayMove f v) where
+module _ (key : Key) (s : State ReadAccess View) (hd : Held) (ow : Owners) (r : WordsRuled key s hd ow) (id : ℕ) (v : View) (k : Knows key hd ow s.words id v) (f : Frame) (may : IsBefore f v) where
   abbrev words : List ℕ
   words = set s.words (consumer_place v.reading.number) (32 * end_of f)
 
@@ -123,23 +99,23 @@ module _ (key : Key) (s : State (Unit {0}) View) (r : ImageRuled key s) (id : �
   apart : (j : ℕ) → j ≢ v.reading.number → slice_index words (consumer_place j) ≡ slice_index s.words (consumer_place j)
   apart j ne = else' (consumer_place j) (λ e. ne (omega arith))
 
-  stand : Stands key r.held f.unit
-  stand = let a = k.reads may.reads in subst (Stands key r.held) (sym may.here) (stands_there key s r v.reading.number v.reading.unit a.inside a.position)
+  stand : Stands key hd f.unit
+  stand = let a = k.reads may.reads in subst (Stands key hd) (sym may.here) (stands_there key s hd ow r v.reading.number v.reading.unit a.inside a.position)
 
-  up : (j : ℕ) → slice_index s.words (consumer_place j) ≤ slice_index words (consumer_place j)
+  pub up : (j : ℕ) → slice_index s.words (consumer_place j) ≤ slice_index words (consumer_place j)
   up j = dite (ℕ_discrete j v.reading.number)
       (λ e. let a = k.reads may.reads in let old : slice_index s.words (consumer_place j) ≡ 32 * v.reading.unit = ap (λ (x : ℕ). slice_index s.words (consumer_place x)) e ∙ a.position in let new = here j e in let h = may.here in omega arith)
       (λ ne. let a = apart j ne in omega arith)
 
-  pub moved_rule : ImageRuled key record { words = words; homes = s.homes; views = set s.views id (moved_to v (end_of f)) }
-  moved_rule = let a = k.reads may.reads in let among = k.known f may.known in after key s r id words r.held (moved_to v (end_of f)) record {
-    leaves = record { grows = λ g b. b; same = inl refl; further = λ j lt. up j; still = λ j lt ne. apart j (λ e. ne (ap r.owners.sits e ∙ a.seat)) };
+  pub moved_rule : WordsRuled key (record { words = words; homes = s.homes; views = set s.views id (moved_to v (end_of f)) }) hd ow
+  moved_rule = let a = k.reads may.reads in let among = k.known f may.known in after key s hd ow r id words hd (moved_to v (end_of f)) record {
+    leaves = record { grows = λ g b. b; same = inl refl; further = λ j lt. up j; still = λ j lt ne. apart j (λ e. ne (ap ow.sits e ∙ a.seat)) };
     sound = r.sound;
     long = length_is;
     mirrors = λ i lt. else' (image_place + i) (λ e. far i e) ∙ r.mirrors i lt;
     stands = λ j lt. dite (ℕ_discrete j v.reading.number)
-        (λ e. record { unit = end_of f; is = here j e; stands = next_stand key r.held f r.sound among stand })
-        (λ ne. subst (StandsAt key r.held) (sym (apart j ne)) (r.stands j lt));
+        (λ e. record { unit = end_of f; is = here j e; stands = next_stand key hd f r.sound among stand })
+        (λ ne. subst (StandsAt key hd) (sym (apart j ne)) (r.stands j lt));
     knows = record {
       inserts = λ one. (let b = k.inserts one in record { seat = b.seat; held = b.held; seen = b.seen; looks = b.looks });
       few = k.few;
@@ -155,14 +131,3 @@ module _ (key : Key) (s : State (Unit {0}) View) (r : ImageRuled key s) (id : �
 
       far : (i : ℕ) → image_place + i ≡ consumer_place v.reading.number → ⊥
       far i e = let a = (k.reads may.reads).inside in let few = r.is_key.few in omega arith
-
--- a reader stores the end of a frame that it knows where it stands
-pub move : (key : Key) (slots id : ℕ) (m : Mine) (f : Frame) (number x : ℕ) → number ≡ m.0.reading.number → x ≡ 32 * end_of f → MayMove f m.0 → Allows (ImageRuled key) slots id m (consumer_place number) (λ _. x) (λ _. told (λ v _ w. Moves f v w) m x)
-move key slots id m f number x is same may s r homes at fits =
-    let v : View = m.0 in let k = r.each id v at in (
-      moved_to v (end_of f),
-      keeps,
-      tt,
-      subst (λ (y : ℕ × ℕ). ImageRuled key record { words = set s.words (consumer_place y.0) y.1; homes = s.homes; views = set s.views id (moved_to v (end_of f)) }) (λ j. (sym is j, sym same j)) (moved_rule key s r id v k f may),
-      (refl, refl),
-    )

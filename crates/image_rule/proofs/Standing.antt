@@ -4,11 +4,12 @@ use Rattle.std.specs.Prelude.{slice_index}
 use mathlib.Core.Logic.{dite}
 use native.Mathlib.Decide.{dec_le}
 use Rattle.atomic_table.specs.Table.{State}
+use Rattle.region.specs.declared.access.ReadAccess.{ReadAccess}
 use Rattle.image_rule.specs.declared.view.Held.{Held}
 use Rattle.image_rule.specs.declared.view.Key.{Key}
 use Rattle.image_rule.specs.declared.view.View.{View}
 use Rattle.image_rule.specs.Frames.{Has, held_bit, held_place, image_length, ring}
-use Rattle.image_rule.specs.Rule.{ImageRuled, IsKey, Sound, Stands, consumer_place, image_place}
+use Rattle.image_rule.specs.Rule.{IsKey, Owners, Sound, Stands, WordsRuled, consumer_place, image_place}
 
 -- ---- where a consumer stands
 
@@ -45,10 +46,10 @@ held_inside key u is = let a = is.some in let w = is.whole in let q : ℕ = u % 
 one_unit : (a c : ℕ) → 32 * a ≡ 32 * c → a ≡ c
 one_unit a c e = omega arith
 
-module _ (key : Key) (s : State (Unit {0}) View) (r : ImageRuled key s) where
+module _ (key : Key) (s : State ReadAccess View) (hd : Held) (ow : Owners) (r : WordsRuled key s hd ow) where
   -- the word of held bits that a table has is that of its image
-  pub held_word : (u : ℕ) → slice_index s.words (image_place + held_place (ring key) u) ≡ slice_index r.held.words (held_place (ring key) u)
+  pub held_word : (u : ℕ) → slice_index s.words (image_place + held_place (ring key) u) ≡ slice_index hd.words (held_place (ring key) u)
   held_word u = r.mirrors (held_place (ring key) u) (held_inside key u r.is_key)
 
-  pub stands_there : (j u : ℕ) → j < key.consumers → slice_index s.words (consumer_place j) ≡ 32 * u → Stands key r.held u
-  stands_there j u lt e = let a = r.stands j lt in subst (Stands key r.held) (one_unit a.unit u (sym a.is ∙ e)) a.stands
+  pub stands_there : (j u : ℕ) → j < key.consumers → slice_index s.words (consumer_place j) ≡ 32 * u → Stands key hd u
+  stands_there j u lt e = let a = r.stands j lt in subst (Stands key hd) (one_unit a.unit u (sym a.is ∙ e)) a.stands

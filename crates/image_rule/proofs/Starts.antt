@@ -9,7 +9,7 @@ use native.Mathlib.Decide.{dec_le, ℕ_discrete}
 use Rattle.image_rule.specs.declared.view.Frame.{Frame}
 use Rattle.image_rule.specs.declared.view.Held.{Held}
 use Rattle.image_rule.specs.declared.view.Key.{Key}
-use Rattle.image_rule.specs.Frames.{Among, StartsAt, data_place, held_place, image_length, ring, start_bit, start_place}
+use Rattle.image_rule.specs.Frames.{Among, StartsAt, held_place, image_length, ring, start_bit, start_place}
 use Rattle.image_rule.specs.Rule.{IsKey}
 use Rattle.image_rule.specs.Steps.{changed}
 use Rattle.image_rule.specs.Bits.{InRun, IsMask, IsStarted, clear_word, set_word}
@@ -32,10 +32,6 @@ module _ (key : Key) (is : IsKey key) where
   -- where a word of held bits was stored
   pub past_held : (ws : List ℕ) (k x u : ℕ) → k < (ring key) / 64 → start_bit (ring key) (set ws k x) u ≡ start_bit (ring key) ws u
   past_held ws k x u lt = other_start ws k x u (λ e. let f = start_from u in omega arith)
-
-  -- and where one of a frame was
-  pub past_data : (ws : List ℕ) (y x u : ℕ) → start_bit (ring key) (set ws (data_place (ring key) y) x) u ≡ start_bit (ring key) ws u
-  past_data ws y x u = other_start ws (data_place (ring key) y) x u (λ e. let l = start_low u in let q : ℕ = y % (4 * (ring key)) in omega arith)
 
   -- the bits, the floor and the frames are the same
   pub started_on : (h g : Held) (low from to : ℕ) → g.floor ≡ h.floor → g.got ≡ h.got → ((u : ℕ) → start_bit (ring key) g.words u ≡ start_bit (ring key) h.words u) → IsStarted key h low from to → IsStarted key g low from to
@@ -154,7 +150,7 @@ module _ (key : Key) (is : IsKey key) where
 
   -- the floor rises to where they were cleared
   pub started_up : (h : Held) (ws : List ℕ) (floor : ℕ) → h.floor ≤ floor → floor ≤ h.floor + (ring key) → ((u : ℕ) → StartsAt h.got u → u < h.floor + (ring key)) → ((u : ℕ) → start_bit (ring key) ws u ≡ start_bit (ring key) h.words u) → IsStarted key h floor 0 0
-      → IsStarted key record { floor = floor; got = h.got; words = ws } floor 0 0
+      → IsStarted key (record h { floor = floor; words = ws }) floor 0 0
   started_up h ws floor up reach below same old = record {
     set = λ u lo hi o. ⊎_elim (λ (s : StartsAt h.got u). same u ∙ old.set u lo (below u s) (inl s)) (λ (r : InRun 0 0 u). let b = r.1 in absurd (omega arith)) o;
     only = λ u lo hi bit. dite (dec_le (h.floor + (ring key)) u)
@@ -171,7 +167,7 @@ module _ (key : Key) (is : IsKey key) where
           (λ j. bit_at (slice_index h.words ((ring key) / 64 + p j / 64)) (b j))
 
   -- the frame whose bit was set is stored
-  pub started_more : (h : Held) (ws : List ℕ) (f : Frame) → ((u : ℕ) → start_bit (ring key) ws u ≡ start_bit (ring key) h.words u) → IsStarted key h h.floor f.unit (f.unit + 1) → IsStarted key record { floor = h.floor; got = f ∷ h.got; words = ws } h.floor 0 0
+  pub started_more : (h : Held) (ws : List ℕ) (f : Frame) → ((u : ℕ) → start_bit (ring key) ws u ≡ start_bit (ring key) h.words u) → IsStarted key h h.floor f.unit (f.unit + 1) → IsStarted key (record h { got = f ∷ h.got; words = ws }) h.floor 0 0
   started_more h ws f same old = record {
     set = λ u lo hi o. ⊎_elim
         (λ (s : StartsAt (f ∷ h.got) u). same u ∙ old.set u lo hi (⊎_elim

@@ -10,9 +10,9 @@ use Rattle.image_rule.specs.declared.view.Frame.{Frame}
 use Rattle.image_rule.specs.declared.view.Held.{Held}
 use Rattle.image_rule.specs.declared.view.Key.{Key}
 use Rattle.image_rule.specs.declared.view.View.{View}
-use Rattle.image_rule.specs.Frames.{Among, Covers, Has, IsSpelt, Reached, Shows, data_place, end_of, held_bit, held_place, image_length, ring}
+use Rattle.image_rule.specs.Frames.{Among, Covers, Has, IsSpelt, Reached, end_of, held_bit, held_place, image_length, ring}
 use Rattle.image_rule.specs.Rule.{IsKey, Sound, Stands}
-use Rattle.image_rule.specs.Steps.{IsAhead, Keeps, May, MayClear, MayMark, MayStore, MayWrite, changed}
+use Rattle.image_rule.specs.Steps.{IsAhead, Keeps, May, MayClear, MayMark, MayStore, changed}
 
 -- ---- places
 
@@ -22,12 +22,6 @@ module _ (key : Key) (is : IsKey key) where
 
   pub held_low : (u : ℕ) → held_place (ring key) u < (ring key) / 64
   held_low u = let whole = is.whole in let q : ℕ = u % (ring key) in let m : q < (ring key) = mod-lt u is.some in omega arith
-
-  -- within four words a unit of a window, different words stand at different places
-  pub data_apart : (c x y : ℕ) → 4 * c ≤ x → x < 4 * c + 4 * (ring key) → 4 * c ≤ y → y < 4 * c + 4 * (ring key) → data_place (ring key) x ≡ data_place (ring key) y → x ≡ y
-  data_apart c x y a b d e same =
-      let m : ℕ = 4 * (ring key) in let p : ℕ = x % m in let q : ℕ = y % m in let pq : p ≡ q = omega arith in
-      dite (dec_le x y) (λ le. one_turn x y m le (omega arith) pq) (λ gt. sym (one_turn y x m (omega arith) (omega arith) (sym pq)))
 
   -- a bit of a word that wasn't stored
   pub other_bit : (ws : List ℕ) (k x u : ℕ) → held_place (ring key) u ≢ k → held_bit (ring key) (set ws k x) u ≡ held_bit (ring key) ws u
@@ -39,64 +33,11 @@ module _ (key : Key) (is : IsKey key) where
   held_short : (h : Held) → Sound key h → (k : ℕ) → k < (ring key) / 64 → k < length h.words
   held_short h s k lt = let l = s.long in omega arith
 
-  pub data_far : (k x : ℕ) → k < (ring key) / 64 → data_place (ring key) x ≢ k
-  data_far k x lt e = let q : ℕ = x % (4 * (ring key)) in omega arith
-
-  -- frames' words stay where a word of held bits is stored
-  pub shows_on : (ws : List ℕ) (k x : ℕ) (f : Frame) → k < (ring key) / 64 → Shows (ring key) ws f → Shows (ring key) (set ws k x) f
-  shows_on ws k x f lt shows i short = get_or-set_other ws k (data_place (ring key) (4 * f.unit + i)) x 0 (data_far k (4 * f.unit + i) lt) ∙ shows i short
-
   -- a bit that is set stays
   keeps_bit : (h : Held) (k x u : ℕ) → Sound key h → k < (ring key) / 64 → Keeps key h k x → h.floor ≤ u → u < h.floor + (ring key) → held_bit (ring key) h.words u ≡ 1 → held_bit (ring key) (set h.words k x) u ≡ 1
   keeps_bit h k x u s lt keep from near bit = dite (ℕ_discrete (held_place (ring key) u) k)
       (λ e. this_bit h.words k x u (held_short h s k lt) e ∙ keep u from near e bit)
       (λ ne. other_bit h.words k x u ne ∙ bit)
-
--- ---- a word of a unit that no frame has
-
-module _ (key : Key) (is : IsKey key) (h : Held) (u i x : ℕ) (may : MayWrite key h u i) where
-  abbrev place : ℕ
-  place = data_place (ring key) (4 * u + i)
-
-  abbrev after : Held
-  after = changed h place x h.floor h.got
-
-  bits : (y : ℕ) → held_bit (ring key) after.words y ≡ held_bit (ring key) h.words y
-  bits y = other_bit key is h.words place x y (λ e. let a = held_low key is y in let q : ℕ = (4 * u + i) % (4 * (ring key)) in omega arith)
-
-  shown_still : Sound key h → (f : Frame) → Among f h.got → h.floor ≤ f.unit → Shows (ring key) after.words f
-  shown_still s f among from j short =
-      let y : ℕ = 4 * f.unit + j in
-      get_or-set_other h.words place (data_place (ring key) y) x 0
-      (λ e. let near = s.near f among in let fits = s.fits f among in let m = may.near in let f' = may.from in let i' = may.inside in
-      let same : 4 * f.unit + j ≡ 4 * u + i = data_apart key is h.floor (4 * f.unit + j) (4 * u + i) (omega arith) (omega arith) (omega arith) (omega arith) e in
-      may.free record { frame = f; among = among; covers = (omega arith, omega arith) })
-      ∙ s.shown f among from j short
-
-  written : Sound key h → Sound key after
-  written s = record {
-    joined = s.joined;
-    long = length-set h.words place x ∙ s.long;
-    full = s.full;
-    near = s.near;
-    fits = s.fits;
-    low = s.low;
-    spelt = s.spelt;
-    apart = s.apart;
-    shown = shown_still s;
-    marked = λ f among from. bits f.unit ∙ s.marked f among from;
-    honest = λ y from near reached bit. s.honest y from near reached (sym (bits y) ∙ bit);
-  }
-
--- a word of a unit that no frame has may be stored
-pub may_write : (key : Key) (v : View) (u i x : ℕ) → IsKey key → v.inserting ≡ 1 → MayWrite key v.held u i → May key v (data_place (ring key) (4 * u + i)) x v.held.floor v.held.got
-may_write key v u i x is one may = record {
-  inserts = one;
-  sound = written key is v.held u i x may;
-  grows = λ f a. a;
-  stands = λ s y st from. record { from = st.from; reached = st.reached; edge = st.edge };
-  seen = inl refl;
-}
 
 -- ---- bits are set before a frame is stored
 
@@ -119,7 +60,6 @@ module _ (key : Key) (is : IsKey key) (h : Held) (k x : ℕ) (may : MayMark key 
     low = s.low;
     spelt = s.spelt;
     apart = s.apart;
-    shown = λ f among from. shows_on key is h.words k x f may.inside (s.shown f among from);
     marked = λ f among from. (let a = s.near f among in let b = s.full f among in keeps_bit key is h k x f.unit s may.inside may.keeps from (omega arith) (s.marked f among from));
     honest = marks_ahead;
   }
@@ -164,11 +104,10 @@ module _ (key : Key) (is : IsKey key) (h : Held) (f : Frame) (k x : ℕ) (may : 
     long = length-set h.words k x ∙ s.long;
     full = each (λ g. 0 < g.units) may.full s.full;
     near = each (λ g. end_of g < h.floor + (ring key)) may.near s.near;
-    fits = each (λ g. length g.words ≤ 4 * g.units) may.fits s.fits;
+    fits = each (λ g. length g.bytes ≤ 32 * g.units) may.fits s.fits;
     low = each (λ g. end_of g ≤ 2 ^ 56) may.low s.low;
     spelt = each (IsSpelt key.identity) may.spelt s.spelt;
     apart = apart_now;
-    shown = each (λ g. h.floor ≤ g.unit → Shows (ring key) (set h.words k x) g) (λ from. shows_on key is h.words k x f inside may.shown) (λ g a from. shows_on key is h.words k x g inside (s.shown g a from));
     marked = each (λ g. h.floor ≤ g.unit → held_bit (ring key) (set h.words k x) g.unit ≡ 1)
         (λ from. this_bit key is h.words k x f.unit (held_short key is h s k inside) may.there ∙ may.marked)
         (λ g a from. let b = s.near g a in let c = s.full g a in keeps_bit key is h k x g.unit s inside may.keeps from (omega arith) (s.marked g a from));
@@ -226,7 +165,6 @@ module _ (key : Key) (is : IsKey key) (h : Held) (seen : List ℕ) (floor k x : 
     low = s.low;
     spelt = s.spelt;
     apart = s.apart;
-    shown = λ f among from. shows_on key is h.words k x f may.inside (s.shown f among (omega arith));
     marked = λ f among from. (let a = s.near f among in let b = s.full f among in rest_bit key is h seen floor k x may s.long f.unit from (omega arith) ∙ s.marked f among (omega arith));
     honest = λ u from near reached bit. dite (dec_le (h.floor + (ring key)) u)
         (λ far. let z = before key is h seen floor k x may s.long u far near in absurd (omega arith))
@@ -258,7 +196,6 @@ module _ (key : Key) (is : IsKey key) (h : Held) (k x : ℕ) (low : (ring key) /
     low = s.low;
     spelt = s.spelt;
     apart = s.apart;
-    shown = λ f among from i short. get_or-set_other h.words k (data_place (ring key) (4 * f.unit + i)) x 0 (λ e. (let q : ℕ = (4 * f.unit + i) % (4 * (ring key)) in omega arith)) ∙ s.shown f among from i short;
     marked = λ f among from. start_bits f.unit ∙ s.marked f among from;
     honest = λ u from near reached bit. s.honest u from near reached (sym (start_bits u) ∙ bit);
   }

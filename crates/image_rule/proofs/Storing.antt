@@ -8,13 +8,13 @@ use Rattle.image_rule.specs.declared.view.Frame.{Frame}
 use Rattle.image_rule.specs.declared.view.Held.{Held}
 use Rattle.image_rule.specs.declared.view.Key.{Key}
 use Rattle.image_rule.specs.declared.view.View.{View}
-use Rattle.image_rule.specs.Frames.{Among, Covers, Has, Shows, data_place, end_of, held_bit, held_place, image_length, ring, start_place}
+use Rattle.image_rule.specs.Frames.{Among, Covers, Has, end_of, held_bit, held_place, image_length, ring, start_place}
 use Rattle.image_rule.specs.Rule.{IsKey, Sound}
-use Rattle.image_rule.specs.Steps.{Changes, May, MayStore, changed}
-use Rattle.image_rule.specs.Bits.{InRun, IsExact, IsMarked, IsMask, IsStarted, Marked, MayInsert, MaySet, SetsBits, Stored, Wrote, next_word, rest_end, set_word}
-use Rattle.image_rule.proofs.Stores.{data_apart, held_low, may_mark, may_start, may_store, may_write, other_bit, shows_on, this_bit}
+use Rattle.image_rule.specs.Steps.{May, MayStore, changed}
+use Rattle.image_rule.specs.Bits.{InRun, IsExact, IsMarked, IsMask, IsStarted, Marked, MayInsert, MaySet, SetsBits, Stored, StoresBits, next_word, rest_end, set_word}
+use Rattle.image_rule.proofs.Stores.{held_low, may_mark, may_start, may_store, other_bit, this_bit}
 use Rattle.image_rule.proofs.Runs.{keeps, marked_on, marks_part, only_after, set_after}
-use Rattle.image_rule.proofs.Starts.{past_data, past_held, start_from, start_low, started_more, started_on, started_set}
+use Rattle.image_rule.proofs.Starts.{past_held, start_from, start_low, started_more, started_on, started_set}
 
 -- a frame may be inserted still, where nothing was stored since
 pub may_on : (key : Key) (h g : Held) (f : Frame) → g.floor ≡ h.floor → g.got ≡ h.got → MayInsert key h f → MayInsert key g f
@@ -28,62 +28,37 @@ may_on key h g f e d m = record {
   free = λ u c has. m.free u c (subst (λ (x : List Frame). Has x u) d has);
 }
 
--- ---- its words
-
--- word i of a frame is one of its unit i / 4
-pub part_is : (n u i : ℕ) → data_place n (4 * (u + i / 4) + i % 4) ≡ data_place n (4 * u + i)
-part_is n u i = ap (data_place n) (omega arith)
-
-pub may_write_part : (key : Key) (v : View) (f : Frame) (i x : ℕ) → IsKey key → v.inserting ≡ 1 → MayInsert key v.held f → i < length f.words → May key v (data_place (ring key) (4 * f.unit + i)) x v.held.floor v.held.got
-may_write_part key v f i x is one may lt =
-    let fits = may.fits in let from = may.from in let near = may.near in
-    subst (λ (k : ℕ). May key v k x v.held.floor v.held.got) (part_is (ring key) f.unit i)
-    (may_write key v (f.unit + i / 4) (i % 4) x is one record { from = omega arith; near = omega arith; inside = omega arith; free = may.free (f.unit + i / 4) (omega arith, omega arith) })
-
-pub wrote_none : (key : Key) (v : View) (f : Frame) → Sound key v.held → Wrote key v f 0 v
-wrote_none key v f s = record { after = refl; floor = refl; got = refl; long = refl; bits = λ u. refl; starts = λ u. refl; shows = λ i lt. absurd (omega arith); sound = s }
-
 pub inserts_on : (v w : View) → w ≡ record v { held = w.held } → v.inserting ≡ 1 → w.inserting ≡ 1
 inserts_on v w e one = ap (λ (x : View). x.inserting) e ∙ one
 
-pub wrote_on : (key : Key) (v w y : View) (f : Frame) (i x : ℕ) → IsKey key → v.inserting ≡ 1 → MayInsert key v.held f → length v.held.words ≡ image_length (ring key) → Wrote key v f i w → i < length f.words → x ≡ slice_index f.words i
-    → Changes (data_place (ring key) (4 * f.unit + i)) x w.held.floor w.held.got w y → Wrote key v f (i + 1) y
-wrote_on key v w y f i x is one may long a lt word told =
-    let place : ℕ = data_place (ring key) (4 * f.unit + i) in
-    let short : place < length w.held.words = (let l = a.long in let n : ℕ = 4 * (ring key) in let some = is.some in let q : ℕ = (4 * f.unit + i) % n in let m : q < n = mod-lt (4 * f.unit + i) (omega arith) in omega arith) in
-    let fits = may.fits in let from = may.from in let near = may.near in
-    subst (Wrote key v f (i + 1)) (sym told) record {
-      after = (λ j. record (a.after j) { held = changed w.held place x w.held.floor w.held.got });
-      floor = a.floor;
-      got = a.got;
-      long = length-set w.held.words place x ∙ a.long;
-      bits = λ u. other_bit key is w.held.words place x u (λ e. (let b = held_low key is u in let q : ℕ = (4 * f.unit + i) % (4 * (ring key)) in omega arith)) ∙ a.bits u;
-      starts = λ u. past_data key is w.held.words (4 * f.unit + i) x u ∙ a.starts u;
-      shows = λ j less. dite (ℕ_discrete j i)
-          (λ e. ap (λ (z : ℕ). slice_index (set w.held.words place x) (data_place (ring key) (4 * f.unit + z))) e ∙ get_or-set_same w.held.words place x 0 short ∙ word ∙ ap (slice_index f.words) (sym e))
-          (λ ne. get_or-set_other w.held.words place (data_place (ring key) (4 * f.unit + j)) x 0
-          (λ e. (let same : 4 * f.unit + j ≡ 4 * f.unit + i = data_apart key is v.held.floor (4 * f.unit + j) (4 * f.unit + i) (omega arith) (omega arith) (omega arith) (omega arith) e in ne (omega arith)))
-          ∙ a.shows j (omega arith));
-      sound = (may_write_part key w f i x is (inserts_on v w a.after one) (may_on key v.held w.held f a.floor a.got may) lt).sound a.sound;
-    }
-
--- bits are as they were
-pub exact_on : (key : Key) (v w : View) (f : Frame) (i : ℕ) → IsKey key → Wrote key v f i w → IsExact key v.held → IsExact key w.held
-exact_on key v w f i is a e = record {
-  sound = a.sound;
-  marked = record {
-    long = a.long ∙ e.marked.long;
-    joined = (let x = a.floor in let y = e.marked.joined in omega arith);
-    below = λ u h. (let x = a.floor in let y = e.marked.below u (subst (λ (g : List Frame). Has g u) a.got h) in omega arith);
-    set = λ u from near o. (let x = a.floor in a.bits u ∙ e.marked.set u (omega arith) (omega arith) (subst (λ (g : List Frame). Has g u ⊎ InRun 0 0 u) a.got o));
-    only = λ u from near bit. (let x = a.floor in subst (λ (g : List Frame). Has g u ⊎ InRun 0 0 u) (sym a.got) (e.marked.only u (omega arith) (omega arith) (sym (a.bits u) ∙ bit)));
-  };
-  started = subst (λ (x : ℕ). IsStarted key w.held x 0 0) (sym a.floor) (started_on key is v.held w.held v.held.floor 0 0 a.floor a.got a.starts e.started);
+-- whose slots are out, and what was taken back, is nothing to the bits
+pub sound_with : (key : Key) (h : Held) (n m : ℕ) → Sound key h → Sound key (record h { freed = m; out = n })
+sound_with key h n m s = record {
+  joined = s.joined;
+  long = s.long;
+  full = s.full;
+  near = s.near;
+  fits = s.fits;
+  low = s.low;
+  spelt = s.spelt;
+  apart = s.apart;
+  marked = s.marked;
+  honest = s.honest;
 }
+
+pub exact_with : (key : Key) (h : Held) (n m : ℕ) → IsExact key h → IsExact key (record h { freed = m; out = n })
+exact_with key h n m e = record {
+  sound = sound_with key h n m e.sound;
+  marked = record { long = e.marked.long; joined = e.marked.joined; below = e.marked.below; set = e.marked.set; only = e.marked.only };
+  started = record { set = e.started.set; only = e.started.only };
+}
+
+exact_out : (key : Key) (h : Held) (n : ℕ) → IsExact key h → IsExact key (record h { out = n })
+exact_out key h n e = exact_with key h n h.freed e
 
 -- ---- its start bit
 
-module _ (key : Key) (is : IsKey key) (v : View) (f : Frame) (one : v.inserting ≡ 1) (may : MayInsert key v.held f) (exact : IsExact key v.held) (shows : Shows (ring key) v.held.words f) where
+module _ (key : Key) (is : IsKey key) (v : View) (f : Frame) (one : v.inserting ≡ 1) (may : MayInsert key v.held f) (exact : IsExact key v.held) where
   abbrev ks : ℕ
   ks = start_place (ring key) f.unit
 
@@ -106,9 +81,6 @@ module _ (key : Key) (is : IsKey key) (v : View) (f : Frame) (one : v.inserting 
       only = λ u from near bit. ⊎_elim (λ (h : Has v.held.got u). inl h) (λ (r : InRun 0 0 u). let b = r.1 in absurd (omega arith)) (e.only u from near (sym (same_bit u) ∙ bit));
     }
 
-    shows_still : Shows (ring key) begun.words f
-    shows_still i lt = get_or-set_other v.held.words ks (data_place (ring key) (4 * f.unit + i)) (set_word v.held ks m) 0 (λ e. (let b = start_low key is f.unit in let q : ℕ = (4 * f.unit + i) % (4 * (ring key)) in omega arith)) ∙ shows i lt
-
     start_near : f.unit < v.held.floor + (ring key)
     start_near = let n = may.near in omega arith
 
@@ -117,7 +89,8 @@ module _ (key : Key) (is : IsKey key) (v : View) (f : Frame) (one : v.inserting 
     after = refl;
     floor = refl;
     got = refl;
-    shows = shows_still s.bits s.mask;
+    freed = refl;
+    out = refl;
     marked = none_yet s.bits s.mask;
     started = started_set key is v.held f.unit s.bits exact.marked.long may.from (start_near s.bits s.mask) s.mask exact.started;
     sound = (may_set_start s.bits s.mask).sound exact.sound;
@@ -146,7 +119,8 @@ module _ (key : Key) (is : IsKey key) (v w : View) (f : Frame) (one : v.insertin
     after = (λ j. record (a.after j) { held = changed w.held (held_place (ring key) at) (set_word w.held (held_place (ring key) at) s.bits) w.held.floor w.held.got });
     floor = a.floor;
     got = a.got;
-    shows = shows_on key is w.held.words (held_place (ring key) at) (set_word w.held (held_place (ring key) at) s.bits) f (held_low key is at) a.shows;
+    freed = a.freed;
+    out = a.out;
     marked = marked_on key is w.held at count s.bits a.marked.long low near some short s.mask f (next_word f) may' (omega arith) onward a.marked;
     started = started_on key is w.held (changed w.held (held_place (ring key) at) (set_word w.held (held_place (ring key) at) s.bits) w.held.floor w.held.got) w.held.floor f.unit (f.unit + 1) refl refl (λ u. past_held key is w.held.words (held_place (ring key) at) (set_word w.held (held_place (ring key) at) s.bits) u (held_low key is at)) a.started;
     sound = (may_mark_part s.bits s.mask).sound a.sound;
@@ -154,7 +128,7 @@ module _ (key : Key) (is : IsKey key) (v w : View) (f : Frame) (one : v.insertin
 
 -- ---- those of the first word
 
-module _ (key : Key) (is : IsKey key) (w : View) (f : Frame) (one : w.inserting ≡ 1) (may : MayInsert key w.held f) (shows : Shows (ring key) w.held.words f) (marked : IsMarked key w.held (next_word f) (rest_end f)) (started : IsStarted key w.held w.held.floor f.unit (f.unit + 1)) (sound : Sound key w.held) where
+module _ (key : Key) (is : IsKey key) (w : View) (f : Frame) (one : w.inserting ≡ 1) (may : MayInsert key w.held f) (marked : IsMarked key w.held (next_word f) (rest_end f)) (started : IsStarted key w.held w.held.floor f.unit (f.unit + 1)) (sound : Sound key w.held) where
   abbrev count : ℕ
   count = min f.units (64 - f.unit % 64)
 
@@ -207,7 +181,6 @@ module _ (key : Key) (is : IsKey key) (w : View) (f : Frame) (one : w.inserting 
       low = may.low;
       spelt = may.spelt;
       free = may.free;
-      shown = shows;
       there = refl;
       keeps = keeps key is w.held f.unit count m marked.long may.from within some short mask;
       marked = first_bit;
@@ -229,38 +202,43 @@ module _ (key : Key) (is : IsKey key) (w : View) (f : Frame) (one : w.inserting 
   pub may_set_first : MaySet key w k f.unit count w.held.floor (f ∷ w.held.got)
   may_set_first m mask = may_store key w f k (set_word w.held k m) is one (may_store_now m mask)
 
-  pub stored_now : (y : View) → SetsBits w k f.unit count w.held.floor (f ∷ w.held.got) y → Stored key w f y
+  pub stored_now : (y : View) → StoresBits w k f.unit count f y → Stored key w f y
   stored_now y s = subst (Stored key w f) (sym s.after) record {
     after = refl;
     floor = refl;
     got = refl;
-    exact = record {
+    freed = refl;
+    out = refl;
+    exact = exact_out key (changed w.held k (set_word w.held k s.bits) w.held.floor (f ∷ w.held.got)) 0 record {
       sound = (may_set_first s.bits s.mask).sound sound;
       marked = marked_now s.bits s.mask;
       started = started_more key is w.held (set w.held.words k (set_word w.held k s.bits)) f (λ u. past_held key is w.held.words k (set_word w.held k s.bits) u (held_low key is f.unit)) started;
     };
   }
 
--- ---- the three one after the other
+-- ---- one after the other
 
-pub stored_after : (key : Key) (v w x y : View) (f : Frame) (i : ℕ) → Wrote key v f i w → Marked key w f (next_word f) (rest_end f) x → Stored key x f y → Stored key v f y
-stored_after key v w x y f i a b c = record {
-  after = c.after ∙ (λ j. record (b.after j) { held = y.held }) ∙ (λ j. record (a.after j) { held = y.held });
-  floor = c.floor ∙ b.floor ∙ a.floor;
-  got = c.got ∙ ap (λ (g : List Frame). f ∷ g) (b.got ∙ a.got);
-  exact = c.exact;
+pub stored_after : (key : Key) (v w x : View) (f : Frame) → Marked key v f (next_word f) (rest_end f) w → Stored key w f x → Stored key v f x
+stored_after key v w x f a b = record {
+  after = b.after ∙ (λ j. record (a.after j) { held = x.held });
+  floor = b.floor ∙ a.floor;
+  got = b.got ∙ ap (λ (g : List Frame). f ∷ g) a.got;
+  freed = b.freed ∙ a.freed;
+  out = b.out;
+  exact = b.exact;
 }
 
 -- what stands holds from here on
 pub marked_self : (key : Key) (v w : View) (f : Frame) (from to : ℕ) → Marked key v f from to w → Marked key w f from to w
-marked_self key v w f from to a = record { after = refl; floor = refl; got = refl; shows = a.shows; marked = a.marked; started = a.started; sound = a.sound }
+marked_self key v w f from to a = record { after = refl; floor = refl; got = refl; freed = refl; out = refl; marked = a.marked; started = a.started; sound = a.sound }
 
 pub marked_after : (key : Key) (v w x : View) (f : Frame) (from to end : ℕ) → Marked key v f from to w → Marked key w f from end x → Marked key v f from end x
 marked_after key v w x f from to end a b = record {
   after = b.after ∙ (λ j. record (a.after j) { held = x.held });
   floor = b.floor ∙ a.floor;
   got = b.got ∙ a.got;
-  shows = b.shows;
+  freed = b.freed ∙ a.freed;
+  out = b.out ∙ a.out;
   marked = b.marked;
   started = b.started;
   sound = b.sound;

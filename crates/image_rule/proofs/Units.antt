@@ -4,11 +4,10 @@ use Rattle.theory.specs.Placed as placed
 use Rattle.theory.specs.Placed.{Placed, covered, frame_length}
 use Rattle.theory.specs.Position.{aligned}
 use Rattle.theory.specs.Units.{HasUnit}
-use Rattle.frame_words.specs.Contents.{frame_of}
 use Rattle.image_rule.specs.declared.view.Frame.{Frame}
 use Rattle.image_rule.specs.declared.view.Held.{Held}
 use Rattle.image_rule.specs.declared.view.Key.{Key}
-use Rattle.image_rule.specs.Frames.{Among, Has, HasStart, StartsAt, placed_all, placed_of}
+use Rattle.image_rule.specs.Frames.{Among, Has, HasStart, StartsAt, frame_said, placed_all, placed_of}
 use Rattle.image_rule.specs.Rule.{Sound}
 
 pub among_placed : (f : Frame) (got : List Frame) → Among f got → placed.Among (placed_of f) (placed_all got)
@@ -28,7 +27,7 @@ placed_among s (g ∷ gs) (inr a) = let p = placed_among s gs a in record { fram
 
 -- each frame covers what its words say
 abbrev pub AreCovered : List Frame → Type 0
-AreCovered got = (f : Frame) → Among f got → 32 * f.units ≡ aligned (frame_length (frame_of f.words))
+AreCovered got = (f : Frame) → Among f got → 32 * f.units ≡ aligned (frame_length (frame_said f.bytes))
 
 pub sound_covered : (key : Key) (h : Held) → Sound key h → AreCovered h.got
 sound_covered key h s f a = (s.spelt f a).covered

@@ -5,7 +5,7 @@ use Rattle.image_rule.specs.declared.view.Frame.{Frame}
 use Rattle.image_rule.specs.declared.view.Held.{Held}
 use Rattle.image_rule.specs.declared.view.Key.{Key}
 use Rattle.image_rule.specs.declared.view.View.{View}
-use Rattle.image_rule.specs.Frames.{Among, Covers, Has, IsSpelt, Shows, StartsAt, data_place, end_of, held_bit, image_length, ring, start_bit}
+use Rattle.image_rule.specs.Frames.{Among, Covers, Has, IsSpelt, StartsAt, end_of, held_bit, image_length, ring, start_bit}
 use Rattle.image_rule.specs.Rule.{Sound}
 use Rattle.image_rule.specs.Steps.{May, changed}
 
@@ -43,30 +43,20 @@ pub record MayInsert (key : Key) (h : Held) (f : Frame) : Type 0 where
   pub from : h.floor ≤ f.unit
   pub near : end_of f < h.floor + (ring key)
   pub full : 0 < f.units
-  pub fits : length f.words ≤ 4 * f.units
+  pub fits : length f.bytes ≤ 32 * f.units
   pub low : end_of f ≤ 2 ^ 56
   pub spelt : IsSpelt key.identity f
   pub free : (u : ℕ) → Covers f u → Has h.got u → ⊥
 
 -- ---- a frame is stored
 
--- so many words of a frame stand there, and nothing else has changed
-pub record Wrote (key : Key) (v : View) (f : Frame) (count : ℕ) (w : View) : Type 0 where
-  pub after : w ≡ record v { held = w.held }
-  pub floor : w.held.floor ≡ v.held.floor
-  pub got : w.held.got ≡ v.held.got
-  pub long : length w.held.words ≡ length v.held.words
-  pub bits : (u : ℕ) → held_bit (ring key) w.held.words u ≡ held_bit (ring key) v.held.words u
-  pub starts : (u : ℕ) → start_bit (ring key) w.held.words u ≡ start_bit (ring key) v.held.words u
-  pub shows : (i : ℕ) → i < count → slice_index w.held.words (data_place (ring key) (4 * f.unit + i)) ≡ slice_index f.words i
-  pub sound : Sound key w.held
-
 -- the frame's start bit and the held bits of a run are set, and nothing else has changed
 pub record Marked (key : Key) (v : View) (f : Frame) (from to : ℕ) (w : View) : Type 0 where
   pub after : w ≡ record v { held = w.held }
   pub floor : w.held.floor ≡ v.held.floor
   pub got : w.held.got ≡ v.held.got
-  pub shows : Shows (ring key) w.held.words f
+  pub freed : w.held.freed ≡ v.held.freed
+  pub out : w.held.out ≡ v.held.out
   pub marked : IsMarked key w.held from to
   pub started : IsStarted key w.held w.held.floor f.unit (f.unit + 1)
   pub sound : Sound key w.held
@@ -76,6 +66,8 @@ pub record Stored (key : Key) (v : View) (f : Frame) (w : View) : Type 0 where
   pub after : w ≡ record v { held = w.held }
   pub floor : w.held.floor ≡ v.held.floor
   pub got : w.held.got ≡ f ∷ v.held.got
+  pub freed : w.held.freed ≡ v.held.freed
+  pub out : w.held.out ≡ 0
   pub exact : IsExact key w.held
 
 -- the first unit of the word behind that of a frame's first unit
@@ -98,6 +90,12 @@ pub record SetsBits (v : View) (k at count floor : ℕ) (got : List Frame) (w : 
   pub bits : ℕ
   pub mask : IsMask bits (at % 64) (at % 64 + count)
   pub after : w ≡ record v { held = changed v.held k (set_word v.held k bits) floor got }
+
+-- and with them a frame is stored
+pub record StoresBits (v : View) (k at count : ℕ) (f : Frame) (w : View) : Type 0 where
+  pub bits : ℕ
+  pub mask : IsMask bits (at % 64) (at % 64 + count)
+  pub after : w ≡ record v { held = record (changed v.held k (set_word v.held k bits) v.held.floor (f ∷ v.held.got)) { out = 0 } }
 
 -- ---- consumers are looked at, and what all have left is cleared
 
@@ -136,6 +134,8 @@ pub record Emptied (key : Key) (v : View) (low : ℕ) (w : View) : Type 0 where
   pub after : w ≡ record v { held = w.held }
   pub floor : w.held.floor ≡ v.held.floor
   pub got : w.held.got ≡ v.held.got
+  pub freed : w.held.freed ≡ v.held.freed
+  pub out : w.held.out ≡ v.held.out
   pub marked : IsMarked key w.held 0 0
   pub started : IsStarted key w.held low 0 0
   pub sound : Sound key w.held
@@ -145,6 +145,8 @@ pub record Cleared (key : Key) (v : View) (floor : ℕ) (w : View) : Type 0 wher
   pub after : w ≡ record v { held = w.held }
   pub floor_is : w.held.floor ≡ floor
   pub got : w.held.got ≡ v.held.got
+  pub freed : w.held.freed ≡ v.held.freed
+  pub out : w.held.out ≡ v.held.out
   pub exact : IsExact key w.held
 
 -- a floor to which may be cleared

@@ -1,16 +1,17 @@
--- Frames by their units of 32 bytes, and where their words and bits stand among an image's words.
-use Rattle.std.specs.Prelude.{◌≡◌, ℕ, ◌+◌, ◌*◌, ◌/◌, ◌%◌, ◌<◌, ◌≤◌, ◌⊎◌, List, [], ◌∷◌, length, map, slice_index, take}
-use Rattle.std.specs.Int.{w64, bit_at, to_le_bytes}
+-- Frames by their units of 32 bytes, where their bits stand among an image's words, and what a right to read one shows.
+use Rattle.std.specs.Prelude.{◌≡◌, ℕ, ◌+◌, ◌*◌, ◌/◌, ◌%◌, ◌^◌, ◌<◌, ◌≤◌, ◌⊎◌, List, [], ◌∷◌, length, map, slice_index, take, drop}
+use Rattle.std.specs.Int.{bit_at}
 use Rattle.std.specs.List.{AllByRecursion}
-use Rattle.theory.specs.Bytes.{Identity}
+use Rattle.theory.specs.Bytes.{Identity, bytes_of}
 use Rattle.theory.specs.Placed as placed
-use Rattle.theory.specs.Placed.{Data, Pad, Placed, frame_length}
+use Rattle.theory.specs.Placed.{Data, Pad, Placed, frame_length, payload_of}
 use Rattle.theory.specs.Position.{aligned}
 use Rattle.theory.specs.Wire.{IsDataFlags}
 use Rattle.position.specs.Heads.{head_of}
-use Rattle.frame_words.specs.Contents.{frame_of, head_by}
-use Rattle.frame_words.specs.Words.{frame_words}
+use Rattle.frame_words.specs.Contents.{frame_by, head_by}
 use Rattle.image_rule.specs.declared.view.Frame.{Frame}
+use Rattle.region.specs.declared.access.ReadAccess.{ReadAccess}
+use Rattle.region.specs.declared.access.RegionKey.{RegionKey}
 use Rattle.image_rule.specs.declared.view.Key.{Key}
 
 abbrev pub Among : Frame → List Frame → Type 0
@@ -24,11 +25,15 @@ end_of f = f.unit + f.units
 abbrev pub Covers : Frame → ℕ → Type 0
 Covers f u = (f.unit ≤ u) × (u < end_of f)
 
--- ---- what its words say
+-- ---- what its bytes say
+
+-- which frame they are: the first eight say its kind, its flags and its length, and behind its header its payload stands
+abbrev pub frame_said : List ℕ → placed.Frame
+frame_said bytes = frame_by (take 8 bytes) (drop 32 bytes)
 
 -- the frame of the stream, and where it starts
 abbrev pub placed_of : Frame → Placed
-placed_of f = record { at = 32 * f.unit; frame = frame_of f.words }
+placed_of f = record { at = 32 * f.unit; frame = frame_said f.bytes }
 
 abbrev pub placed_all : List Frame → List Placed
 placed_all frames = map placed_of frames
@@ -38,27 +43,19 @@ abbrev pub IsContent : placed.Frame → Type 0
 IsContent (Data flags payload) = IsDataFlags flags × (32 + length payload ≤ 65504) × AllByRecursion (λ b. b < 256) payload
 IsContent (Pad n) = (32 ≤ n) × (n ≤ 16777216)
 
--- how many words are stored of it: those of its header, and those of its payload
-abbrev pub stored_count : placed.Frame → ℕ
-stored_count (Data flags payload) = 4 + (length payload + 7) / 8
-stored_count (Pad n) = 4
-
--- those words, where it begins at this position
-abbrev pub stored_words : Identity → ℕ → placed.Frame → List ℕ
-stored_words i p f = take (stored_count f) (frame_words i p f)
-
--- its words spell the header and the payload of a frame of the stream, which covers its units
+-- its bytes are those of a frame of the stream, which covers its units
 pub record IsSpelt (i : Identity) (f : Frame) : Type 0 where
-  pub content : IsContent (frame_of f.words)
-  pub covered : 32 * f.units ≡ aligned (frame_length (frame_of f.words))
-  pub words : f.words ≡ stored_words i (32 * f.unit) (frame_of f.words)
+  pub content : IsContent (frame_said f.bytes)
+  pub covered : 32 * f.units ≡ aligned (frame_length (frame_said f.bytes))
+  pub bytes : f.bytes ≡ bytes_of i (placed_of f)
 
--- what of that a reader finds: its first word is its head, and behind four words its payload stands
+-- what of that a reader finds: the head, and behind 32 bytes the payload
 pub record Says (f : Frame) : Type 0 where
-  pub content : IsContent (frame_of f.words)
-  pub covered : 32 * f.units ≡ aligned (frame_length (frame_of f.words))
-  pub count : length f.words ≡ stored_count (frame_of f.words)
-  pub head : (p : ℕ) → head_by p (to_le_bytes w64 (slice_index f.words 0)) ≡ head_of p (frame_of f.words)
+  pub content : IsContent (frame_said f.bytes)
+  pub covered : 32 * f.units ≡ aligned (frame_length (frame_said f.bytes))
+  pub head : (p : ℕ) → head_by p (take 8 f.bytes) ≡ head_of p (frame_said f.bytes)
+  pub payload : take (length (payload_of (frame_said f.bytes))) (drop 32 f.bytes) ≡ payload_of (frame_said f.bytes)
+  pub long : 32 + length (payload_of (frame_said f.bytes)) ≤ length f.bytes
 
 -- ---- units that were stored
 
@@ -90,19 +87,23 @@ Reached join got u = (v : ℕ) → join ≤ v → v < u → Has got v
 unfoldable pub ring : Key → ℕ
 ring key = 3 * key.identity.geometry.term_length / 32
 
--- a ring of n units: first the words of held bits, then those of start bits, then four words for each unit
+-- a ring of n units: first the words of held bits, then those of start bits
 abbrev pub held_place : ℕ → ℕ → ℕ
 held_place n u = u % n / 64
 
 abbrev pub start_place : ℕ → ℕ → ℕ
 start_place n u = n / 64 + u % n / 64
 
--- the word x of the stream
-abbrev pub data_place : ℕ → ℕ → ℕ
-data_place n x = n / 64 * 2 + x % (4 * n)
-
 abbrev pub image_length : ℕ → ℕ
-image_length n = n / 64 * 2 + 4 * n
+image_length n = n / 64 * 2
+
+-- where a unit's bytes begin in the region
+abbrev pub byte_place : ℕ → ℕ → ℕ
+byte_place n u = 32 * (u % n)
+
+-- the slot with the part of a consumer of the frame that begins at a unit
+abbrev pub slot_of : ℕ → ℕ → ℕ → ℕ
+slot_of n u j = 8 * (u % n) + j
 
 abbrev pub held_bit : ℕ → List ℕ → ℕ → ℕ
 held_bit n words u = bit_at (slice_index words (held_place n u)) (u % 64)
@@ -110,6 +111,17 @@ held_bit n words u = bit_at (slice_index words (held_place n u)) (u % 64)
 abbrev pub start_bit : ℕ → List ℕ → ℕ → ℕ
 start_bit n words u = bit_at (slice_index words (start_place n u)) (u % 64)
 
--- a frame's words stand there
-abbrev pub Shows : ℕ → List ℕ → Frame → Type 0
-Shows n words f = (i : ℕ) → i < length f.words → slice_index words (data_place n (4 * f.unit + i)) ≡ slice_index f.words i
+-- ---- memory
+
+-- bytes that begin with those of a frame
+abbrev pub Spells : Frame → List ℕ → Type 0
+Spells f bytes = take (length f.bytes) bytes ≡ f.bytes
+
+-- an eighth of the right to read a frame's bytes, which lie where it belongs in the ring: of this round and this account
+pub record IsPart (n : ℕ) (region : RegionKey) (f : Frame) (r b : ℕ) (g : ReadAccess) : Type 0 where
+  pub identity : g.identity ≡ region.identity
+  pub at : g.at ≡ byte_place n f.unit
+  pub count : g.count ≡ 2 ^ 60
+  pub round : g.round ≡ record { life = r; book = b }
+  pub long : length g.items ≡ 32 * f.units
+  pub spells : Spells f g.items

@@ -1,11 +1,11 @@
 -- What a reader's calls tell.
-use Rattle.std.specs.Prelude.{◌≡◌, ℕ, ◌^◌, ◌<◌, ◌≤◌, List, [], ◌∷◌, ◌++◌, length, slice_index, slice_set}
+use Rattle.std.specs.Prelude.{◌≡◌, ℕ, ◌^◌, ◌<◌, ◌≤◌, ◌⊎◌, List, [], ◌∷◌, ◌++◌, length, slice_index, slice_set}
 use Rattle.image_rule.specs.declared.view.Frame.{Frame}
 use Rattle.image_rule.specs.declared.view.View.{View}
 use Rattle.image_rule.specs.Frames.{Among, Has, Says, end_of}
 
 abbrev pub no_frame : Frame
-no_frame = record { unit = 0; units = 0; words = [] }
+no_frame = record { unit = 0; units = 0; bytes = [] }
 
 -- the frame that was found last
 abbrev pub first_of : List Frame → Frame

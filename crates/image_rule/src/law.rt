@@ -1,6 +1,16 @@
-//! What the rule says of a consumer at a look, and what each kind of step is to the stream.
+//! What the rule says, what it says of a consumer at a look, and what each kind of step is to the stream.
 
 ghost use Rattle.image_rule.specs.Law.{EndsWithoutBit, StepsAreEvents};
+ghost use Rattle.image_rule.specs.Says.{RuleSays};
+
+/// Whatever words and seats an image's table has: the frames that were stored never overlap; from the position on to which
+/// it is cleared each stands in the table's words as it was stored; each consumer stands at the edge of frames, not below that
+/// position, and at or below the contiguous end of what was stored, which is no higher than any mark that the join and the
+/// ends of all stored frames aren't above; a set bit there is that of a stored frame, and without one it is at that end; and
+/// the one inserter knows just what was stored, each reader is one consumer and alone that one, and knows only what was stored.
+pub fn rule_says()
+    ensures { RuleSays }
+{}
 
 /// Between any two word steps a consumer whose held bit is zero stands at the end of what was stored without a gap.
 pub fn ends_without_bit()

@@ -5,7 +5,8 @@
 //! where it has none, and says where its consumers stand. Threads share its image, so consumers may go forward between two
 //! steps: the core's state represents the receivers whose image ever stored the same frames, and whose consumers stand where
 //! they were seen last, and each datagram and tick makes of these what the definitions say, with the consumers where that call
-//! saw them. Memory is asked for twice, for the outcomes and for an image; where it was refused, nothing changed.
+//! saw them. Memory is asked for twice, for the outcomes and for an image; where it was refused, nothing changed. Who isn't made for
+//! want of it gives back what it was handed (`Denied`).
 //!
 //! An image's readers are given away once (`take_readers`), and a `MessageReader` reads its messages in a thread of its own. A
 //! `Subscriber` has a core and the one reader of its image in one hand: no consumer moves between two calls, so each datagram,
@@ -16,6 +17,7 @@
 
 mod assembling;
 mod dealing;
+mod denied;
 mod lives;
 mod message_reader;
 mod opened;
@@ -26,6 +28,7 @@ mod receiver_core;
 mod setup;
 mod subscriber;
 
+pub use denied::Denied;
 pub use lives::{polls_a_run, reads_a_run, reads_further};
 pub use message_reader::MessageReader;
 pub use opened::OpenImage;

@@ -7,12 +7,13 @@ ghost use Rattle.receiver.specs.Dealt.{Learns};
 
 use crate::assembling::{GREATEST_PAYLOAD, assemble};
 use crate::dealing::only_reader;
+use crate::denied::Denied;
 use crate::readers::Readers;
 use crate::receiver_core::ReceiverCore;
 use assembler::{Assembler, AssemblyError, Message};
 use block::Block;
 use image::{Image, ImageReader, advance, read};
-use std::alloc::{AllocError, Global};
+use std::alloc::Global;
 use std::marker::Model;
 use std::sync::Arc;
 
@@ -45,16 +46,25 @@ impl MessageReader {
     ghost use Rattle.receiver.specs.Reading.{Answers, FindsNone, HearsOne, IsImage, Passes, RefusesOne};
 
     /// Who reads an image that has one reader, which are these. Messages are of at most `greatest` bytes. The error comes only
-    /// where memory was refused.
-    pub fn new(alloc: Global, taken: Readers, greatest: usize) -> Result<MessageReader, AllocError>
+    /// where memory was refused, and gives the readers back.
+    pub fn new(
+        alloc: Global,
+        taken: Readers,
+        greatest: usize,
+    ) -> Result<MessageReader, Denied<Readers>>
         requires { length taken.readers.items ≡ 1 }
         ensures image { IfOk result (λ m. m.image ≡ arc_value taken.image) }
         ensures reader { IfOk result (λ m. taken.readers.items ≡ m.seat ∷ []) }
         ensures begins { IfOk result (λ m. m.heard_to ≡ position_of m.seat) }
         ensures assembler { IfOk result (λ m. m.assembler ≡ record { greatest = greatest; begun = None }) }
+        ensures denied { IfErr result (λ d. d.given ≡ taken) }
     {
-        let block = Block::new(alloc, GREATEST_PAYLOAD)?;
-        let image = Arc::try_clone(&taken.image)?;
+        let Ok(block) = Block::new(alloc, GREATEST_PAYLOAD) else {
+            return Err(Denied { given: taken });
+        };
+        let Ok(image) = Arc::try_clone(&taken.image) else {
+            return Err(Denied { given: taken });
+        };
         Ok(MessageReader {
             image,
             reader: only_reader(taken),

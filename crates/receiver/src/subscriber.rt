@@ -11,6 +11,7 @@ ghost use Rattle.receiver.specs.Polling.{AsksMemory, IsTooLong};
 ghost use Rattle.receiver.specs.Subscribing.{heard_of};
 
 use crate::assembling::{GREATEST_PAYLOAD, assemble};
+use crate::denied::Denied;
 use crate::poll_error::PollError;
 use crate::positions::Positions;
 use crate::receiver_core::{Outcome, ReceiverCore, Replies};
@@ -50,18 +51,26 @@ impl Subscriber {
     ghost use Rattle.receiver.specs.Subscribing.{SubscriberBecomes, HearsFrame, answer_of, RefusesFrame, RepresentsSubscriber};
 
     /// A subscriber to what this core will receive: one that has no image yet and will have one consumer. Messages are
-    /// of at most `greatest` bytes. The error comes only where memory was refused.
-    pub fn new(alloc: Global, core: ReceiverCore, greatest: usize) -> Result<Subscriber, AllocError>
+    /// of at most `greatest` bytes. The error comes only where memory was refused, and gives the core back.
+    pub fn new(
+        alloc: Global,
+        core: ReceiverCore,
+        greatest: usize,
+    ) -> Result<Subscriber, Denied<ReceiverCore>>
         requires image { core.image ≡ None }
         requires consumers { core.consumers ≡ 1 }
         ensures shown { IfOk result (λ s. (r : Receiver) → Represents core r → r.greatest ≡ greatest → RepresentsSubscriber s r) }
         ensures greatest { IfOk result (λ s. s.assembler.greatest ≡ greatest) }
+        ensures denied { IfErr result (λ d. d.given ≡ core) }
     {
+        let Ok(block) = Block::new(alloc, GREATEST_PAYLOAD) else {
+            return Err(Denied { given: core });
+        };
         Ok(Subscriber {
             core,
             reader: None,
             assembler: Assembler::new(alloc, greatest),
-            block: Block::new(alloc, GREATEST_PAYLOAD)?,
+            block,
         })
     }
 

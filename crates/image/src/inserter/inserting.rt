@@ -19,7 +19,7 @@ ghost use Rattle.image.specs.Runs.{AreBelow, IsRun};
 
 use crate::answer::Insert;
 use crate::held::{crosses_term, is_like, measure};
-use crate::inserter::hand::FrameStore;
+use crate::inserter::frame_store::FrameStore;
 use crate::inserter::looking::{head_at, is_free, starts_at};
 use crate::inserter::storing::store_frame;
 use crate::inserter::{Inserter, least};

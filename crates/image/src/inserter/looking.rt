@@ -7,7 +7,8 @@ ghost use Rattle.image_rule.specs.Bits.{IsExact};
 ghost use Rattle.image.specs.Handles.{IsStoreOf, floor_of, stored_by};
 ghost use Rattle.image.specs.Looking.{AreFree, IsHeadOf, TellsUnits};
 
-use crate::inserter::hand::{FrameStore, Hand, fetch_as};
+use crate::inserter::frame_store::FrameStore;
+use crate::inserter::hand::{Hand, fetch_as};
 use crate::words::{Image, Words, mask};
 use frame_words::head_in;
 use position::FrameHead;
@@ -20,7 +21,7 @@ fn units_free(image: &Words, hand: &mut Hand, from: u64, to: u64) -> bool
     requires near { to ≤ hand.old.floor + ring image.now.key }
     requires exact { IsExact image.now.key hand.old.seat.me.0.held }
     ensures fits { hand.new.seat.table_id ≡ hand.old.seat.table_id }
-    ensures same { hand.new.seat.me.0 ≡ hand.old.seat.me.0 }
+    ensures same { hand.new.seat.me ≡ hand.old.seat.me }
     ensures free { IsTrue result ↔ bits.AreFree hand.old.seat.me.0.held from to }
 {
     let _ = &image.table;
@@ -92,9 +93,7 @@ pub(crate) fn head_at(image: &Image, inserter: &mut FrameStore, position: u64) -
     ensures same { inserter.new ≡ inserter.old }
     ensures head { IsHeadOf inserter.old position result }
 {
-    let _ = &image.words;
     let _ = &inserter.hand;
-    let place = image.words.first_word(position / 32);
-    let first = fetch_as::<Brand>(&image.words, &mut inserter.hand, place);
-    head_in(first, position)
+    let place = image.words.place(position / 32);
+    head_in(inserter.heads.as_slice()[place], position)
 }

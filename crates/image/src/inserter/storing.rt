@@ -1,24 +1,26 @@
-//! A frame is stored: its words, its start bit, the held bits in later words than its first unit's, and last those in that
-//! word.
+//! A frame is stored: its bytes, the right to read them, its start bit, the held bits in later words than its first unit's, and
+//! last those in that word.
 
-ghost use Rattle.std.specs.Prelude.{◌≡◌, [], ◌∷◌, ◌+◌, ◌*◌, ◌/◌, ◌%◌, ◌^◌, ◌<◌, ◌≤◌, length};
-ghost use Rattle.std.specs.Int.{w64, from_le_bytes};
-ghost use Rattle.theory.specs.Placed.{payload_of};
-ghost use Rattle.theory.specs.Position.{max_position};
-ghost use Rattle.theory.specs.Wire.{front};
-ghost use Rattle.position.specs.declared.head.FrameKind.TheVariants as kinds;
-ghost use Rattle.image_rule.specs.Frames.{Shows, held_place, image_length, ring, start_place};
+ghost use Rattle.std.specs.Prelude.{◌≡◌, [], suc, ◌+◌, ◌*◌, ◌/◌, ◌%◌, ◌^◌, ◌<◌, ◌≤◌, true, false, length};
+ghost use Rattle.frames.specs.Frames.{wire};
+ghost use Rattle.theory.specs.Wire.{IsFrame};
+ghost use Rattle.region.specs.Pooled.{AreAll, stands};
+ghost use Rattle.image_rule.specs.Frames.{byte_place, held_place, image_length, ring, start_place};
 ghost use Rattle.image_rule.specs.Bits.{IsExact, Marked, MayInsert, MaySet, SetsBits, Stored, next_word, rest_end};
+ghost use Rattle.image_rule.specs.Steps.{Carries, MayCommit};
+ghost use Rattle.image.specs.Parts.{AnyPart, IsShare};
+ghost use Rattle.image.specs.Drafted.{drafted};
 ghost use Rattle.image.specs.Handles.{IsStoreOf};
-ghost use Rattle.image.specs.Spelled.{drafted};
-ghost use Rattle.image.specs.Inserting.{MayStore, Stores, kind_number, placed_by};
+ghost use Rattle.image.specs.Inserting.{MayStore, Stores, placed_by};
 
-use crate::inserter::hand::{FrameStore, Hand, fetch_as, store_as};
-use crate::inserter::spelling::{Draft, write_words};
+use crate::inserter::frame_store::FrameStore;
+use crate::inserter::hand::{Hand, commit_as, fetch_as, store_as, take_as};
+use crate::inserter::room::{Draft, Room, deal_parts, write_draft};
+use crate::inserter::spelling::{first_of, spell};
 use crate::words::{Image, Words, mask};
-use frame_words::first_word;
-use image_rule::Changing;
-use position::{FrameHead, FrameKind, align32};
+use image_rule::{Changing, Picked};
+use position::{FrameHead, align32};
+use region::ReadAccess;
 use std::marker::Brand;
 
 /// Sets the bits of so many units from one on, in the word at a place.
@@ -29,9 +31,12 @@ fn set_bits_as<N: Changing>(image: &Words, hand: &mut Hand, place: usize, at: u6
     requires short { at % 64 + count ≤ 64 }
     requires inside { place < image_length (ring image.now.key) }
     requires chosen { (N.place ≡ place) × (N.floor ≡ hand.old.floor) }
-    requires may { MaySet image.now.key hand.old.seat.me.0 place at count N.floor N.got }
+    requires may { MaySet image.now.key hand.old.seat.me.0 place at count N.floor
+        hand.old.seat.me.0.held.got }
     ensures fits { hand.new.seat.table_id ≡ hand.old.seat.table_id }
-    ensures set { SetsBits hand.old.seat.me.0 place at count N.floor N.got hand.new.seat.me.0 }
+    ensures slots { hand.new.seat.me.1 ≡ hand.old.seat.me.1 }
+    ensures set { SetsBits hand.old.seat.me.0 place at count N.floor hand.old.seat.me.0.held.got
+        hand.new.seat.me.0 }
 {
     let old = fetch_as::<Brand>(image, hand, place);
     let low = at % 64;
@@ -44,11 +49,12 @@ fn set_start(image: &Words, hand: &mut Hand, place: usize, draft: &Draft<'_>)
     requires fits { hand.old.seat.table_id ≡ image.now.table.shared.table_id }
     requires there { place ≡ start_place (ring image.now.key) draft.now.unit }
     requires inside { place < image_length (ring image.now.key) }
-    requires may { MayInsert image.now.key hand.old.seat.me.0.held (drafted image.now.key.identity draft.now) }
+    requires may { MayInsert image.now.key hand.old.seat.me.0.held (drafted draft.now) }
     requires exact { IsExact image.now.key hand.old.seat.me.0.held }
-    requires shows { Shows (ring image.now.key) hand.old.seat.me.0.held.words (drafted image.now.key.identity draft.now) }
     ensures fits { hand.new.seat.table_id ≡ hand.old.seat.table_id }
-    ensures marked { Marked image.now.key hand.old.seat.me.0 (drafted image.now.key.identity draft.now) (next_word (drafted image.now.key.identity draft.now)) (next_word (drafted image.now.key.identity draft.now)) hand.new.seat.me.0 }
+    ensures slots { hand.new.seat.me.1 ≡ hand.old.seat.me.1 }
+    ensures marked { Marked image.now.key hand.old.seat.me.0 (drafted draft.now) (next_word (drafted
+        draft.now)) (next_word (drafted draft.now)) hand.new.seat.me.0 }
 {
     let _ = &image.table;
     let _ = &hand.seat;
@@ -58,10 +64,13 @@ fn set_start(image: &Words, hand: &mut Hand, place: usize, draft: &Draft<'_>)
 /// Sets the bits of a frame's units that don't lie in its first unit's word.
 fn mark_rest(image: &Words, hand: &mut Hand, draft: &Draft<'_>)
     requires fits { hand.old.seat.table_id ≡ image.now.table.shared.table_id }
-    requires may { MayInsert image.now.key hand.old.seat.me.0.held (drafted image.now.key.identity draft.now) }
-    requires marked { Marked image.now.key hand.old.seat.me.0 (drafted image.now.key.identity draft.now) (next_word (drafted image.now.key.identity draft.now)) (next_word (drafted image.now.key.identity draft.now)) hand.old.seat.me.0 }
+    requires may { MayInsert image.now.key hand.old.seat.me.0.held (drafted draft.now) }
+    requires marked { Marked image.now.key hand.old.seat.me.0 (drafted draft.now) (next_word
+        (drafted draft.now)) (next_word (drafted draft.now)) hand.old.seat.me.0 }
     ensures fits { hand.new.seat.table_id ≡ hand.old.seat.table_id }
-    ensures marked { Marked image.now.key hand.old.seat.me.0 (drafted image.now.key.identity draft.now) (next_word (drafted image.now.key.identity draft.now)) (rest_end (drafted image.now.key.identity draft.now)) hand.new.seat.me.0 }
+    ensures slots { hand.new.seat.me.1 ≡ hand.old.seat.me.1 }
+    ensures marked { Marked image.now.key hand.old.seat.me.0 (drafted draft.now) (next_word (drafted
+        draft.now)) (rest_end (drafted draft.now)) hand.new.seat.me.0 }
 {
     let _ = &image.table;
     let _ = &hand.seat;
@@ -75,63 +84,89 @@ fn mark_rest(image: &Words, hand: &mut Hand, draft: &Draft<'_>)
     }
 }
 
-/// Sets the bits of a frame's units that lie in its first unit's word, which has this place: from then on it is stored.
-fn set_first_as<N: Changing>(image: &Words, hand: &mut Hand, place: usize, draft: &Draft<'_>)
+/// Sets the bits of a frame's units that lie in its first unit's word, which has this place, and gives the consumers their
+/// parts: from then on it is stored.
+fn set_first_as<N: Picked>(image: &Words, hand: &mut Hand, place: usize, draft: &Draft<'_>)
     requires fits { hand.old.seat.table_id ≡ image.now.table.shared.table_id }
     requires there { place ≡ held_place (ring image.now.key) draft.now.unit }
     requires inside { place < image_length (ring image.now.key) }
-    requires may { MayInsert image.now.key hand.old.seat.me.0.held (drafted image.now.key.identity draft.now) }
-    requires marked { Marked image.now.key hand.old.seat.me.0 (drafted image.now.key.identity draft.now) (next_word (drafted image.now.key.identity draft.now)) (rest_end (drafted image.now.key.identity draft.now)) hand.old.seat.me.0 }
-    requires chosen { (N.place ≡ held_place (ring image.now.key) draft.now.unit) × (N.floor ≡ hand.old.seat.me.0.held.floor) × (N.got ≡ drafted image.now.key.identity draft.now ∷ hand.old.seat.me.0.held.got) }
+    requires may { MayInsert image.now.key hand.old.seat.me.0.held (drafted draft.now) }
+    requires marked { Marked image.now.key hand.old.seat.me.0 (drafted draft.now) (next_word
+        (drafted draft.now)) (rest_end (drafted draft.now)) hand.old.seat.me.0 }
+    requires chosen { (N.site ≡ image.now.table.shared.key) × (N.place ≡ place) × (N.frame ≡ drafted
+        draft.now) }
+    requires parts { MayCommit N.site (drafted draft.now) hand.old.seat.me }
     ensures fits { hand.new.seat.table_id ≡ hand.old.seat.table_id }
-    ensures stored { Stored image.now.key hand.old.seat.me.0 (drafted image.now.key.identity draft.now) hand.new.seat.me.0 }
+    ensures slots { hand.new.seat.me.1 ≡ [] }
+    ensures stored { Stored image.now.key hand.old.seat.me.0 (drafted draft.now) hand.new.seat.me.0 }
 {
     let _ = &image.table;
     let _ = &hand.seat;
     let count = draft.units.min(64 - draft.unit % 64);
-    set_bits_as::<N>(image, hand, place, draft.unit, count);
+    let old = fetch_as::<Brand>(image, hand, place);
+    let low = draft.unit % 64;
+    let word = old | mask(low, low + count);
+    commit_as::<N>(image, hand, place, word);
 }
 
-/// Stores a frame that may be inserted.
-fn store(image: &Words, hand: &mut Hand, draft: &Draft<'_>)
+/// Puts each consumer's part of a frame into its slot.
+fn deal_draft(image: &Words, hand: &mut Hand, draft: &Draft<'_>, whole: ReadAccess)
     requires fits { hand.old.seat.table_id ≡ image.now.table.shared.table_id }
-    requires in_stream { 32 * draft.now.unit ≤ max_position image.now.key.identity.geometry }
-    requires short { length draft.now.payload.now < 2 ^ 32 }
-    requires exact { IsExact image.now.key hand.old.seat.me.0.held }
-    requires may { MayInsert image.now.key hand.old.seat.me.0.held (drafted image.now.key.identity draft.now) }
+    requires out { hand.old.seat.me.0.held.out ≡ suc draft.now.unit }
+    requires slots { Carries image.now.table.shared.key AnyPart draft.now.unit hand.old.seat.me.1 }
+    requires whole { IsShare (ring image.now.key) image.now.table.shared.key.region (drafted
+        draft.now) (2 ^ 63) whole }
     ensures fits { hand.new.seat.table_id ≡ hand.old.seat.table_id }
-    ensures stored { Stored image.now.key hand.old.seat.me.0 (drafted image.now.key.identity draft.now) hand.new.seat.me.0 }
+    ensures same { hand.new.seat.me.0 ≡ hand.old.seat.me.0 }
+    ensures parts { MayCommit image.now.table.shared.key (drafted draft.now) hand.new.seat.me }
 {
     let _ = &image.table;
-    let place = image.first_word(draft.unit);
+    deal_parts::<Brand>(image, hand, draft, whole);
+}
+
+/// Sets the bits of a frame whose parts are in its slots, which are out.
+fn mark(image: &Words, hand: &mut Hand, draft: &Draft<'_>)
+    requires fits { hand.old.seat.table_id ≡ image.now.table.shared.table_id }
+    requires exact { IsExact image.now.key hand.old.seat.me.0.held }
+    requires may { MayInsert image.now.key hand.old.seat.me.0.held (drafted draft.now) }
+    requires parts { MayCommit image.now.table.shared.key (drafted draft.now) hand.old.seat.me }
+    ensures fits { hand.new.seat.table_id ≡ hand.old.seat.table_id }
+    ensures slots { hand.new.seat.me.1 ≡ [] }
+    ensures stored { Stored image.now.key hand.old.seat.me.0 (drafted draft.now) hand.new.seat.me.0 }
+{
+    let _ = &image.table;
+    let _ = &hand.seat;
     let start = image.start_word(draft.unit);
     let held = image.held_word(draft.unit);
-    write_words(image, hand, place, draft);
     set_start(image, hand, start, draft);
     mark_rest(image, hand, draft);
     set_first_as::<Brand>(image, hand, held, draft);
 }
 
-/// The first word of the frame that a head says.
-fn first_of(head: &FrameHead) -> u64
-    requires { 0 < head.now.frame_length }
-    ensures { result ≡ from_le_bytes w64 (front head.now.frame_length head.now.flags (kind_number head.now.kind)) }
+/// Stores a frame that may be inserted, whose bytes are free yet.
+fn store(image: &Words, hand: &mut Hand, room: Room, draft: &Draft<'_>) -> Room
+    requires fits { hand.old.seat.table_id ≡ image.now.table.shared.table_id }
+    requires idle { (hand.old.seat.me.1 ≡ []) × (hand.old.seat.me.0.held.out ≡ 0) }
+    requires exact { IsExact image.now.key hand.old.seat.me.0.held }
+    requires may { MayInsert image.now.key hand.old.seat.me.0.held (drafted draft.now) }
+    requires frame { IsFrame (wire draft.now.frame) }
+    requires lies { room.pool.identity ≡ image.now.table.shared.key.region.identity }
+    requires free { AreAll true (byte_place (ring image.now.key) draft.now.unit) (32 *
+        draft.now.units) room.pool.free }
+    ensures fits { hand.new.seat.table_id ≡ hand.old.seat.table_id }
+    ensures slots { hand.new.seat.me.1 ≡ [] }
+    ensures stored { Stored image.now.key hand.old.seat.me.0 (drafted draft.now) hand.new.seat.me.0 }
+    ensures lies { result.pool.identity ≡ room.pool.identity }
+    ensures rest { result.pool.free ≡ stands false (byte_place (ring image.now.key) draft.now.unit)
+        (32 * draft.now.units) room.pool.free }
 {
-    match head.kind {
-        FrameKind::Data => first_word(false, head.flags, head.frame_length),
-        FrameKind::Pad => first_word(true, head.flags, head.frame_length),
-    }
-}
-
-/// The payload that a frame with this head has, of one that is offered.
-fn payload_in<'a>(head: &FrameHead, payload: &'a [u8]) -> &'a [u8]
-    requires { head.now.kind ≡ kinds.Data → head.now.frame_length ≡ 32 + length payload.now }
-    ensures { result.now ≡ payload_of (placed_by head.now payload.now).frame }
-{
-    match head.kind {
-        FrameKind::Data => payload,
-        FrameKind::Pad => &payload[..0],
-    }
+    let _ = &image.table;
+    let _ = &hand.seat;
+    let (room, whole) = write_draft(image, room, draft);
+    take_as::<Brand>(image, hand, draft.unit);
+    deal_draft(image, hand, draft, whole);
+    mark(image, hand, draft);
+    room
 }
 
 /// Stores a frame that lies at or above the floor, at most three terms above it, where none of its units was stored: a DATA
@@ -151,14 +186,17 @@ pub(crate) fn store_frame(
     let _ = &image.words;
     let _ = &inserter.hand;
     let unit = head.start / 32;
-    let units = u64::from(align32(head.frame_length)) / 32;
-    let first = first_of(head);
-    let part = payload_in(head, payload);
     let draft = Draft {
         unit,
-        units,
-        first,
-        payload: part,
+        units: u64::from(align32(head.frame_length)) / 32,
+        first: first_of(head),
+        frame: spell(&image.words.key.identity, head, payload),
     };
-    store(&image.words, &mut inserter.hand, &draft);
+    let Some(room) = inserter.room.take() else {
+        unreachable!();
+    };
+    let room = store(&image.words, &mut inserter.hand, room, &draft);
+    inserter.room = Some(room);
+    let place = image.words.place(unit);
+    inserter.heads[place] = draft.first;
 }

@@ -1,4 +1,8 @@
-use Rattle.std.proofs.Common.{ℕ, length, sym, subst}
+use Rattle.std.proofs.Common.{◌≡◌, ℕ, ◌<◌, ◌≤◌, length, sym, ap, subst}
+use Rattle.image_rule.specs.declared.view.Frame.{Frame}
+use Rattle.image_rule.specs.declared.view.Held.{Held}
+use Rattle.image_rule.specs.declared.view.View.{View}
+use Rattle.image_rule.specs.Frames.{Among, Has, end_of}
 use Rattle.image_rule.specs.Bits.{MayRise, Sweeps}
 use Rattle.image_rule.proofs.Clearing.{may_rise}
 use Rattle.image.specs.Handles.{InserterSeat, IsInserting}
@@ -11,7 +15,14 @@ use Rattle.image.proofs.inserter.least.Goals.{After-clear_to}
 may : (n m : InserterSeat) (least : ℕ) → IsInserting n.key n.view → Swept n least m → MayClearTo m least
 may n m least is s =
     let sweeps : Sweeps n.key n.view (length n.view.seen) s.unit m.view = subst (λ (x : ℕ). Sweeps n.key n.view x s.unit m.view) (sym is.seen) s.sweeps in
-    record { unit = s.unit; is = s.is; rise = subst (λ (x : InserterSeat). MayRise x.key m.view s.unit) (sym s.same) (may_rise n.key n.view m.view s.unit is.exact is.is_key sweeps) }
+    let held : m.view.held ≡ n.view.held = ap (λ (v : View). v.held) s.sweeps.after in
+    record {
+      unit = s.unit;
+      is = s.is;
+      rise = subst (λ (x : InserterSeat). MayRise x.key m.view s.unit) (sym s.same) (may_rise n.key n.view m.view s.unit is.exact is.is_key sweeps);
+      reached = subst (λ (h : Held). (u : ℕ) → h.floor ≤ u → u < s.unit → Has h.got u) (sym held) s.sweeps.reached;
+      edge = subst (λ (h : Held). (f : Frame) → Among f h.got → f.unit < s.unit → end_of f ≤ s.unit) (sym held) s.sweeps.edge;
+    }
 
 pub clear_to-requires-clause-may : goal.clear_to-requires-clause-may
 clear_to-requires-clause-may c = may c.inserter.inside.words c.sweep-lowest.new.inserter c.sweep-lowest.result c.floor.ensures.rests c.sweep-lowest.ensures.swept

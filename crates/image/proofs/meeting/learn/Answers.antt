@@ -1,17 +1,21 @@
-use Rattle.std.proofs.Common.{rules, length, length-set, sym, ap, subst, arith, ◌∙◌}
+use Rattle.std.proofs.Common.{rules, ◌≡◌, length, length-set, sym, ap, subst, arith, ◌∙◌}
 use Rattle.image_rule.specs.declared.view.View.{View}
 use Rattle.image_rule.specs.Bits.{IsExact}
 use Rattle.image_rule.specs.Reads.{Meets}
-use Rattle.image_rule.specs.Rule.{attending_seat, told_seat}
+use Rattle.image_rule.specs.Rule.{attending_seat, news_seat, told_seat}
 use Rattle.image_rule.specs.Steps.{Mine}
 use Rattle.image_rule.proofs.Dealing.{attends, confirm, findings, meets, news, settle, tells}
+use Rattle.image_rule.specs.declared.view.Held.{Held}
+use Rattle.image_rule.proofs.Found.{read_on}
+use Rattle.image.proofs.Resting.{rests_on}
+use Rattle.image.proofs.SeatSteps.{carries_on}
 use Rattle.image.proofs.meeting.learn.Goals as goal
 
 pub split_seat-news-requires : goal.split_seat-news-requires
 split_seat-news-requires c = let i = c.image.inside.words in let n = c.inserter.inside.hand in let wide = i.wide in (search rules, omega arith, news i.table.shared.key _ n.seat.me.0 n.inserts)
 
 pub join_seat-requires : goal.join_seat-requires
-join_seat-requires c = let i = c.image.inside.words in let r = c.reader.inside.standing in let wide = i.wide in (search rules, search rules, ap (λ (m : Mine). m.1) c.split_seat-news.ensures.4, omega arith, tells i.table.shared.key _ r.seat.me.0 _ _ (λ e. let z = r.plain in omega arith))
+join_seat-requires c = let i = c.image.inside.words in let r = c.reader.inside.standing in let wide = i.wide in (search rules, search rules, ap (λ (m : Mine). m.1) c.split_seat-news.ensures.4, omega arith, tells i.table.shared.key _ r.seat.me.0 _ _ (λ e. let z = r.plain in omega arith) (ap (λ (m : Mine). m.0.reading.reads) c.split_seat-news.ensures.4))
 
 pub load-requires : goal.load-requires
 load-requires c = let i = c.image.inside.words in let r = c.reader.inside.standing in let wide = i.wide in (search rules, omega arith, settle i.table.shared.key _ _ _ _ (ap (λ (m : Mine). m.0.reading.reads) c.join_seat.ensures.2 ∙ r.reads))
@@ -22,7 +26,7 @@ split_seat-findings-requires c =
     (search rules, omega arith, findings i.table.shared.key _ _ (ap (λ (v : View). v.reading.reads) c.load.ensures.2.1.after ∙ ap (λ (m : Mine). m.0.reading.reads) c.join_seat.ensures.2 ∙ r.reads))
 
 pub join_seat-requires-2 : goal.join_seat-requires-2
-join_seat-requires-2 c = let i = c.image.inside.words in let wide = i.wide in (search rules, search rules, ap (λ (m : Mine). m.1) c.split_seat-findings.ensures.4, omega arith, attends i.table.shared.key _ _ _ _)
+join_seat-requires-2 c = let i = c.image.inside.words in let wide = i.wide in (search rules, search rules, ap (λ (m : Mine). m.1) c.split_seat-findings.ensures.4, omega arith, attends i.table.shared.key _ _ _ _ (ap (λ (m : Mine). m.0.reading.reads) c.split_seat-findings.ensures.4))
 
 pub load-requires-2 : goal.load-requires-2
 load-requires-2 c = let i = c.image.inside.words in let n = c.inserter.inside.hand in let wide = i.wide in (search rules, omega arith, confirm i.table.shared.key _ _ _ _ (ap (λ (m : Mine). m.0.inserting) c.join_seat-2.ensures.2 ∙ ap (λ (m : Mine). m.0.inserting) c.split_seat-news.ensures.2 ∙ n.inserts))
@@ -47,11 +51,33 @@ invariant_of-inserter c =
     (ap (λ (m : Mine). m.0) c.split_seat-findings.ensures.2)
     (ap (λ (m : Mine). m.0) c.join_seat-2.ensures.2 ∙ (λ j. attending_seat (c.split_seat-news.ensures.2 j).0 (c.split_seat-findings.ensures.4 j).0))
     c.load-2.ensures.2.1 in
-    let is = c.inserter.invariant in let w : View = c.load-2.new.seat.me.0 in record {
+    let rests = c.inserter.invariant in let is = rests.inserting in let w : View = c.load-2.new.seat.me.0 in
+    let held : w.held ≡ v.held = ap (λ (x : View). x.held) met.inserter in
+    rests_on c.inserter.inside.key c.inserter.inside.region c.inserter.inside.hand.seat.me c.load-2.new.seat.me c.inserter.inside.room c.inserter.inside.heads.items
+    (record {
       is_key = is.is_key;
       some = is.some;
       inserts = ap (λ (x : View). x.inserting) met.inserter ∙ is.inserts;
       seen = ap length met.seen ∙ length-set v.seen r.reading.number r.reading.unit ∙ is.seen;
       looks = ap (λ (x : View). length x.looks) met.inserter ∙ is.looks;
-      exact = subst (IsExact c.inserter.inside.key) (sym (ap (λ (x : View). x.held) met.inserter)) is.exact;
-    }
+      exact = subst (IsExact c.inserter.inside.key) (sym held) is.exact;
+      idle = ap (λ (x : Held). x.out) held ∙ is.idle;
+    })
+    (c.load-2.ensures.2.0 ∙ ap (λ (m : Mine). m.1) c.join_seat-2.ensures.2 ∙ ap (λ (m : Mine). m.1) c.split_seat-news.ensures.2)
+    held rests
+
+pub invariant_of-standing-clause-read : goal.invariant_of-standing-clause-read
+invariant_of-standing-clause-read c lt =
+    let v : View = c.inserter.inside.hand.seat.me.0 in let s = c.reader.inside.standing in let r : View = s.seat.me.0 in let now : View = c.split_seat-findings.new.seat.me.0 in
+    let e : now ≡ told_seat r (news_seat v.held.got v.seen) =
+    ap (λ (m : Mine). m.0) c.split_seat-findings.ensures.2 ∙ c.load.ensures.2.1.after ∙ ap (λ (m : Mine). m.0) c.join_seat.ensures.2 ∙ ap (λ (m : Mine). told_seat r m.0) c.split_seat-news.ensures.4 in
+    let old = s.read lt in
+    (read_on r now s.read_to v.held.got (ap (λ (x : View). x.reading.known) e) (ap (λ (x : View). x.reading.unit) e) old.0, ap (λ (x : View). x.reading.holds) e ∙ old.1)
+
+pub invariant_of-standing-clause-carries : goal.invariant_of-standing-clause-carries
+invariant_of-standing-clause-carries c =
+    let v : View = c.inserter.inside.hand.seat.me.0 in let s = c.reader.inside.standing in let r : View = s.seat.me.0 in let now : View = c.split_seat-findings.new.seat.me.0 in
+    let e : now ≡ told_seat r (news_seat v.held.got v.seen) =
+    ap (λ (m : Mine). m.0) c.split_seat-findings.ensures.2 ∙ c.load.ensures.2.1.after ∙ ap (λ (m : Mine). m.0) c.join_seat.ensures.2 ∙ ap (λ (m : Mine). told_seat r m.0) c.split_seat-news.ensures.4 in
+    carries_on s.units s.region s.seat.me c.split_seat-findings.new.seat.me v.held.got (e ∙ (λ j. record r { seen = (sym e j).seen; reading = record r.reading { known = (sym e j).reading.known } })) (ap (λ (x : View). x.reading.known) e)
+    (ap (λ (m : Mine). m.1) c.split_seat-findings.ensures.2 ∙ c.load.ensures.2.0 ∙ ap (λ (m : Mine). m.1) c.join_seat.ensures.2) s.carries

@@ -1,4 +1,4 @@
-use Rattle.std.proofs.Common.{◌≡◌, ◌+◌, ◌%◌, ◌<◌, ◌≤◌, ℕ, List, length, ap, sym, subst, ◌∙◌, arith}
+use Rattle.std.proofs.Common.{◌≡◌, ◌+◌, ◌%◌, ◌<◌, ◌≤◌, ℕ, List, length, inl, inr, ap, sym, subst, ◌∙◌, arith}
 use Rattle.std.specs.Prelude.{slice_index}
 use Rattle.image_rule.specs.declared.view.Key.{Key}
 use Rattle.image_rule.specs.declared.view.View.{View}
@@ -39,6 +39,16 @@ module _ (key : Key) (is : IsKey key) (v : View) (one : v.inserting ≡ 1) (exac
 
 pub drop_bits_as-requires-clause-may : goal.drop_bits_as-requires-clause-may
 drop_bits_as-requires-clause-may c = let i = c.args.image.now in let h = c.args.hand.now in first i.key i.is_key h.seat.me.0 h.inserts c.requires.exact h.floor c.args.count h.floor_is c.requires.some c.requires.short c.requires.near c.requires.passed _ c.start_word-start.ensures.is
+
+pub drop_bits_as-requires-clause-raise : goal.drop_bits_as-requires-clause-raise
+drop_bits_as-requires-clause-raise c = inl c.args.hand.now.floor_is
+
+pub drop_bits_as-requires-2-clause-raise : goal.drop_bits_as-requires-2-clause-raise
+drop_bits_as-requires-2-clause-raise c =
+    let i = c.args.image.now in let h = c.args.hand.now in let w : View = c.drop_bits_as.new.hand.seat.me.0 in
+    let e = emptied i.key i.is_key h.seat.me.0 h.inserts c.requires.exact h.floor c.args.count h.floor_is c.requires.some c.requires.short c.requires.near c.requires.passed _ c.start_word-start.ensures.is w c.drop_bits_as.ensures.drops in
+    let f = e.floor in let is = h.floor_is in let n = c.requires.near in
+    inr (e.out ∙ c.requires.idle, omega arith, omega arith)
 
 pub drop_bits_as-requires-2-clause-may : goal.drop_bits_as-requires-2-clause-may
 drop_bits_as-requires-2-clause-may c =

@@ -1,16 +1,22 @@
-use Rattle.std.proofs.Common.{◌≡◌, ◌*◌, ◌/◌, ◌≤◌, ap, sym, subst, ◌∙◌}
+use Rattle.frame_words.specs.Contents.{head_by}
+use Rattle.std.specs.Int.{to_le_bytes, w64}
+use Rattle.std.proofs.Common.{ℕ, List, ◌≡◌, ◌/◌, ◌%◌, ◌≤◌, ap, sym, subst, refl, ◌∙◌}
 use Rattle.std.specs.Prelude.{slice_index}
 use Rattle.image_rule.specs.declared.view.Key.{Key}
-use Rattle.image_rule.specs.Frames.{data_place, ring}
-use Rattle.image.specs.Handles.{ImageWords, InserterSeat, floor_of}
+use Rattle.image_rule.specs.Frames.{ring}
+use Rattle.image.specs.Handles.{InserterSeat, floor_of}
 use Rattle.image.specs.Looking.{IsFirstWord}
-use Rattle.image.proofs.Looks.{first_word, on_head}
+use Rattle.image.proofs.Looks.{first_bytes, on_head}
+use Rattle.image.proofs.Resting.{memory_of, same_key, seat_of}
 use Rattle.image.proofs.inserter.looking.head_at.Goals as goal
 
 pub returns-clause-head : goal.returns-clause-head
 returns-clause-head c =
-    let n : InserterSeat = record { of = c.inserter.inside.hand.seat.table_id; key = c.inserter.inside.key; view = c.inserter.inside.hand.seat.me.0 } in
-    let key : c.image.inside.words.key ≡ c.inserter.inside.key = ap (λ (x : ImageWords). x.key) c.image.view_is ∙ sym c.requires.fits.key ∙ ap (λ (x : InserterSeat). x.key) (sym c.inserter.view_is) in
-    let first : IsFirstWord n c.args.position c.fetch_as-first.result = first_word n c.inserter.invariant c.args.position c.fetch_as-first.result c.requires.unit (subst (λ (x : InserterSeat). floor_of x ≤ c.args.position) (sym c.inserter.view_is) c.requires.low)
-    (c.fetch_as-first.ensures.told.0 ∙ ap (slice_index n.view.held.words) (c.first_word-place.ensures.is ∙ ap (λ (k : Key). data_place (ring k) (4 * (c.args.position / 32))) key)) in
-    on_head n c.args.inserter.now c.args.position c.fetch_as-first.result c.head_in.result c.inserter.view_is c.inserter.invariant (subst (λ (x : InserterSeat). IsFirstWord x c.args.position c.fetch_as-first.result) c.inserter.view_is first) c.head_in.ensures
+    let n = c.inserter.inside in let i = c.image.inside.words in let is = c.inserter.invariant in
+    let key : n.key ≡ i.key = same_key i n c.args.image.now c.args.inserter.now c.image.view_is c.inserter.view_is c.requires.fits in
+    let has = memory_of (ring n.key) n.region n.hand.seat.me.0.held n.room n.heads.items is.has in
+    let place = c.place-place.result in
+    let first : IsFirstWord (seat_of n) c.args.position (slice_index n.heads.items place) =
+    first_bytes (seat_of n) is.inserting c.args.position (slice_index n.heads.items place) place has.free n.heads.items has.memory has.freed c.requires.unit (subst (λ (x : InserterSeat). floor_of x ≤ c.args.position) (sym c.inserter.view_is) c.requires.low)
+    (c.place-place.ensures.is ∙ ap (λ (k : Key). c.args.position / 32 % ring k) (sym key)) refl in
+    on_head (seat_of n) c.args.inserter.now c.args.position (slice_index n.heads.items place) c.head_in.result c.inserter.view_is is.inserting (subst (λ (x : InserterSeat). IsFirstWord x c.args.position (slice_index n.heads.items place)) c.inserter.view_is first) (c.head_in.ensures ∙ ap (λ (hs : List ℕ). head_by c.args.position (to_le_bytes w64 (slice_index hs place))) c.as_slice.ensures.value)

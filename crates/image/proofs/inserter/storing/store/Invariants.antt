@@ -1,7 +1,5 @@
-use Rattle.std.proofs.Common.{◌∷◌}
-use Rattle.image_rule.specs.Frames.{held_place, ring}
-use Rattle.image.specs.Spelled.{drafted}
+use Rattle.image_rule.specs.Reads.{no_frame}
 use Rattle.image.proofs.inserter.storing.store.Given as goal
 
-abbrev pub ghosts-set_first_as : goal.ghosts-set_first_as
-ghosts-set_first_as a = record { place = held_place (ring a.image.now.key) a.draft.now.unit; floor = a.hand.now.seat.me.0.held.floor; got = drafted a.image.now.key.identity a.draft.now ∷ a.hand.now.seat.me.0.held.got }
+abbrev pub ghosts-take_as : goal.ghosts-take_as
+ghosts-take_as a = record { site = a.image.now.table.shared.key; frame = no_frame; unit = a.unit; place = 0 }

@@ -1,0 +1,4 @@
+pub mod Identity
+pub mod Owned
+pub mod Lent
+pub mod Pooled

@@ -1,0 +1,56 @@
+//! Bytes copied in and out.
+ghost use Rattle.std.specs.Prelude.{◌≡◌, ◌≤◌, ◌<◌, ◌++◌, length, take, drop};
+ghost use Rattle.region.specs.Identity.{start_address};
+
+use crate::access::{ReadAccess, WriteAccess};
+use crate::region::{Region, RegionStart};
+use std::sync::Arc;
+
+impl WriteAccess {
+    /// Writes bytes over the front of the run, which lies `at` bytes behind the region's start.
+    pub fn write(
+        self,
+        region: Arc<Region>,
+        start: RegionStart,
+        at: usize,
+        bytes: &[u8],
+    ) -> (Arc<Region>, WriteAccess)
+        requires region { self.identity ≡ region.value.identity }
+        requires place { (start.address ≡ start_address self.identity) × (at ≡ self.at) }
+        requires fits { length bytes.now ≤ length self.items }
+        ensures region { result.0.value.identity ≡ region.value.identity }
+        ensures written { result.1
+            ≡ record self { items = bytes.now ++ drop (length bytes.now) self.items } }
+    {
+        let len = bytes.len();
+        if bytes.is_empty() {
+            return (region, self);
+        }
+        let (front, back) = self.split_at(len);
+        let (mut room, loan) = front.lend(region, start, at, len);
+        copy(&mut room, bytes);
+        let (region, front) = loan.end(room);
+        (region, front.append(back))
+    }
+}
+
+impl ReadAccess {
+    /// Copies the first bytes, which lie `at` bytes behind the region's start.
+    pub fn copy_to(&self, region: &Region, start: RegionStart, at: usize, into: &mut [u8])
+        requires some { 0 < self.now.count }
+        requires region { self.now.identity ≡ region.now.identity }
+        requires place { (start.address ≡ start_address self.now.identity) × (at ≡ self.now.at)
+            × (length into.old ≤ length self.now.items) }
+        ensures { into.new ≡ take (length into.old) self.now.items }
+    {
+        copy(into, self.bytes(region, start, at, into.len()));
+    }
+}
+
+/// Copies as many bytes as there are places.
+fn copy(into: &mut [u8], bytes: &[u8])
+    requires { length into.old ≡ length bytes.now }
+    ensures { into.new ≡ bytes.now }
+{
+    into.copy_from_slice(bytes);
+}
