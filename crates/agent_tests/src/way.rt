@@ -85,7 +85,10 @@ pub fn open_group_sender<'a>(
 /// A subscriber of a receiver with this id and this window that has no image yet.
 pub fn member(alloc: Global, id: i64, window: u32) -> Result<Subscriber, Fail> {
     let core = ReceiverCore::new(alloc, 1, 1001, window, id, 1);
-    Ok(Subscriber::new(alloc, core, 8192)?)
+    match Subscriber::new(alloc, core, 8192) {
+        Ok(subscriber) => Ok(subscriber),
+        Err(_) => Err(AllocError.into()),
+    }
 }
 
 /// A subscriber that has no image yet.
@@ -93,7 +96,10 @@ pub fn listening(alloc: Global) -> Result<Subscriber, Fail>
     ensures { IfOk result (λ s. (r : Receiver) × RepresentsSubscriber s r × (r.image ≡ None)) }
 {
     let core = ReceiverCore::new(alloc, 1, 1001, 32_768, 3, 1);
-    Ok(Subscriber::new(alloc, core, 8192)?)
+    match Subscriber::new(alloc, core, 8192) {
+        Ok(subscriber) => Ok(subscriber),
+        Err(_) => Err(AllocError.into()),
+    }
 }
 
 /// Offers a message of so many bytes, all of this value. The answer is the position behind it.

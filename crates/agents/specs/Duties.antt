@@ -24,9 +24,9 @@ pub record Hears {R F : Type 0} (source : R → Source) (leaves : R → R → Ty
   pub hears : SenderHears after_status reached has_heard (at_moment s now) (source s.reads) bytes t (source t.reads) given
   pub left : leaves s.reads t.reads
 
--- a moment
-pub record Ticks {R F : Type 0} (source : R → Source) (leaves : R → R → Type 0) (grown : List Placed → List Placed → Type 0) (after_tick : F → ℕ → F) (reached : F → ℕ) (s : Sending R F) (now : ℕ) (t : Sending R F) (given : List (List ℕ)) : Type 0 where
-  pub cycles : Cycles grown after_tick reached (at_moment s now) (source s.reads) (source t.reads) t given
+-- a moment, by what it is to have looked between two states of the reads and found no frame
+pub record Ticks {R F : Type 0} (source : R → Source) (leaves : R → R → Type 0) (looked : R → R → Type 0) (grown : List Placed → List Placed → Type 0) (after_tick : F → ℕ → F) (reached : F → ℕ) (s : Sending R F) (now : ℕ) (t : Sending R F) (given : List (List ℕ)) : Type 0 where
+  pub cycles : Cycles (looked s.reads t.reads) grown after_tick reached (at_moment s now) (source s.reads) (source t.reads) t given
   pub left : leaves s.reads t.reads
 
 -- one of these datagrams is a status message of the sender's stream that doesn't ask for a SETUP

@@ -2,7 +2,7 @@
 
 ghost use Rattle.std.specs.Prelude.{◌≡◌, ◌≤◌, false};
 ghost use Rattle.endpoint.specs.Devices.{NeverFall};
-ghost use Rattle.sender.specs.Sending.{BeginsAt, SendsFrom};
+ghost use Rattle.sender.specs.Sending.{BeginsAt, HasLooked, SendsFrom};
 ghost use Rattle.agents.specs.Asking.{AsksOnce};
 ghost use Rattle.agents.specs.Duties.{AgentCycle, AgentWays, Hears, Ticks};
 
@@ -96,7 +96,7 @@ impl<R: FrameSource<()>, F: FlowControl + Drop> SenderAgent<R, F> {
         requires stands { R.stands self.old.core.reads tt × SendsFrom self.old.core (R.source self.old.core.reads tt) }
         requires size { duty.old.mtu ≡ self.old.core.identity.geometry.mtu }
         requires queue { client.old.queue ≡ conductor.now }
-        ensures cycle { AgentCycle (Hears (λ r. R.source r tt) (λ r q. R.leaves r tt q tt) F.after_status F.reached F.has_heard) (Ticks (λ r. R.source r tt) (λ r q. R.leaves r tt q tt) R.grown F.after_tick F.reached) now (D.tells duty.old.device) self.old client.old (D.device duty.old.device) result self.new client.new (D.device duty.new.device) }
+        ensures cycle { AgentCycle (Hears (λ r. R.source r tt) (λ r q. R.leaves r tt q tt) F.after_status F.reached F.has_heard) (Ticks (λ r. R.source r tt) (λ r q. R.leaves r tt q tt) (λ r q. HasLooked R.leaves R.looked r tt q tt) R.grown F.after_tick F.reached) now (D.tells duty.old.device) self.old client.old (D.device duty.old.device) result self.new client.new (D.device duty.new.device) }
         ensures stands { R.stands self.new.core.reads tt × SendsFrom self.new.core (R.source self.new.core.reads tt) }
         ensures size { (duty.new.mtu ≡ duty.old.mtu) × (self.new.core.identity.geometry.mtu ≡ self.old.core.identity.geometry.mtu) }
         ensures device { NeverFall (D.device duty.old.device) (D.device duty.new.device) × (D.tells duty.old.device → D.tells duty.new.device) }
@@ -119,7 +119,7 @@ impl<R: FrameSource<()>, F: FlowControl + Drop> SenderAgent<R, F> {
         requires stands { R.stands self.old.core.reads tt × SendsFrom self.old.core (R.source self.old.core.reads tt) }
         requires size { duty.old.mtu ≡ self.old.core.identity.geometry.mtu }
         requires queue { client.old.queue ≡ conductor.now }
-        ensures cycle { AgentWays (Hears (λ r. R.source r tt) (λ r q. R.leaves r tt q tt) F.after_status F.reached F.has_heard) (Ticks (λ r. R.source r tt) (λ r q. R.leaves r tt q tt) R.grown F.after_tick F.reached) now D.device D.tells D.turned (D.way_count duty.old.device) self.old client.old duty.old.device result self.new client.new duty.new.device }
+        ensures cycle { AgentWays (Hears (λ r. R.source r tt) (λ r q. R.leaves r tt q tt) F.after_status F.reached F.has_heard) (Ticks (λ r. R.source r tt) (λ r q. R.leaves r tt q tt) (λ r q. HasLooked R.leaves R.looked r tt q tt) R.grown F.after_tick F.reached) now D.device D.tells D.turned (D.way_count duty.old.device) self.old client.old duty.old.device result self.new client.new duty.new.device }
         ensures stands { R.stands self.new.core.reads tt × SendsFrom self.new.core (R.source self.new.core.reads tt) }
         ensures size { (duty.new.mtu ≡ duty.old.mtu) × (self.new.core.identity.geometry.mtu ≡ self.old.core.identity.geometry.mtu) }
         ensures counts { (D.device duty.old.device).failures ≤ (D.device duty.new.device).failures }

@@ -10,7 +10,7 @@ use sender::{SenderCore, SenderEvent};
 use std::alloc::AllocError;
 
 impl<R: FrameSource<()>, F: FlowControl + Drop> Party for SenderCore<R, F> {
-    ghost use Rattle.sender.specs.Sending.{SendsFrom};
+    ghost use Rattle.sender.specs.Sending.{HasLooked, SendsFrom};
     ghost use Rattle.agents.specs.Duties.{Hears, Ticks};
 
     ghost stands = { λ s. R.stands s.reads tt × SendsFrom s (R.source s.reads tt) };
@@ -19,7 +19,7 @@ impl<R: FrameSource<()>, F: FlowControl + Drop> Party for SenderCore<R, F> {
 
     ghost hears = { Hears (λ r. R.source r tt) (λ r q. R.leaves r tt q tt) F.after_status F.reached F.has_heard };
 
-    ghost ticks = { Ticks (λ r. R.source r tt) (λ r q. R.leaves r tt q tt) R.grown F.after_tick F.reached };
+    ghost ticks = { Ticks (λ r. R.source r tt) (λ r q. R.leaves r tt q tt) (λ r q. HasLooked R.leaves R.looked r tt q tt) R.grown F.after_tick F.reached };
 
     fn hear(&mut self, datagram: &[u8], now: u64, outbox: &mut Outbox) -> Result<(), AllocError> {
         self.step(&mut (), SenderEvent::Datagram(datagram), now, outbox);

@@ -22,7 +22,7 @@ use Rattle.std.proofs.NetLemmas.Ipv4.{read_ipv4_complete}
 use Rattle.std.proofs.NetLemmas.Theorems.{IsIpv4Text_unique, IsIpv6Text_unique}
 use Rattle.text.specs.Decimals.{is_number, number_of}
 use Rattle.channel.specs.Bytes.{Lacks}
-use Rattle.channel.specs.Hosts.{IsAddress, IsBracketed, IsHost, IsLastLabel, IsName, IsNamed, bracketed, is_name_byte}
+use Rattle.channel.specs.Hosts.{IsAddress, IsBracketed, IsHost, IsLastLabel, IsName, IsNamed, Spells, bracketed, is_name_byte, is_of_many}
 use Rattle.channel.specs.Settings.{Cuts, IsEndpoint, IsNotCut}
 use Rattle.channel.specs.Values.{IsPositive}
 use Rattle.channel.specs.declared.endpoint.Endpoint.{Endpoint}
@@ -75,11 +75,21 @@ bracketed_once text a b h k =
 pub bracketed_is : (text inner : List ℕ) (a : Ipv6Addr) → text ≡ bracketed inner → IsBracketed text a → IsIpv6Text inner a
 bracketed_is text inner a cut h = subst (λ t. IsIpv6Text t a) (inner_once h.inner inner (sym h.cut ∙ cut)) h.spells
 
+spelled_once : (text : List ℕ) (a b : IpAddr) → Spells text a → Spells text b → a ≡ b
+spelled_once text (addresses.V4 a) (addresses.V4 b) h k = ap addresses.V4 (IsIpv4Text_unique text a b h k)
+spelled_once text (addresses.V4 a) (addresses.V6 b) h k = absurd (dotted_or_bracketed text k.inner (ipv4_octets a) h k.cut)
+spelled_once text (addresses.V6 a) (addresses.V4 b) h k = absurd (dotted_or_bracketed text h.inner (ipv4_octets b) k h.cut)
+spelled_once text (addresses.V6 a) (addresses.V6 b) h k = ap addresses.V6 (bracketed_once text a b h k)
+
 pub address_once : (text : List ℕ) (a b : IpAddr) → IsAddress text a → IsAddress text b → a ≡ b
-address_once text (addresses.V4 a) (addresses.V4 b) h k = ap addresses.V4 (IsIpv4Text_unique text a b h k)
-address_once text (addresses.V4 a) (addresses.V6 b) h k = absurd (dotted_or_bracketed text k.inner (ipv4_octets a) h k.cut)
-address_once text (addresses.V6 a) (addresses.V4 b) h k = absurd (dotted_or_bracketed text h.inner (ipv4_octets b) k h.cut)
-address_once text (addresses.V6 a) (addresses.V6 b) h k = ap addresses.V6 (bracketed_once text a b h k)
+address_once text a b h k = spelled_once text a b h.spelled k.spelled
+
+-- where that one is of many there is none of one host
+pub none_of_many : (text : List ℕ) (a b : IpAddr) → Spells text a → is_of_many a ≡ true → IsAddress text b → ⊥
+none_of_many text a b h many k =
+    let same = spelled_once text a b h k.spelled in
+    let one : is_of_many a ≡ false = subst (λ x. is_of_many x ≡ false) (sym same) k.of_one in
+    cc
 
 -- ---- names
 
@@ -111,7 +121,7 @@ bracketed_or_name text inner cut name =
     let all : list_all is_name_byte (bracketed inner) ≡ true = subst (λ t. list_all is_name_byte t ≡ true) cut name.bytes in
     cc
 
-address_or_name : (text : List ℕ) (a : IpAddr) → IsAddress text a → IsName text → ⊥
+address_or_name : (text : List ℕ) (a : IpAddr) → Spells text a → IsName text → ⊥
 address_or_name text (addresses.V4 a) h name = dotted_or_name text (ipv4_octets a) h name
 address_or_name text (addresses.V6 a) h name = bracketed_or_name text h.inner h.cut name
 
@@ -126,8 +136,8 @@ name_once text a b h k =
 
 pub host_once : (text : List ℕ) (a b : Host) → IsHost text a → IsHost text b → a ≡ b
 host_once text (Address a) (Address b) h k = ap Address (address_once text a b h k)
-host_once text (Address a) (Name b) h k = absurd (address_or_name text a h k.1)
-host_once text (Name a) (Address b) h k = absurd (address_or_name text b k h.1)
+host_once text (Address a) (Name b) h k = absurd (address_or_name text a h.spelled k.1)
+host_once text (Name a) (Address b) h k = absurd (address_or_name text b k.spelled h.1)
 host_once text (Name a) (Name b) h k = ap Name (name_once text a b h.0 k.0)
 
 -- ---- the last label, and the last colon

@@ -1,7 +1,8 @@
 -- A few texts and what they spell.
-use Rattle.std.proofs.Common.{◌≡◌, inr, None, Some, refl, arith}
+use Rattle.std.proofs.Common.{◌≡◌, inr, None, Some, ℕ, true, false, Bool, List, [], ◌∷◌, refl, arith}
 use Rattle.std.specs.Prelude.{codes, negsuc}
-use Rattle.channel.specs.Hosts.{IsName}
+use Rattle.std.specs.declared.net.IpAddr.TheVariants as addresses
+use Rattle.channel.specs.Hosts.{IsName, is_of_many}
 use Rattle.channel.proofs.Addresses.{name_made}
 use Rattle.channel.proofs.Cuts.{lacks_from}
 use Rattle.text.specs.Decimals.{signed_of, number_of}
@@ -43,3 +44,35 @@ a_name = name_made (codes "feed-7.example_1.org") (codes "org") (omega arith) re
 -- the last octet is left out
 three_numbers : IsName (codes "10.0.0") → ⊥
 three_numbers name = let none = name.no_number (codes "0") (record { lacks = lacks_from 46 (codes "0") refl; cut = inr (codes "10.0", refl) }) in cc
+
+-- ---- addresses of many
+
+abbrev short : ℕ → ℕ → ℕ → ℕ → Bool
+short a b c d = is_of_many (addresses.V4 (record { octets = a ∷ b ∷ c ∷ d ∷ [] }))
+
+abbrev long : ℕ → ℕ → Bool
+long a b = is_of_many (addresses.V6 (record { segments = a ∷ 0 ∷ 0 ∷ 0 ∷ 0 ∷ 0 ∷ 0 ∷ b ∷ [] }))
+
+first_multicast : short 224 0 0 0 ≡ true
+first_multicast = refl
+
+last_multicast : short 239 255 255 255 ≡ true
+last_multicast = refl
+
+below_multicast : short 223 255 255 255 ≡ false
+below_multicast = refl
+
+above_multicast : short 240 0 0 0 ≡ false
+above_multicast = refl
+
+broadcast : short 255 255 255 255 ≡ true
+broadcast = refl
+
+any_address : short 0 0 0 0 ≡ false
+any_address = refl
+
+long_multicast : long 65282 1 ≡ true
+long_multicast = refl
+
+link_local : long 65152 1 ≡ false
+link_local = refl

@@ -16,6 +16,7 @@ use Rattle.channel.specs.declared.channel.Transport.{Transport}
 use Rattle.channel.specs.declared.fault.ChannelFault.{ChannelFault}
 use Rattle.channel.specs.declared.fault.ChannelFault.TheVariants.{Prefix, Part, Unknown, Repeated, Value, NoEndpoint, Families, Ttl, Apart}
 use Rattle.channel.specs.Bytes.{Lacks}
+use Rattle.channel.specs.Hosts.{is_of_many}
 use Rattle.channel.specs.Settings.{name_of, HasNoValue, is_set, nothing, Sets}
 
 -- what stands between the `|` of a text
@@ -80,6 +81,7 @@ to_address t a = record t { endpoint = record t.endpoint { host = Address a } }
 pub record IsToAddress (old : Transport) (a : IpAddr) (new : Transport) : Type 0 where
   pub is : new ≡ to_address old a
   pub fit : IsFit new
+  pub of_one : is_of_many a ≡ false
 
 -- the same to this endpoint
 abbrev pub to_endpoint : Transport → Endpoint → Transport

@@ -1,5 +1,5 @@
 -- Which text spells which host.
-use Rattle.std.specs.Prelude.{◌≡◌, ◌≤◌, ◌⊎◌, ◌==◌, ◌&&◌, ◌||◌, ℕ, ◌-◌, Bool, true, false, List, [], ◌∷◌, ◌++◌, length, take, replicate, slice_index, bytes_eq, codes}
+use Rattle.std.specs.Prelude.{◌≡◌, ◌≤◌, ◌⊎◌, ◌==◌, ◌&&◌, ◌||◌, ℕ, ◌-◌, ◌/◌, Bool, true, false, List, [], ◌∷◌, ◌++◌, length, take, replicate, slice_index, bytes_eq, codes}
 use Rattle.std.specs.List.{list_all}
 use Rattle.std.specs.Char.{is_ascii_alphanumeric, is_ascii_digit}
 use Rattle.std.specs.Net.Addr.{ipv4_octets, ipv6_segments}
@@ -24,9 +24,19 @@ pub record IsBracketed (text : List ℕ) (a : Ipv6Addr) : Type 0 where
   pub spells : IsIpv6Text inner a
 
 -- four numbers and three dots, or an IPv6 address in brackets
-abbrev pub IsAddress : List ℕ → IpAddr → Type 0
-IsAddress text (addresses.V4 a) = IsIpv4Text text a
-IsAddress text (addresses.V6 a) = IsBracketed text a
+abbrev pub Spells : List ℕ → IpAddr → Type 0
+Spells text (addresses.V4 a) = IsIpv4Text text a
+Spells text (addresses.V6 a) = IsBracketed text a
+
+-- multicast, 224.0.0.0/4 and ff00::/8, or broadcast, 255.255.255.255
+abbrev pub is_of_many : IpAddr → Bool
+is_of_many (addresses.V4 a) = (slice_index (ipv4_octets a) 0 / 16 == 14) || bytes_eq (ipv4_octets a) (255 ∷ 255 ∷ 255 ∷ 255 ∷ [])
+is_of_many (addresses.V6 a) = slice_index (ipv6_segments a) 0 / 256 == 255
+
+-- an address of one host
+pub record IsAddress (text : List ℕ) (a : IpAddr) : Type 0 where
+  pub spelled : Spells text a
+  pub of_one : is_of_many a ≡ false
 
 -- ---- a name
 

@@ -9,8 +9,8 @@ use Rattle.channel.specs.declared.fault.ChannelFault.TheVariants.{Prefix, Part, 
 
 -- which values a parameter takes
 abbrev pub range_of : Parameter → List ℕ
-range_of Endpoint = codes "an IPv4 address, an IPv6 address in brackets or a name, a colon and a port from 1 to 65535"
-range_of Interface = codes "an IPv4 address or an IPv6 address in brackets"
+range_of Endpoint = codes "an IPv4 address, an IPv6 address in brackets or a name, a colon and a port from 1 to 65535; no multicast or broadcast address"
+range_of Interface = codes "an IPv4 address or an IPv6 address in brackets; no multicast or broadcast address"
 range_of Ttl = codes "a whole number from 1 to 255"
 range_of Mtu = codes "a multiple of 32 from 256 to an eighth of the term, at most 65504"
 range_of TermLength = codes "a power of two from 65536 to 16777216, as 64k or 16m"

@@ -1,13 +1,14 @@
 //! A channel, read from its text.
 
-ghost use Rattle.std.specs.Prelude.{◌≡◌, IfOk, IfErr, IfSome, IfNone, IsOkAnd};
+ghost use Rattle.std.specs.Prelude.{◌≡◌, false, IfOk, IfErr, IfSome, IfNone, IsOkAnd};
 ghost use Rattle.channel.specs.Settings.{Sets, nothing};
 ghost use Rattle.channel.specs.declared.channel.Channel.{Channel};
 ghost use Rattle.channel.specs.Channels.{IsChannel, IsEndFault, IsFaultAmong, IsFirstFault, IsFit, IsMadeOf, IsToAddress, IsToEndpoint, has_lost_ttl, is_mixed, names_ipv4, names_ipv6, parts, start_of, to_address, to_endpoint};
+ghost use Rattle.channel.specs.Hosts.{is_of_many};
 
 use crate::endpoint::{Endpoint, part_setting};
 use crate::fault::ChannelFault;
-use crate::host::Host;
+use crate::host::{Host, is_of_many};
 use crate::parts::Parts;
 use crate::settings::Settings;
 use std::net::IpAddr;
@@ -32,11 +33,15 @@ pub struct Transport {
 }
 
 impl Transport {
-    /// The same to this address, if its family goes with what else is named.
+    /// The same to this address, if that is of one host, neither multicast nor broadcast, and its family goes with what else is
+    /// named.
     pub fn to_address(&self, address: IpAddr) -> Option<Transport>
         ensures found { IfSome result (IsToAddress self.now address) }
-        ensures none { IfNone result (¬ IsFit (to_address self.now address)) }
+        ensures none { IfNone result (IsFit (to_address self.now address) → is_of_many address ≡ false → ⊥) }
     {
+        if is_of_many(address) {
+            return None;
+        }
         let transport = Transport {
             endpoint: Endpoint {
                 host: Host::Address(address),

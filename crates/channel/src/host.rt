@@ -6,7 +6,7 @@ ghost use Rattle.std.specs.List.{list_all};
 ghost use Rattle.std.specs.declared.net.IpAddr.{IpAddr as AnyAddress};
 ghost use Rattle.std.specs.declared.net.Ipv6Addr.{Ipv6Addr as LongAddress};
 ghost use Rattle.channel.specs.declared.host.Host.{Host as AnyHost};
-ghost use Rattle.channel.specs.Hosts.{IsAddress, IsBracketed, IsHost, IsLastLabel, IsName, IsNamed, bracketed, is_here, is_here_at, is_localhost, is_name_byte};
+ghost use Rattle.channel.specs.Hosts.{IsAddress, IsBracketed, IsHost, IsLastLabel, IsName, IsNamed, Spells, bracketed, is_here, is_here_at, is_localhost, is_name_byte, is_of_many};
 
 use std::net::{IpAddr, Ipv4Addr, Ipv6Addr};
 use std::str;
@@ -178,10 +178,22 @@ fn bracketed_in(text: &str) -> Option<Ipv6Addr>
     }
 }
 
+/// Whether an address is of many: multicast, or broadcast.
+pub(crate) fn is_of_many(address: IpAddr) -> bool
+    ensures { result ≡ is_of_many address }
+{
+    match address {
+        IpAddr::V4(address) => {
+            address.octets()[0] / 16 == 14 || address.octets() == [255, 255, 255, 255]
+        }
+        IpAddr::V6(address) => address.segments()[0] / 256 == 255,
+    }
+}
+
 /// The address that a text is: four decimal numbers below 256 with dots between them, or an IPv6 address in brackets.
-pub(crate) fn address_in(text: &str) -> Option<IpAddr>
-    ensures found { IfSome result (IsAddress text.now) }
-    ensures none { IfNone result ((a : AnyAddress) → IsAddress text.now a → ⊥) }
+fn spelled_in(text: &str) -> Option<IpAddr>
+    ensures found { IfSome result (Spells text.now) }
+    ensures none { IfNone result ((a : AnyAddress) → Spells text.now a → ⊥) }
 {
     if let Some(address) = bracketed_in(text) {
         return Some(IpAddr::V6(address));
@@ -190,6 +202,18 @@ pub(crate) fn address_in(text: &str) -> Option<IpAddr>
         Ok(address) => Some(IpAddr::V4(address)),
         Err(_) => None,
     }
+}
+
+/// The address of one host that a text is: it is neither multicast nor broadcast.
+pub(crate) fn address_in(text: &str) -> Option<IpAddr>
+    ensures found { IfSome result (IsAddress text.now) }
+    ensures none { IfNone result ((a : AnyAddress) → IsAddress text.now a → ⊥) }
+{
+    let address = spelled_in(text)?;
+    if is_of_many(address) {
+        return None;
+    }
+    Some(address)
 }
 
 /// The host that a text is.

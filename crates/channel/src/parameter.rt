@@ -76,9 +76,11 @@ impl Parameter {
     {
         match self {
             Parameter::Endpoint => {
-                "an IPv4 address, an IPv6 address in brackets or a name, a colon and a port from 1 to 65535"
+                "an IPv4 address, an IPv6 address in brackets or a name, a colon and a port from 1 to 65535; no multicast or broadcast address"
             }
-            Parameter::Interface => "an IPv4 address or an IPv6 address in brackets",
+            Parameter::Interface => {
+                "an IPv4 address or an IPv6 address in brackets; no multicast or broadcast address"
+            }
             Parameter::Ttl => "a whole number from 1 to 255",
             Parameter::Mtu => {
                 "a multiple of 32 from 256 to an eighth of the term, at most 65504"

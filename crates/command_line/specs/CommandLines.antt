@@ -35,11 +35,11 @@ AsksForDecode words word =
 abbrev pub hex_rule : Rule
 hex_rule = record (new_rule (codes "HEX")) { required = true }
 
--- what a parse reads of the program's command, by itself
+-- what a parse reads of the program's command, by itself; without any words it is refused
 abbrev pub bare_app : App
 bare_app =
     let a = new_app (codes "mdriver") in
-    record a { top = record a.top { subcommand_required = true } }
+    record a { top = record a.top { subcommand_required = true; arg_required_else_help = true } }
 
 -- and with its three subcommands, of which one has to be there
 abbrev pub driver_app : App

@@ -1,12 +1,13 @@
 -- Options of a command line that may stand several times.
 use Rattle.std.specs.Prelude.{◌≡◌, ℕ, List, [], Some, map, unwrap_or}
 use Rattle.std.specs.Borrow.{Bor}
-use Rattle.clap.specs.Words.{App, Row, Rule, Text, all_of, new_rule, with_rule}
+use Rattle.clap.specs.Words.{App, Row, Rule, Text, all_of, with_rule}
 use Rattle.clap.specs.declared.builder.action.ArgAction.TheVariants.{Append}
+use Rattle.command_line.specs.Numbers.{valued_rule}
 
 -- what a parse reads of such an option
 abbrev pub list_rule : Text → Rule
-list_rule name = record (new_rule name) { long = Some name; action = Some Append }
+list_rule name = record (valued_rule name) { action = Some Append }
 
 -- a command with one such option more
 abbrev pub plus_list : Text → App → App

@@ -6,9 +6,13 @@ use Rattle.clap.specs.Words.{App, Row, Rule, Text, new_rule, one_of, with_rule}
 use Rattle.clap.specs.declared.builder.value_parser.ValueParser.TheVariants.{Unsigned}
 use Rattle.command_line.specs.declared.number.Number.{Number}
 
+-- what a parse reads of an option with a value, which the help calls by one name
+abbrev pub valued_rule : Text → Rule
+valued_rule name = record (new_rule name) { long = Some name; value_names = 1 }
+
 -- what a parse reads of an option with a number
 abbrev pub number_rule : Text → ℕ → ℕ → Rule
-number_rule name least most = record (new_rule name) { long = Some name; parser = Some (Unsigned least most) }
+number_rule name least most = record (valued_rule name) { parser = Some (Unsigned least most) }
 
 -- a command with one option more, with a number
 abbrev pub plus : Text → ℕ → ℕ → App → App

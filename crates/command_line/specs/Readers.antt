@@ -6,7 +6,7 @@ use Rattle.clap.specs.declared.error.kind.ErrorKind.TheVariants.{DisplayVersion}
 use Rattle.command_line.specs.CommandLines.{driver_app}
 use Rattle.command_line.specs.Lines.{publish_app, subscribe_app}
 use Rattle.command_line.specs.declared.readers.Reader.{Reader}
-use Rattle.command_line.specs.declared.readers.Reader.TheVariants.{Version, PublishHelp, SubscribeHelp, Publish, Subscribe, Driver}
+use Rattle.command_line.specs.declared.readers.Reader.TheVariants.{Version, PublishHelp, SubscribeHelp, Publish, Subscribe, DecodeInput, Driver}
 
 -- of a line that begins with this word, which may be its only one
 abbrev pub reader_at : Text → Bool → Reader
@@ -16,19 +16,24 @@ reader_at first is_alone =
     else if (bytes_eq first (codes "--version") || bytes_eq first (codes "-V")) && is_alone then Version
     else Driver
 
--- of a line of two words: `help` and a command, or any other
-abbrev pub reader_of_two : Text → Text → Reader
-reader_of_two first second =
+-- of a line of two words or more: `help` and a command, or any other
+abbrev pub reader_of_more : Text → Text → Reader
+reader_of_more first second =
     if bytes_eq first (codes "help")
     then (if bytes_eq second (codes "publish") then PublishHelp else if bytes_eq second (codes "subscribe") then SubscribeHelp else Driver)
     else reader_at first false
+
+-- of a line of two words: `decode --stdin`, or any other
+abbrev pub reader_of_two : Text → Text → Reader
+reader_of_two first second =
+    if bytes_eq first (codes "decode") && bytes_eq second (codes "--stdin") then DecodeInput else reader_of_more first second
 
 -- of the words behind the program's name
 abbrev pub reader_of : List Text → Reader
 reader_of [] = Driver
 reader_of (first ∷ []) = reader_at first true
 reader_of (first ∷ second ∷ []) = reader_of_two first second
-reader_of (first ∷ second ∷ third ∷ rest) = reader_at first false
+reader_of (first ∷ second ∷ third ∷ rest) = reader_of_more first second
 
 -- the line that asks for a command's help
 abbrev pub help_line : Text → List Text
@@ -41,6 +46,7 @@ faults_by PublishHelp words = fault_of publish_app (help_line (codes "publish"))
 faults_by SubscribeHelp words = fault_of subscribe_app (help_line (codes "subscribe"))
 faults_by Publish words = fault_of publish_app (drop 1 words)
 faults_by Subscribe words = fault_of subscribe_app (drop 1 words)
+faults_by DecodeInput words = []
 faults_by Driver words = fault_of driver_app words
 
 abbrev pub faults_of : List Text → Kinds

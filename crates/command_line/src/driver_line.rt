@@ -62,38 +62,72 @@ fn joined<'a>(
     command.subcommand(subcommand?)
 }
 
-/// What the help says of the commands that this parser doesn't read.
-const MORE: &str = "From process to process:
+/// The program's help.
+const HELP: &str =
+    "Carries messages from process to process over UDP, in order and each exactly once.
+
+Usage: mdriver <COMMAND>
+
+From process to process:
   publish    Publish each line of standard input as a message
   subscribe  Write each message to standard output as a line
 
-Help of one command is shown by help COMMAND or COMMAND --help, the version by -V or --version.
+To try it and to look inside:
+  run        Run publishers, a sender and receivers in threads of this process, over UDP
+  sim        Play the script on standard input (the repository's examples/README.md explains scripts)
+  decode     Print the frames of a datagram
+  help       Print this help, or that of a command
+
+Options:
+  -h, --help     Print this help
+  -V, --version  Print the version, and the kit that it is proved with
+
+The help of a command is printed by help COMMAND or COMMAND --help.
 
 Exit status:
   0  done
-  1  a fault, told in one line: also a run's term, MTU, length or rates out of their bounds
+  1  an error, told in one line; also a run's term, MTU, length or rates out of their bounds
   2  the command line is refused
   3  a run whose turns were used up, or an end of a channel that gave up";
 
-/// The program's command without those below it.
+/// The program's command without those below it. A line without words gets the help, and is refused.
 fn bare_command<'a>(alloc: Global) -> Result<Command<'a>, AllocError>
     ensures { IfOk result (λ r. app_of r ≡ bare_app) }
 {
     let command = Command::new(alloc, "mdriver").bin_name("mdriver")?;
     Ok(
         command
-            .about("A media driver with concurrent publications (--version tells which)")
-            .after_help(MORE)
-            .subcommand_required(true),
+            .override_help(HELP)
+            .subcommand_required(true)
+            .arg_required_else_help(true),
     )
 }
+
+/// What the help of `sim` says of scripts.
+const SCRIPTS: &str =
+    "The repository's examples/README.md explains scripts, and has all lines of their language.
+
+Exit status:
+  0  played
+  1  an error, told in one line with the number of the script's line";
 
 fn sim_command<'a>(alloc: Global) -> Command<'a>
     ensures shape { app_of result ≡ new_app (codes "sim") }
     ensures globals { (out-Command result).has_globals ≡ false }
 {
-    Command::new(alloc, "sim").about("Play the script on standard input")
+    Command::new(alloc, "sim")
+        .about("Play the script on standard input")
+        .after_help(SCRIPTS)
 }
+
+/// What the help of `decode` says of its digits.
+const DIGITS: &str =
+    "With --stdin in place of HEX each line of standard input is a datagram, in hexadecimal.
+
+Exit status:
+  0  printed
+  1  an error, told in one line: as hex where the digits aren't an even number of at most 131072,
+     or F1 to F8 where their bytes are no datagram";
 
 fn decode_command<'a>(alloc: Global) -> Result<Command<'a>, AllocError>
     ensures shape { IfOk result (λ r. app_of r ≡ with_rule (new_app (codes "decode")) hex_rule) }
@@ -104,5 +138,6 @@ fn decode_command<'a>(alloc: Global) -> Result<Command<'a>, AllocError>
         .required(true);
     Command::new(alloc, "decode")
         .about("Print the frames of a datagram")
+        .after_help(DIGITS)
         .arg(hex)
 }

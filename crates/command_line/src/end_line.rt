@@ -13,6 +13,8 @@ use std::alloc::{AllocError, Global};
 
 const STREAM: Number = Number {
     name: "stream",
+    value: "N",
+    heading: None,
     least: 0,
     most: 2_147_483_647,
     otherwise: 1001,
@@ -49,7 +51,7 @@ fn with_shared<'a>(alloc: Global, command: Command<'a>) -> Result<Command<'a>, A
         alloc,
         command,
         "counters",
-        "Show the counters once a second",
+        "Print the counters each second, and at the end, in a line on standard error",
     )
 }
 

@@ -33,6 +33,7 @@ mod publish_line;
 mod readers;
 mod run_line;
 mod subscribe_line;
+mod valued;
 
 pub use choice::Options;
 pub use driver_line::options;

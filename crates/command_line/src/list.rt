@@ -4,22 +4,22 @@ ghost use Rattle.std.specs.Prelude.{◌≡◌, IfOk};
 ghost use Rattle.clap.specs.Words.{app_of, found_of, rows_of};
 ghost use Rattle.command_line.specs.Lists.{AreTold, plus_list};
 
-use clap::{Arg, ArgAction, ArgMatches, Command};
+use crate::valued::valued;
+use clap::{ArgAction, ArgMatches, Command};
 use std::alloc::{AllocError, Global};
 
-/// The command with one option `--NAME` more, which may stand several times, each with a text.
+/// The command with one option `--NAME` more, which may stand several times, each with a text that the help
+/// calls so.
 pub(crate) fn with_list<'a>(
     alloc: Global,
     command: Command<'a>,
     name: &'static str,
+    value: &'static str,
     help: &'static str,
 ) -> Result<Command<'a>, AllocError>
     ensures { IfOk result (λ r. app_of r ≡ plus_list name.now (app_of command.entry)) }
 {
-    let argument = Arg::new(alloc, name)
-        .long(name)
-        .help(help)
-        .action(ArgAction::Append);
+    let argument = valued(alloc, name, value, help).action(ArgAction::Append);
     command.arg(argument)
 }
 

@@ -2,9 +2,14 @@
 
 use crate::number::Number;
 
+/// The heading of these options.
+const ON_PURPOSE: &str = "Losing datagrams on purpose, to try what happens then";
+
 /// How many of a thousand datagrams are lost.
 pub const LOSS: Number = Number {
     name: "loss",
+    value: "N",
+    heading: Some(ON_PURPOSE),
     least: 0,
     most: 1000,
     otherwise: 0,
@@ -14,6 +19,8 @@ pub const LOSS: Number = Number {
 /// How many of a thousand are repeated.
 pub(crate) const REPEAT: Number = Number {
     name: "repeat",
+    value: "N",
+    heading: Some(ON_PURPOSE),
     least: 0,
     most: 1000,
     otherwise: 0,
@@ -23,6 +30,8 @@ pub(crate) const REPEAT: Number = Number {
 /// How many of a thousand are held back.
 pub(crate) const HOLD: Number = Number {
     name: "hold",
+    value: "N",
+    heading: Some(ON_PURPOSE),
     least: 0,
     most: 1000,
     otherwise: 0,
@@ -32,6 +41,8 @@ pub(crate) const HOLD: Number = Number {
 /// Where the random words begin.
 pub const SEED: Number = Number {
     name: "seed",
+    value: "N",
+    heading: Some(ON_PURPOSE),
     least: 0,
     most: u64::MAX,
     otherwise: 1,

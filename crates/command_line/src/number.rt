@@ -5,14 +5,19 @@ ghost use Rattle.clap.specs.declared.builder.command.Command.TheViews.{out-Comma
 ghost use Rattle.clap.specs.Words.{app_of, found_of, rows_of};
 ghost use Rattle.command_line.specs.Numbers.{IsNumber, plus, with_numbers};
 
+use crate::valued::{headed, valued};
 use clap::builder::ValueParser;
-use clap::{Arg, ArgMatches, Command};
+use clap::{ArgMatches, Command};
 use std::alloc::{AllocError, Global};
 
 /// An option `--NAME` with a number.
 #[derive(Clone, Copy)]
 pub struct Number {
     pub name: &'static str,
+    /// What the help calls its value.
+    pub value: &'static str,
+    /// The heading under which the help shows it, `Options` where it is none.
+    pub heading: Option<&'static str>,
     /// The least number that is taken.
     pub least: u64,
     /// The greatest.
@@ -31,11 +36,10 @@ fn with_number<'a>(
     ensures shape { IfOk result (λ r. app_of r ≡ plus number.now.name.now number.now.least number.now.most (app_of command.entry)) }
     ensures globals { IfOk result (λ r. (out-Command command.entry).has_globals ≡ false → (out-Command r).has_globals ≡ false) }
 {
-    let argument = Arg::new(alloc, number.name)
-        .long(number.name)
-        .help(number.help)
-        .value_parser(ValueParser::unsigned(number.least, number.most));
-    command.arg(argument)
+    let argument = valued(alloc, number.name, number.value, number.help).value_parser(
+        ValueParser::unsigned(number.least, number.most),
+    );
+    command.arg(headed(argument, number.heading))
 }
 
 /// The command with these options more.

@@ -16,30 +16,34 @@ use std::alloc::{AllocError, Global};
 
 const LINGER: Number = Number {
     name: "linger",
+    value: "SECONDS",
+    heading: None,
     least: 1,
     most: 1_000_000,
     otherwise: 15,
-    help: "Give up after so many seconds without word of a subscriber that was heard, 1 to 1000000 [default: 15]",
+    help: "Give up after so long without word of a subscriber that was heard, 1 to 1000000 [default: 15]",
 };
 
 const WAIT: Number = Number {
     name: "wait",
+    value: "SECONDS",
+    heading: None,
     least: 1,
     most: 4_294_967_295,
     otherwise: 4_294_967_295,
-    help: "Give up after so many seconds in which no subscriber was ever heard; with --to begin then without those that weren't, from 1 on [default: none]",
+    help: "Give up after so long in which no subscriber was ever heard; with --to begin then without those that weren't, from 1 on [default: as long as it takes]",
 };
 
 /// The option that names endpoints besides the channel's.
 const TO: &str = "to";
 
-const TO_HELP: &str = "Send to this HOST:PORT too, each message to each; up to seven times";
+const TO_HELP: &str = "Send to this endpoint too, each message to each; up to seven times";
 
 const MORE: &str = "Examples:
   mdriver publish 'aeron:udp?endpoint=127.0.0.1:40123' < lines
   mdriver publish 'aeron:udp?endpoint=127.0.0.1:40123' --to 127.0.0.1:40124 < lines
 
-Parameters of the channel, parted by |:
+Parameters of the channel, separated by |:
   endpoint=HOST:PORT  an IPv4 address, an IPv6 address in brackets or a name, and a port from 1 to 65535
   interface=ADDRESS   the address that is sent from [default: any]
   ttl=HOPS            the time to live of datagrams, 1 to 255, for IPv4 alone [default: the system's]
@@ -48,12 +52,22 @@ Parameters of the channel, parted by |:
   session-id=ID       the stream's session [default: drawn]
   init-term-id=ID     with term-id=ID and term-offset=BYTES: where the stream starts [default: at 0, the id drawn]
 
-A message has at most an eighth of the term. It ends by itself once its input has ended
+A message has at most an eighth of the term. The program ends by itself once its input has ended
 (Ctrl-D at a terminal) and all is written; a signal loses the lines that aren't delivered yet.
+
+Counters, on standard error (with --to a line for each endpoint):
+  session      the stream's session
+  messages     how many were accepted from the input; recent: how many of them since the line before
+  tail, told   in bytes of the stream: how much was accepted; how much a subscriber has acknowledged
+  datagrams    how many were sent; resends: how many of them were sent again, for NAKs
+  naks         how many datagrams came that ask for what was lost
+  lost         how many calls of the socket failed
+  disbelieved  how many acknowledgements named more than was sent
+  refused      how many datagrams that came were no frame, by what was wrong with them
 
 Exit status:
   0  one subscriber has written all, from the first message to the last; at each endpoint one
-  1  a fault, told in one line
+  1  an error, told in one line
   2  the command line, the channel, an endpoint or the rates are refused
   3  it gave up, or all was written but not by one subscriber; a line says why";
 
@@ -68,7 +82,7 @@ fn command<'a>(alloc: Global) -> Result<Command<'a>, AllocError>
         "Publish each line of standard input as a message",
         MORE,
     )?;
-    let command = with_list(alloc, command, TO, TO_HELP)?;
+    let command = with_list(alloc, command, TO, "HOST:PORT", TO_HELP)?;
     with_numbers(alloc, command, &[LINGER, WAIT])
 }
 

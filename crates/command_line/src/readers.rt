@@ -1,21 +1,23 @@
 //! Who reads a line.
 
 ghost use Rattle.std.specs.Prelude.{◌≡◌, drop, map};
-ghost use Rattle.command_line.specs.Readers.{reader_at, reader_of, reader_of_two};
+ghost use Rattle.command_line.specs.Readers.{reader_at, reader_of, reader_of_more, reader_of_two};
 
 /// Who reads a line.
 #[derive(Clone, Copy, Debug, PartialEq, Eq)]
 pub enum Reader {
     /// The line asks for the version alone.
     Version,
-    /// It asks for the help of `publish`, as `help publish`.
+    /// It asks for the help of `publish`: `help publish`, with anything behind it.
     PublishHelp,
-    /// It asks for the help of `subscribe`, as `help subscribe`.
+    /// It asks for the help of `subscribe`, in the same way.
     SubscribeHelp,
     /// It is one of `publish`.
     Publish,
     /// It is one of `subscribe`.
     Subscribe,
+    /// It asks for the frames of the datagrams that the standard input spells: `decode --stdin`.
+    DecodeInput,
     /// It is any other.
     Driver,
 }
@@ -38,13 +40,23 @@ pub fn line_reader(line: &[&str]) -> Reader
         [] => Reader::Driver,
         [first] => reader_at(first, true),
         [first, second] => reader_of_two(first, second),
-        [first, ..] => reader_at(first, false),
+        [first, second, ..] => reader_of_more(first, second),
     }
 }
 
 /// Who reads a line of these two words.
 fn reader_of_two(first: &str, second: &str) -> Reader
     ensures { result ≡ reader_of_two first.now second.now }
+{
+    if first == "decode" && second == "--stdin" {
+        return Reader::DecodeInput;
+    }
+    reader_of_more(first, second)
+}
+
+/// Who reads a line that begins with these two words and isn't `decode --stdin`.
+fn reader_of_more(first: &str, second: &str) -> Reader
+    ensures { result ≡ reader_of_more first.now second.now }
 {
     if first != "help" {
         return reader_at(first, false);

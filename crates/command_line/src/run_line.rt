@@ -15,6 +15,8 @@ use std::alloc::{AllocError, Global};
 
 const PUBLISHERS: Number = Number {
     name: "publishers",
+    value: "N",
+    heading: None,
     least: 1,
     most: 8,
     otherwise: 4,
@@ -23,6 +25,8 @@ const PUBLISHERS: Number = Number {
 
 const RECEIVERS: Number = Number {
     name: "receivers",
+    value: "N",
+    heading: None,
     least: 1,
     most: 8,
     otherwise: 1,
@@ -31,6 +35,8 @@ const RECEIVERS: Number = Number {
 
 const MESSAGES_OF_EACH: Number = Number {
     name: "messages",
+    value: "N",
+    heading: None,
     least: 1,
     most: 1_000_000,
     otherwise: 1000,
@@ -39,6 +45,8 @@ const MESSAGES_OF_EACH: Number = Number {
 
 const LENGTH: Number = Number {
     name: "length",
+    value: "N",
+    heading: None,
     least: 8,
     most: 2_097_152,
     otherwise: 200,
@@ -47,6 +55,8 @@ const LENGTH: Number = Number {
 
 const TURNS: Number = Number {
     name: "turns",
+    value: "N",
+    heading: None,
     least: 1,
     most: 1_000_000_000,
     otherwise: 1_000_000,
@@ -55,6 +65,8 @@ const TURNS: Number = Number {
 
 const TERM: Number = Number {
     name: "term",
+    value: "N",
+    heading: None,
     least: 0,
     most: 4_294_967_295,
     otherwise: 65_536,
@@ -63,6 +75,8 @@ const TERM: Number = Number {
 
 const MTU: Number = Number {
     name: "mtu",
+    value: "N",
+    heading: None,
     least: 0,
     most: 4_294_967_295,
     otherwise: 1408,

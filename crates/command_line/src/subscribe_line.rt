@@ -16,24 +16,28 @@ use std::alloc::{AllocError, Global};
 
 const MESSAGE_LIMIT: Number = Number {
     name: "messages",
+    value: "N",
+    heading: None,
     least: 1,
     most: u64::MAX,
     otherwise: u64::MAX,
-    help: "End after so many messages, from 1 on [default: none]",
+    help: "End after so many messages, from 1 on [default: never]",
 };
 
 const QUIET: Number = Number {
     name: "quiet",
+    value: "SECONDS",
+    heading: None,
     least: 1,
     most: 4_294_967_295,
     otherwise: 4_294_967_295,
-    help: "End after so many seconds without a datagram of the stream, from 1 on [default: none, with --once 30]",
+    help: "End after so long without a datagram of the stream, from 1 on [default: never, with --once 30]",
 };
 
 const MORE: &str = "Example:
   mdriver subscribe 'aeron:udp?endpoint=127.0.0.1:40123' > lines
 
-Parameters of the channel, parted by |:
+Parameters of the channel, separated by |:
   endpoint=HOST:PORT  an IPv4 address, an IPv6 address in brackets or a name, and a port from 1 to 65535
   interface=ADDRESS   the address that is listened at [default: the endpoint's; any is 0.0.0.0 or [::]]
   ttl=HOPS            the time to live of datagrams, 1 to 255, for IPv4 alone [default: the system's]
@@ -41,11 +45,22 @@ Parameters of the channel, parted by |:
   session-id=ID       the one session that is taken [default: any]
 The others of a publisher's channel are taken, and say nothing here.
 
+Counters, on standard error:
+  session      the session that is followed, or none
+  messages     how many were written; this-second: how many of them since the line before
+  least, rebuilt, high-water
+               in bytes of the stream: up to where it was written; up to where nothing is missing; the furthest
+               that came
+  naks         how many datagrams were sent that ask for what was lost
+  lost         how many calls of the socket failed
+  strangers    how many datagrams came from others than the publisher
+  refused      how many datagrams that came were no frame, by what was wrong with them
+
 Exit status:
   0  it ended as it was told: by --messages, by --quiet, or with --once by the stream's end, all of it written
-  1  a fault, told in one line
+  1  an error, told in one line
   2  the command line, the channel or the rates are refused
-  3  with --once: the stream was silent for --quiet before its end was told and all was written";
+  3  with --once: the stream was silent for --quiet before its end was told and all was written; or something was lost";
 
 /// The command.
 fn command<'a>(alloc: Global) -> Result<Command<'a>, AllocError>

@@ -1,5 +1,5 @@
 -- What has been done where a status says so.
-use Rattle.std.proofs.Common.{◌≡◌, ◌≤◌, ℕ, List, [], ◌∷◌, Bool, true, false, Option, Result, Ok, Err, refl, sym, ◌∙◌, arith, subst, drop, length, eqb-true, true≢false}
+use Rattle.std.proofs.Common.{◌≡◌, ◌≢◌, ◌⊎◌, ◌≤◌, ℕ, IsTrue, ap, inl, inr, List, [], ◌∷◌, Bool, true, false, Option, Result, Ok, Err, refl, sym, ◌∙◌, arith, subst, drop, length, eqb-true, true≢false}
 use Rattle.std.specs.Bool.{◌==◌}
 use mathlib.Core.List.{cons≢nil}
 use Rattle.std.specs.Prelude.{IfOk, OnOk, is_ok}
@@ -38,23 +38,36 @@ published_whole (Ok published.Whole) P h is = h refl
 published_whole (Ok published.Short) P h is = absurd (omega (arith, is))
 published_whole (Err fault) P h is = absurd (omega (arith, is))
 
--- a fault's status, and that of a refusal, is no ending's
-pub no_ending : (n : ℕ) (e : EndedAs) → (n ≡ 0 → ⊥) → (n ≡ 3 → ⊥) → n ≡ subscribed_as e → ⊥
-no_ending n subscribed.Whole zero three is = zero is
-no_ending n subscribed.Short zero three is = three is
+-- by what it ended as
+pub told_whole : (P : EndedAs → Type 0) (n : ℕ) → n ≡ 0 → (e : EndedAs) × (n ≡ subscribed_as e) × P e → P subscribed.Whole
+told_whole P n zero (subscribed.Whole, is, p) = p
+told_whole P n zero (subscribed.Short, is, p) = absurd (omega (arith, is, zero))
+told_whole P n zero (subscribed.Lost, is, p) = absurd (omega (arith, is, zero))
 
-same_ending : (a b : EndedAs) → subscribed_as a ≡ subscribed_as b → a ≡ b
-same_ending subscribed.Whole subscribed.Whole is = refl
-same_ending subscribed.Whole subscribed.Short is = absurd (omega (arith, is))
-same_ending subscribed.Short subscribed.Whole is = absurd (omega (arith, is))
-same_ending subscribed.Short subscribed.Short is = refl
+pub told_short : (P : EndedAs → Type 0) (n : ℕ) → n ≡ 3 → (e : EndedAs) × (n ≡ subscribed_as e) × P e → P subscribed.Short ⊎ P subscribed.Lost
+told_short P n three (subscribed.Whole, is, p) = absurd (omega (arith, is, three))
+told_short P n three (subscribed.Short, is, p) = inl p
+told_short P n three (subscribed.Lost, is, p) = inr p
 
-pub subscribed_so : (p : SubscribePlan) (before after : Option (List ℕ)) (r : Result Subscribed SubscribeFault) (e : EndedAs)
+pub subscribed_so : (p : SubscribePlan) (before after : Option (List ℕ)) (r : Result Subscribed SubscribeFault)
     → IfOk r (λ s. Writes p.end.form 0 before s.messages after) → IfOk r (λ s. WritesLives p before s.messages after)
     → IfOk r (λ s. s.messages ≤ p.messages) → IfOk r (λ s. HasEnded p before s after)
-    → subscribed_status r ≡ subscribed_as e → IsSubscribed p before after e
-subscribed_so p before after (Ok s) e w l f h is = record { done = s; ended_as = same_ending s.ending e is; few = f; writes = w; lives = l; ended = h }
-subscribed_so p before after (Err fault) e w l f h is = absurd (no_ending 1 e (λ z. omega (arith, z)) (λ t. omega (arith, t)) is)
+    → subscribed_status r ≢ 1 → (e : EndedAs) × (subscribed_status r ≡ subscribed_as e) × IsSubscribed p before after e
+subscribed_so p before after (Ok s) w l f h not = (s.ending, refl, record { done = s; ended_as = refl; few = f; writes = w; lives = l; ended = h })
+subscribed_so p before after (Err fault) w l f h not = absurd (not refl)
+
+-- one that ended with 3 was to end with the stream, or has lost an image
+pub once_so : (p : SubscribePlan) (before after : Option (List ℕ)) (r : Result Subscribed SubscribeFault)
+    → IfOk r (λ s. Writes p.end.form 0 before s.messages after) → IfOk r (λ s. WritesLives p before s.messages after)
+    → IfOk r (λ s. s.messages ≤ p.messages) → IfOk r (λ s. HasEnded p before s after) → IfOk r (λ s. s.ending ≡ subscribed.Short → IsTrue p.once)
+    → subscribed_status r ≡ 3 → IsTrue p.once ⊎ IsSubscribed p before after subscribed.Lost
+once_so p before after (Ok s) w l f h once three = by_ending s.ending refl
+  where
+    by_ending : (e : EndedAs) → s.ending ≡ e → IsTrue p.once ⊎ IsSubscribed p before after subscribed.Lost
+    by_ending subscribed.Whole is = absurd (let whole : 0 ≡ 3 = sym (ap subscribed_as is) ∙ three in omega (arith, whole))
+    by_ending subscribed.Short is = inl (once is)
+    by_ending subscribed.Lost is = inr (record { done = s; ended_as = is; few = f; writes = w; lives = l; ended = h })
+once_so p before after (Err fault) w l f h once three = absurd (omega (arith, three))
 
 -- a line against which nothing is held isn't refused for its words
 pub none_held : (faults : Kinds) (fault : LineFault) (status : ℕ) → IsFaultOf faults fault → IsLineStatus fault status → faults ≡ [] → status ≡ 0 → ⊥

@@ -6,3 +6,4 @@ pub mod LineStatuses
 mod BoundRows
 pub mod PrintedLines
 pub mod Routes
+pub mod DecodedLines

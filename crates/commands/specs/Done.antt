@@ -1,5 +1,5 @@
 -- What a command line has done that ends with 0, or with 3, where the input and the output tell their bytes.
-use Rattle.std.specs.Prelude.{◌≡◌, ◌≢◌, ◌≤◌, ℕ, List, [], codes, drop, length, Option}
+use Rattle.std.specs.Prelude.{◌≡◌, ◌≢◌, ◌⊎◌, ◌≤◌, ℕ, List, [], codes, drop, length, Option}
 use Rattle.std.specs.Borrow.{Bor}
 use Rattle.std.specs.Io.KnownBytes.{Appends}
 use Rattle.clap.specs.Words.{Text, matches_of}
@@ -27,7 +27,8 @@ use Rattle.command_line.specs.Readers.{help_line, reader_of}
 use Rattle.command_line.specs.declared.choice.Options.{Options}
 use Rattle.command_line.specs.declared.choice.Options.TheVariants.{Sim, Decode, Run}
 use Rattle.command_line.specs.declared.readers.Reader.{Reader}
-use Rattle.command_line.specs.declared.readers.Reader.TheVariants.{Version, PublishHelp, SubscribeHelp, Publish, Subscribe, Driver}
+use Rattle.command_line.specs.declared.readers.Reader.TheVariants.{Version, PublishHelp, SubscribeHelp, Publish, Subscribe, DecodeInput, Driver}
+use Rattle.commands.specs.DecodedInput.{DecodesInput}
 use Rattle.commands.specs.Decoding.{SaysFrames}
 use Rattle.commands.specs.FrameLines.{frame_lines}
 use Rattle.commands.specs.Running.{IsLeftBy}
@@ -100,6 +101,10 @@ pub record IsSubscribedTold (o : SubscribeOptions) (before after : Option (List 
 abbrev pub SubscribesBy : List Text → Option (List ℕ) → Option (List ℕ) → EndedAs → Type 0
 SubscribesBy words before after ending = (o : SubscribeOptions) × IsSubscribeOf (matches_of subscribe_app words) o × IsSubscribedTold o before after ending
 
+-- it wasn't told the stream's end, or lost an image
+abbrev pub SubscribesShortBy : List Text → Option (List ℕ) → Option (List ℕ) → Type 0
+SubscribesShortBy words before after = SubscribesBy words before after subscribed.Short ⊎ SubscribesBy words before after subscribed.Lost
+
 -- ---- any line, by who reads it; its first word is the program's name
 
 abbrev pub IsDoneBy : Reader → List Text → Option (List ℕ) → Option (List ℕ) → Option (List ℕ) → Type 0
@@ -108,6 +113,7 @@ IsDoneBy PublishHelp words input before after = PublishesBy (help_line (codes "p
 IsDoneBy SubscribeHelp words input before after = SubscribesBy (help_line (codes "subscribe")) before after subscribed.Whole
 IsDoneBy Publish words input before after = PublishesBy (drop 1 words) input
 IsDoneBy Subscribe words input before after = SubscribesBy (drop 1 words) before after subscribed.Whole
+IsDoneBy DecodeInput words input before after = DecodesInput input before after
 IsDoneBy Driver words input before after = DrivesBy words input before after
 
 -- all that such a line asks for is done
@@ -117,11 +123,12 @@ IsDone words input before after = IsDoneBy (reader_of (drop 1 words)) words inpu
 abbrev pub IsShortBy : Reader → List Text → Option (List ℕ) → Option (List ℕ) → Type 0
 IsShortBy Version words before after = ⊥
 IsShortBy PublishHelp words before after = HasPlanBy (help_line (codes "publish"))
-IsShortBy SubscribeHelp words before after = SubscribesBy (help_line (codes "subscribe")) before after subscribed.Short
+IsShortBy SubscribeHelp words before after = SubscribesShortBy (help_line (codes "subscribe")) before after
 IsShortBy Publish words before after = HasPlanBy (drop 1 words)
-IsShortBy Subscribe words before after = SubscribesBy (drop 1 words) before after subscribed.Short
+IsShortBy Subscribe words before after = SubscribesShortBy (drop 1 words) before after
+IsShortBy DecodeInput words before after = ⊥
 IsShortBy Driver words before after = DrivesShortBy words before after
 
--- a run was short, or a subscriber wasn't told the stream's end; a publisher has a plan, and more isn't said
+-- a run was short, or a subscriber wasn't told the stream's end, or lost an image; a publisher has a plan, and more isn't said
 abbrev pub IsShort : List Text → Option (List ℕ) → Option (List ℕ) → Type 0
 IsShort words before after = IsShortBy (reader_of (drop 1 words)) words before after

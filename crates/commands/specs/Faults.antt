@@ -8,6 +8,8 @@ use Rattle.script.specs.declared.fault.ScriptFault.TheVariants as script
 use Rattle.endpoint.specs.declared.device_error.DeviceError.{DeviceError}
 use Rattle.endpoint.specs.declared.device_error.DeviceError.TheVariants as devices
 use Rattle.options.specs.Run.Texts as plans
+use Rattle.messages.specs.declared.fault.InputFault.{InputFault}
+use Rattle.messages.specs.declared.fault.InputFault.TheVariants as inputs
 use Rattle.commands.specs.declared.fault.Fault.{Fault}
 use Rattle.commands.specs.declared.fault.Fault.TheVariants.{Line, Input, Memory, Hex, Frame, Read, Write, Plan, Order, Device}
 
@@ -34,6 +36,13 @@ of_decoding decoding.Hex = Hex
 of_decoding (decoding.Frame error) = Frame error
 of_decoding decoding.Memory = Memory
 of_decoding decoding.Write = Write
+
+-- why a line of an input isn't read, as the program's; one that is too long is no even number of digits, at most 131,072
+abbrev pub of_input : InputFault → Fault
+of_input (inputs.Read number) = Read
+of_input (inputs.TooLong number greatest) = Hex
+of_input (inputs.Cut number) = Read
+of_input inputs.Memory = Memory
 
 -- a run's fault as the program's
 abbrev pub of_device : DeviceError → Fault

@@ -4,5 +4,6 @@ pub mod Faults
 pub mod Scripting
 pub mod Routes
 pub mod Decoding
+pub mod DecodedInput
 pub mod FrameLines
 pub mod Done

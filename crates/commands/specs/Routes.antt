@@ -1,10 +1,11 @@
 -- Where an end's socket is bound, and to whom it sends.
-use Rattle.std.specs.Prelude.{◌≡◌, ◌≢◌, ◌<◌, length, slice_index_or, All, ◌++◌, ⊤, ℕ, List, [], ◌∷◌, codes, Option, None, Some}
+use Rattle.std.specs.Prelude.{◌≡◌, ◌≢◌, ◌<◌, false, length, slice_index_or, All, ◌++◌, ⊤, ℕ, List, [], ◌∷◌, codes, Option, None, Some}
 use Rattle.std.specs.Net.Addr.{IsUnspecifiedV4, IsUnspecifiedV6, IsV4And, IsV6And, MatchIp}
 use Rattle.std.specs.Net.Socket.{IsPlainSocket, socket_ip, socket_port}
 use Rattle.std.specs.declared.net.IpAddr.{IpAddr}
 use Rattle.std.specs.declared.net.SocketAddr.{SocketAddr}
 use Rattle.channel.specs.Channels.{IsFit, to_address}
+use Rattle.channel.specs.Hosts.{IsName, IsNamed, is_of_many}
 use Rattle.channel.specs.declared.channel.Transport.{Transport}
 use Rattle.channel.specs.declared.host.Host.{Host}
 use Rattle.channel.specs.declared.host.Host.TheVariants.{Address, Name}
@@ -20,15 +21,25 @@ pub record IsAt (a : IpAddr) (port : ℕ) (s : SocketAddr) : Type 0 where
   pub address : socket_ip s ≡ a
   pub plain : IsPlainSocket s port
 
--- at the endpoint's port an address that goes with what else the channel names
+-- at the endpoint's port an address of one host that goes with what else the channel names
 pub record IsFound (t : Transport) (s : SocketAddr) : Type 0 where
   pub port : socket_port s ≡ t.endpoint.port
   pub fit : IsFit (to_address t (socket_ip s))
+  pub of_one : is_of_many (socket_ip s) ≡ false
 
 -- the endpoint's own address, or one that was found for its name
 abbrev pub IsPeer : Transport → Host → SocketAddr → Type 0
 IsPeer t (Address a) s = IsAt a t.endpoint.port s
 IsPeer t (Name n) s = IsFound t s
+
+-- what a user reads of the address to which a name has led
+abbrev pub found_line : List ℕ → SocketAddr → List ℕ
+found_line name peer = joined (name ∷ codes " is " ∷ socket_text peer ∷ codes "\n" ∷ [])
+
+-- a line is told of a name, and of an address none
+abbrev pub TellsFound : Host → SocketAddr → (List ℕ → Type 0) → Type 0 → Type 0
+TellsFound (Address a) peer Told Quiet = Quiet
+TellsFound (Name n) peer Told Quiet = (name : List ℕ) → IsNamed name n → IsName name → Told (found_line name peer)
 
 -- 0.0.0.0 or ::, by the other's family
 abbrev pub IsAnyAddress : IpAddr → IpAddr → Type 0

@@ -26,7 +26,7 @@ use Rattle.command_line.specs.Refusals.{AreRefused, AskForHelp, HoldRefusal, IsR
 use Rattle.command_line.specs.declared.fault.LineFault.{LineFault}
 use Rattle.command_line.specs.declared.fault.LineFault.TheVariants.{Memory}
 use Rattle.command_line.specs.declared.readers.Reader.{Reader}
-use Rattle.command_line.specs.declared.readers.Reader.TheVariants.{Version, PublishHelp, SubscribeHelp, Publish, Subscribe, Driver}
+use Rattle.command_line.specs.declared.readers.Reader.TheVariants.{Version, PublishHelp, SubscribeHelp, Publish, Subscribe, DecodeInput, Driver}
 
 -- all was done, or a fault came
 abbrev pub done_status : {T F : Type 0} → Result T F → ℕ
@@ -49,8 +49,9 @@ published_status (Err fault) = 1
 abbrev pub subscribed_as : EndedAs → ℕ
 subscribed_as subscribed.Whole = 0
 subscribed_as subscribed.Short = 3
+subscribed_as subscribed.Lost = 3
 
--- a subscriber ended: as it was told to, or behind a silence before the stream's end; or by a fault
+-- a subscriber ended: as it was told to, or behind a silence before the stream's end, or having lost an image; or by a fault
 abbrev pub subscribed_status : {F : Type 0} → Result Subscribed F → ℕ
 subscribed_status (Ok done) = subscribed_as done.ending
 subscribed_status (Err fault) = 1
@@ -109,6 +110,7 @@ RefusesBy PublishHelp words = RefusesPublish (help_line (codes "publish"))
 RefusesBy SubscribeHelp words = RefusesSubscribe (help_line (codes "subscribe"))
 RefusesBy Publish words = RefusesPublish (drop 1 words)
 RefusesBy Subscribe words = RefusesSubscribe (drop 1 words)
+RefusesBy DecodeInput words = ⊥
 RefusesBy Driver words = HoldRefusal (fault_of driver_app words)
 
 abbrev pub RefusesLine : List Text → Type 0

@@ -24,7 +24,7 @@
 //! with 1, for want of memory or where the help can't be written. 2 comes only of such words, and of an end's channel
 //! and rates that make no plan; 3 only of words that the parser takes, and no status is greater (`command`, by
 //! `IsStatusOf` and `RefusesLine`). Of words that the parser takes, 0 says that all they ask for is done, as far as input and
-//! output tell their bytes (`IsDone`): `sim` and `decode` have written their lines, a run was whole, all of the input was
+//! output tell their bytes (`IsDone`): `sim` and `decode` have written their lines, of a word or of each line of the input, a run was whole, all of the input was
 //! published to each endpoint, a subscriber ended whole; 3, that a run or a subscriber was short, or that a publisher had a
 //! plan (`IsShort`). That a line ends with anything but 1 isn't said.
 #![tactic(auto)]
@@ -40,7 +40,7 @@ mod script_command;
 mod status;
 mod subscribe_command;
 
-pub use decoding::{DecodeError, FrameLine, decode};
+pub use decoding::{DecodeError, FrameLine, LineFault, decode, decode_input};
 pub use fault::Fault;
 pub use line::command;
 pub use run_command::run_driver;

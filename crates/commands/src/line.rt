@@ -5,12 +5,13 @@ ghost use Rattle.clap.specs.Words.{fault_of};
 ghost use Rattle.command_line.specs.CommandLines.{driver_app};
 ghost use Rattle.command_line.specs.Readers.{faults_of};
 ghost use Rattle.command_line.specs.Refusals.{HoldRefusal};
+ghost use Rattle.commands.specs.DecodedInput.{DecodesInput};
 ghost use Rattle.commands.specs.Done.{DecodesWord, DrivesBy, DrivesShortBy, IsDone, IsDriven, IsDrivenShort, IsShort};
 ghost use Rattle.commands.specs.Running.{IsLeftBy};
 ghost use Rattle.commands.specs.Scripting.{PlaysInput};
 ghost use Rattle.commands.specs.Statuses.{IsStatusOf, RefusesLine, ran_status};
 
-use crate::decode;
+use crate::decoding::{decode, decode_input};
 use crate::fault::Fault;
 use crate::publish_command::publish_command;
 use crate::run_command::run_driver;
@@ -19,6 +20,7 @@ use crate::status::{done, failed, line_status, shown};
 use crate::subscribe_command::subscribe_command;
 use command_line::{Options, Reader, line_reader, line_words, options};
 use options::RunOptions;
+use publisher::buffered;
 use run::Ending;
 use std::alloc::Global;
 use std::io::{Read, Write};
@@ -39,7 +41,7 @@ const SUBSCRIBE_HELP: [&str; 2] = ["subscribe", "--help"];
 
 /// Carries out a command line, and gives the status: 0 where all was done, 1 at a fault, 2 where the line, an end's channel,
 /// endpoints or rates are refused, 3 where a run was short, a publisher ended before all was written, or a subscriber with
-/// `--once` wasn't told the end. The first word is the program's name. The input is taken over, since the thread that reads it
+/// `--once` wasn't told the end, or lost an image. The first word is the program's name. The input is taken over, since the thread that reads it
 /// may outlive the command.
 ///
 /// At 0 all that the words ask for is done, and at 3 less, as far as the input and the output tell their bytes. The texts of
@@ -67,6 +69,7 @@ pub fn command<
         Reader::SubscribeHelp => subscribe_command(rt, alloc, &SUBSCRIBE_HELP, output, errors),
         Reader::Publish => publish_command(rt, alloc, line, input, output, errors),
         Reader::Subscribe => subscribe_command(rt, alloc, line, output, errors),
+        Reader::DecodeInput => decode_input_status(alloc, input, output, errors),
         Reader::Driver => driver_command(rt, alloc, words, &mut input, output, errors),
     }
 }
@@ -124,6 +127,22 @@ fn sim_status<R: Read, W: Write, E: Write>(
     ensures played { result ≡ 0 → PlaysInput (R.remaining input.old) (W.contents output.old) (W.contents output.new) }
 {
     done(&sim(alloc, input, output), errors)
+}
+
+/// Prints the frames of the datagrams that the input spells, and gives the status.
+fn decode_input_status<R: Read + Drop, W: Write, E: Write>(
+    alloc: Global,
+    input: R,
+    output: &mut W,
+    errors: &mut E,
+) -> u8
+    ensures most { result ≤ 1 }
+    ensures decoded { result ≡ 0 → DecodesInput (R.remaining input) (W.contents output.old) (W.contents output.new) }
+{
+    match buffered(alloc, input) {
+        Ok(mut input) => done(&decode_input(alloc, &mut input, output), errors),
+        Err(fault) => failed(&fault, errors),
+    }
 }
 
 /// Prints the frames of the datagram that a word spells, and gives the status.

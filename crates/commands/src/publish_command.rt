@@ -10,8 +10,8 @@ ghost use Rattle.commands.specs.Statuses.{HasPublishPlan, IsStatusOf, NoPublishP
 
 use crate::drawn_ids::drawn_ids;
 use crate::fault::Fault;
-use crate::route::{peer_of, route_of, routes_of};
-use crate::status::{failed, line_status, unplanned};
+use crate::route::{peer_of, route_of, routes_of, tell_each_found, tell_found};
+use crate::status::{failed, failed_by, line_status, unplanned};
 use channel::Transport;
 use command_line::publish_options;
 use group_publisher::publish_group;
@@ -25,7 +25,7 @@ use std::sync::Wait;
 use std::thread::Threads;
 use std::time::Clock;
 
-/// Publishes as planned, and gives the status; an address that isn't found is told.
+/// Publishes as planned, and gives the status; to which address a name led is told, or that none was found.
 fn publish_planned<
     C: Threads + Wait + Clock + Net + Sync + Send + Copy + 'static,
     R: Read + Send + Drop + 'static,
@@ -38,6 +38,7 @@ fn publish_planned<
     let transport = &plan.end.transport;
     match peer_of(rt, transport) {
         Ok(peer) => {
+            let _ = tell_found(errors, &transport.endpoint.host, peer);
             let route = route_of(transport, peer);
             let ended = publish(rt, alloc, plan, &route, input, errors);
             published(&ended, errors)
@@ -46,7 +47,7 @@ fn publish_planned<
     }
 }
 
-/// Publishes as planned along several ways, and gives the status; an address that isn't found is told.
+/// Publishes as planned along several ways, and gives the status; to which addresses names led is told, or that none was found.
 fn publish_along<
     C: Threads + Wait + Clock + Net + Sync + Send + Copy + 'static,
     R: Read + Send + Drop + 'static,
@@ -60,6 +61,7 @@ fn publish_along<
 {
     match routes_of(rt, alloc, ways) {
         Ok(routes) => {
+            tell_each_found(errors, ways, &routes);
             let ended = publish_group(rt, alloc, plan, &routes, input, errors);
             published(&ended, errors)
         }
@@ -117,7 +119,7 @@ fn published<E: Write>(ended: &Result<Ending, PublishFault>, errors: &mut E) -> 
     match ended {
         Ok(Ending::Whole) => 0,
         Ok(Ending::Short) => 3,
-        Err(fault) => failed(fault, errors),
+        Err(fault) => failed_by(fault, fault.number(), errors),
     }
 }
 

@@ -1,17 +1,19 @@
 //! Where an end's socket is bound, and to whom it sends.
 
-ghost use Rattle.std.specs.Prelude.{◌≡◌, ◌≢◌, Some, IfErr, IfOk, IfSome, codes, length, true, false, ◌++◌};
+ghost use Rattle.std.specs.Prelude.{◌≡◌, ◌≢◌, Some, IfErr, IfOk, IfSome, OnOk, codes, length, true, false, ◌++◌};
+ghost use Rattle.std.specs.Io.KnownBytes.{Appends};
 ghost use Rattle.channel.specs.declared.host.Host.TheVariants.{Name as Named};
 ghost use Rattle.channel.specs.declared.host.Name.{Name as AnyName};
 ghost use Rattle.commands.specs.declared.route.RouteFault.TheVariants.{Memory as Refused};
-ghost use Rattle.commands.specs.Routes.{ArePeersApart, AreRoutesAlong, IsAnyAddress, IsBindingOf, IsFound, IsPeer, IsRouteAlong, IsRouteOf, LeadElsewhere, LeadsAway, LeadsThere, route_text};
+ghost use Rattle.commands.specs.Routes.{ArePeersApart, AreRoutesAlong, IsAnyAddress, IsBindingOf, IsFound, IsPeer, IsRouteAlong, IsRouteOf, LeadElsewhere, LeadsAway, LeadsThere, TellsFound, route_text};
 
 use channel::{Host, Name, Transport};
 use endpoint::{Binding, Route};
 use std::alloc::Global;
 use std::error::Error;
-use std::fmt;
+use std::io::Write;
 use std::net::{IpAddr, Ipv4Addr, Ipv6Addr, Net, SocketAddr, ToSocketAddrs};
+use std::{fmt, io};
 
 /// No address of a host of this name is known to the system that goes with what else the channel names.
 #[derive(Clone, Copy, Debug)]
@@ -60,6 +62,26 @@ pub(crate) fn peer_of<'a, R: Net>(
             Some(peer) => Ok(peer),
             None => Err(NoAddress(name.text())),
         },
+    }
+}
+
+/// Tells to which address the name of a host has led, a line. Of an address nothing is told.
+pub(crate) fn tell_found<E: Write>(errors: &mut E, host: &Host, peer: SocketAddr) -> io::Result<()>
+    ensures { TellsFound host.now peer (λ line. OnOk result (Appends (E.contents errors.old) (E.contents errors.new) line)) (E.contents errors.new ≡ E.contents errors.old) }
+{
+    match host {
+        Host::Address(_) => Ok(()),
+        Host::Name(name) => {
+            let name = name.text();
+            writeln!(errors, "{name} is {peer}")
+        }
+    }
+}
+
+/// Tells to which addresses the names of several have led.
+pub(crate) fn tell_each_found<E: Write>(errors: &mut E, ways: &[Transport], routes: &[Route]) {
+    for number in 0..ways.len().min(routes.len()) {
+        let _ = tell_found(errors, &ways[number].endpoint.host, routes[number].peer);
     }
 }
 

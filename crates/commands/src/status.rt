@@ -6,13 +6,27 @@ ghost use Rattle.commands.specs.Statuses.{IsLineStatus, done_status};
 use crate::fault::Fault;
 use command_line::LineFault;
 use std::fmt::Display;
+use std::io;
 use std::io::Write;
 
 /// Tells a fault in one line, and gives its status.
 pub(crate) fn failed<F: Display, E: Write>(fault: &F, errors: &mut E) -> u8
     ensures { result ≡ 1 }
 {
-    let _ = writeln!(errors, "error: {fault}");
+    failed_by(fault, None, errors)
+}
+
+/// Tells a fault in one line, with the system's number and its text where it gave one, and gives the status.
+pub(crate) fn failed_by<F: Display, E: Write>(fault: &F, number: Option<i32>, errors: &mut E) -> u8
+    ensures { result ≡ 1 }
+{
+    let _ = match number {
+        None => writeln!(errors, "error: {fault}"),
+        Some(number) => {
+            let error = io::Error::from_raw_os_error(number);
+            writeln!(errors, "error: {fault}: {error}")
+        }
+    };
     1
 }
 

@@ -1,17 +1,17 @@
 //! The command `subscribe`.
 
-ghost use Rattle.std.specs.Prelude.{◌≡◌, ◌≢◌, ◌≤◌, ◌<◌, ◌^◌, [], map, IsTrue};
+ghost use Rattle.std.specs.Prelude.{◌≡◌, ◌≢◌, ◌⊎◌, ◌≤◌, ◌<◌, ◌^◌, [], map, IsTrue};
 ghost use Rattle.clap.specs.Words.{fault_of};
 ghost use Rattle.command_line.specs.Lines.{subscribe_app};
 ghost use Rattle.subscriber.specs.declared.ended.Ending.{Ending as EndedAs};
-ghost use Rattle.subscriber.specs.declared.ended.Ending.TheVariants.{Short, Whole};
-ghost use Rattle.commands.specs.Done.{IsSubscribed, IsSubscribedTold, SubscribesBy};
+ghost use Rattle.subscriber.specs.declared.ended.Ending.TheVariants.{Lost, Whole};
+ghost use Rattle.commands.specs.Done.{IsSubscribed, IsSubscribedTold, SubscribesBy, SubscribesShortBy};
 ghost use Rattle.commands.specs.Statuses.{HasSubscribePlan, IsStatusOf, NoSubscribePlan, RefusesSubscribe, subscribed_as, subscribed_status};
 
 use crate::drawn_ids::drawn_ids;
 use crate::fault::Fault;
-use crate::route::{binding_of, peer_of};
-use crate::status::{failed, line_status, unplanned};
+use crate::route::{binding_of, peer_of, tell_found};
+use crate::status::{failed, failed_by, line_status, unplanned};
 use command_line::subscribe_options;
 use options::{SubscribeOptions, SubscribePlan, subscribe_plan};
 use std::alloc::Global;
@@ -23,8 +23,8 @@ use std::thread::Threads;
 use std::time::Clock;
 use subscriber::{Ending, SubscribeFault, Subscribed, subscribe};
 
-/// Subscribes as planned, and gives the status; an address that isn't found is told. Only one that was to end with the stream
-/// ends with 3.
+/// Subscribes as planned, and gives the status; to which address a name led is told, or that none was found. Only one that was to
+/// end with the stream, or has lost an image, ends with 3.
 fn subscribe_planned<C: Threads + Wait + Clock + Net + Copy + Send + 'static, W: Write, E: Write>(
     rt: &C,
     alloc: Global,
@@ -34,12 +34,13 @@ fn subscribe_planned<C: Threads + Wait + Clock + Net + Copy + Send + 'static, W:
 ) -> u8
     ensures most { result ≤ 3 }
     ensures accepted { result ≢ 2 }
-    ensures short { result ≡ 3 → IsTrue plan.now.once }
-    ensures ended { (e : EndedAs) → result ≡ subscribed_as e → IsSubscribed plan.now (W.contents output.old) (W.contents output.new) e }
+    ensures short { result ≡ 3 → IsTrue plan.now.once ⊎ IsSubscribed plan.now (W.contents output.old) (W.contents output.new) Lost }
+    ensures ended { result ≢ 1 → (e : EndedAs) × (result ≡ subscribed_as e) × IsSubscribed plan.now (W.contents output.old) (W.contents output.new) e }
 {
     let transport = &plan.end.transport;
     match peer_of(rt, transport) {
         Ok(endpoint) => {
+            let _ = tell_found(errors, &transport.endpoint.host, endpoint);
             let binding = binding_of(transport, endpoint);
             let ended = subscribe(rt, alloc, plan, &binding, output, errors);
             subscribed(&ended, errors)
@@ -58,8 +59,8 @@ fn subscribe_told<
     ensures most { result ≤ 3 }
     ensures refused { result ≡ 2 → NoSubscribePlan options.now }
     ensures planned { result ≢ 2 → HasSubscribePlan options.now }
-    ensures told { result ≡ 3 → IsTrue options.now.once }
-    ensures ended { (e : EndedAs) → result ≡ subscribed_as e → IsSubscribedTold options.now (W.contents output.old) (W.contents output.new) e }
+    ensures told { result ≡ 3 → IsTrue options.now.once ⊎ IsSubscribedTold options.now (W.contents output.old) (W.contents output.new) Lost }
+    ensures ended { result ≢ 1 → result ≢ 2 → (e : EndedAs) × (result ≡ subscribed_as e) × IsSubscribedTold options.now (W.contents output.old) (W.contents output.new) e }
 {
     let (drawn, given) = drawn_ids(rt);
     match subscribe_plan(options, drawn) {
@@ -78,9 +79,9 @@ fn subscribed<E: Write>(ended: &Result<Subscribed, SubscribeFault>, errors: &mut
     match ended {
         Ok(done) => match done.ending {
             Ending::Whole => 0,
-            Ending::Short => 3,
+            Ending::Short | Ending::Lost => 3,
         },
-        Err(fault) => failed(fault, errors),
+        Err(fault) => failed_by(fault, fault.number(), errors),
     }
 }
 
@@ -95,7 +96,7 @@ pub(crate) fn subscribe_command<
     ensures refused { result ≡ 2 → RefusesSubscribe (map (λ s. s.now) words.entry.now) }
     ensures done { fault_of subscribe_app (map (λ s. s.now) words.entry.now) ≡ [] → result ≡ 0
         → SubscribesBy (map (λ s. s.now) words.entry.now) (W.contents output.old) (W.contents output.new) Whole }
-    ensures short { result ≡ 3 → SubscribesBy (map (λ s. s.now) words.entry.now) (W.contents output.old) (W.contents output.new) Short }
+    ensures short { result ≡ 3 → SubscribesShortBy (map (λ s. s.now) words.entry.now) (W.contents output.old) (W.contents output.new) }
 {
     match subscribe_options(alloc, words) {
         Ok(options) => subscribe_told(rt, alloc, &options, output, errors),

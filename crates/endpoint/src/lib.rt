@@ -21,6 +21,7 @@ mod device_error;
 mod failing;
 mod fan;
 mod memory;
+mod open_error;
 mod udp;
 mod ways;
 
@@ -29,5 +30,6 @@ pub use device_error::DeviceError;
 pub use failing::FailingDatagrams;
 pub use fan::Fan;
 pub use memory::MemoryDevice;
+pub use open_error::OpenError;
 pub use udp::{Binding, Route, UdpDevice, is_loss};
 pub use ways::Ways;

@@ -6,6 +6,7 @@ ghost use Rattle.endpoint.specs.Devices.{HasGrown, NeverFall, fresh, with_failur
 
 use crate::datagrams::{Datagrams, DeviceFailed, GREATEST_DATAGRAM};
 use crate::device_error::DeviceError;
+use crate::open_error::OpenError;
 use std::alloc::Global;
 use std::io::ErrorKind;
 use std::marker::Model;
@@ -91,19 +92,17 @@ impl UdpDevice {
             address: here(0),
             ttl: None,
         };
-        UdpDevice::bind_at(rt, alloc, &binding)
+        Ok(UdpDevice::bind_at(rt, alloc, &binding)?)
     }
 
     /// A device that is bound so, with no peer yet.
-    pub fn bind_at<R: Net>(
-        rt: &R,
-        alloc: Global,
-        binding: &Binding,
-    ) -> Result<UdpDevice, DeviceError>
+    fn bind_at<R: Net>(rt: &R, alloc: Global, binding: &Binding) -> Result<UdpDevice, OpenError>
         ensures { IfOk result (λ u. u.device ≡ fresh) }
     {
-        let arrived = vec![in alloc; 0; GREATEST_DATAGRAM].map_err(|_| DeviceError::Memory)?;
-        let (socket, port) = open(rt, binding).map_err(|_| DeviceError::Device)?;
+        let arrived = vec![in alloc; 0; GREATEST_DATAGRAM].map_err(|_| OpenError::Memory)?;
+        let (socket, port) = open(rt, binding).map_err(|error| OpenError::Refused(
+            error.raw_os_error(),
+        ))?;
         Ok(UdpDevice {
             socket,
             port,
@@ -123,16 +122,14 @@ impl UdpDevice {
     }
 
     /// A device along a route.
-    pub fn bind_along<R: Net>(
-        rt: &R,
-        alloc: Global,
-        route: &Route,
-    ) -> Result<UdpDevice, DeviceError>
+    pub fn bind_along<R: Net>(rt: &R, alloc: Global, route: &Route) -> Result<UdpDevice, OpenError>
         ensures { IfOk result (λ u. u.device ≡ fresh) }
     {
-        let mut device = UdpDevice::bind_at(rt, alloc, &route.binding)?;
-        device.connect_to(route.peer)?;
-        Ok(device)
+        let device = UdpDevice::bind_at(rt, alloc, &route.binding)?;
+        match device.socket.connect(route.peer) {
+            Ok(()) => Ok(device),
+            Err(error) => Err(OpenError::Refused(error.raw_os_error())),
+        }
     }
 
     /// Two devices at ports of 127.0.0.1 that the system chooses, each the other's peer.

@@ -1,5 +1,5 @@
 -- How often each fault came, from `F1` to `F8`.
-use Rattle.std.specs.Prelude.{ℕ, ◌+◌, ◌-◌, ◌^◌, ◌++◌, min, List, [], ◌∷◌, flat_map, decimal, slice_index, slice_set}
+use Rattle.std.specs.Prelude.{ℕ, ◌+◌, ◌-◌, ◌^◌, ◌++◌, min, List, [], ◌∷◌, flat_map, codes, decimal, slice_index, slice_set}
 use Rattle.frames.specs.declared.fault.FrameError.{FrameError}
 use Rattle.frames.specs.declared.fault.FrameError.TheVariants.{Short, Version, Kind, Length, Flags, Alignment, Range, Datagram}
 use Rattle.frames.specs.declared.fault_counts.FaultCounts.{FaultCounts}
@@ -30,6 +30,10 @@ uncounted = record { counts = none_refused }
 abbrev pub counting : FaultCounts → FrameError → FaultCounts
 counting c fault = record { counts = counted_at (place_of fault) c.counts }
 
--- the counts as a user reads them, each behind a space
+-- the counts as a user reads them, each behind its fault's name
 abbrev pub counts_text : List ℕ → List ℕ
-counts_text counts = flat_map (λ count. 32 ∷ decimal count) counts
+counts_text counts = flat_map (λ part. part) (
+    codes " short " ∷ decimal (slice_index counts 0) ∷ codes " version " ∷ decimal (slice_index counts 1)
+    ∷ codes " type " ∷ decimal (slice_index counts 2) ∷ codes " length " ∷ decimal (slice_index counts 3)
+    ∷ codes " flags " ∷ decimal (slice_index counts 4) ∷ codes " alignment " ∷ decimal (slice_index counts 5)
+    ∷ codes " range " ∷ decimal (slice_index counts 6) ∷ codes " datagram " ∷ decimal (slice_index counts 7) ∷ [])

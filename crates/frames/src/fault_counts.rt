@@ -54,14 +54,21 @@ impl FaultCounts {
     }
 }
 
-/// The eight counts, each behind a space.
+/// The eight counts from `F1` to `F8`, each behind its fault's name, and a space before each word.
 impl fmt::Display for FaultCounts {
     ghost output = { λ c. Some (counts_text c.counts) };
 
     fn fmt<W: fmt::Write>(&self, f: &mut fmt::Formatter<W>) -> fmt::Result {
-        for count in self.counts.as_slice() {
-            write!(f, " {count}")?;
-        }
-        Ok(())
+        let c = self.counts;
+        write!(
+            f,
+            " short {} version {} type {} length {}",
+            c[0], c[1], c[2], c[3]
+        )?;
+        write!(
+            f,
+            " flags {} alignment {} range {} datagram {}",
+            c[4], c[5], c[6], c[7]
+        )
     }
 }

@@ -2,6 +2,11 @@
 use Rattle.std.proofs.Common.{◌≡◌, ◌<◌, List, [], ◌∷◌, ℕ, true, Option, None, Some, IfOk, IfSome, Result, Ok, Err, subst, arith}
 use Rattle.log_rule.specs.Claims.Handles.{PublisherValue}
 use Rattle.shared_log.specs.Handles.{IsNew, LogValue}
+use Rattle.shared_log.specs.Readers.{ReaderValue}
+use Rattle.flow_control.specs.Stream.{flow_after}
+use Rattle.agents.specs.LogSenders.{IsNewSenderBy}
+use Rattle.endpoint.specs.Fans.{Fanned}
+use Rattle.peer.specs.declared.ending.Ending.TheVariants.{Short}
 use Rattle.options.specs.declared.ends.plans.PublishPlan.{PublishPlan}
 use Rattle.peer.specs.declared.attendance.Attendance.{Attendance}
 use Rattle.offering.specs.Ended.{EndsInput}
@@ -11,11 +16,16 @@ use Rattle.publisher.specs.Ended.{reading_left}
 use Rattle.publisher.specs.Judging.{end_in}
 use Rattle.group_publisher.specs.Farewells.{are_told_alone}
 use Rattle.publisher.specs.Openings.{IsPlanned}
+use Rattle.publisher.specs.declared.sender_thread.SenderPasses.{SenderPasses}
 use Rattle.publisher.specs.declared.fault.PublishFault.{PublishFault}
 use Rattle.messages.specs.declared.form.Form.{Form}
 use Rattle.publisher.proofs.AllPublished.{as_given}
 use Rattle.group_publisher.specs.declared.two_threads.GroupPublished.{GroupPublished}
 use Rattle.group_publisher.specs.Ended.{AllHaveArrived, PublishesAllAlong}
+use Rattle.group_publisher.specs.Seeing.{ChannelWay}
+use Rattle.group_publisher.specs.Shorts.{EndsShort}
+use Rattle.group_publisher.specs.Turns.{SaysWhy}
+use Rattle.group_publisher.specs.declared.sender_thread.GroupSender.{GroupSender}
 
 -- where there is a way, something is left of the input
 none_left : (ways : ℕ) (heard : List Attendance) → 0 < ways → AllHaveArrived None ways heard → ⊥
@@ -47,3 +57,9 @@ pub as_given_all : {I : Type 0} (remaining : I → Option (List ℕ)) (r : Resul
     → IfOk r (λ p. IfSome p.input (λ l. EndsInput own_form own_log (remaining own_input) (remaining l.input) own_first.pass l.publisher l.reading))
 as_given_all {I} remaining (Ok p) form own_form log own_log input own_input first own_first f g i q h = as_given remaining p.input form own_form log own_log input own_input first own_first f g i q h
 as_given_all {I} remaining (Err fault) form own_form log own_log input own_input first own_first f g i q h = tt
+
+-- and it has said why, where it ends short
+pub ends_short_all : {I D : Type 0} (r : Result (GroupPublished I) PublishFault) (l : LogValue) (reader : ReaderValue) (passes : SenderPasses (Fanned (ChannelWay D))) (ways : ℕ) (p : PublishPlan) (first : GroupSender D)
+    → IsNewSenderBy (flow_after (Some ways) l.start []) l reader first.agent → first.passes ≡ passes → IfOk r (λ q. q.ending ≡ Ok Short → SaysWhy p first q.told) → IfOk r (λ q. q.ending ≡ Ok Short → EndsShort l passes ways p q.told)
+ends_short_all {I} {D} (Ok q) l reader passes ways p first new are why = λ short. record { first = first; reader = reader; begun = new; passes_are = are; why = why short }
+ends_short_all {I} {D} (Err fault) l reader passes ways p first new are why = tt

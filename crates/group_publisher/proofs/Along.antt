@@ -5,7 +5,7 @@ use Rattle.std.proofs.Math.Seq.{get_or-append_seam}
 use Rattle.std.proofs.lemmas.Bool.{cases_lt}
 use Rattle.std.proofs.lemmas.List.{get_or_default}
 use Rattle.std.specs.declared.net.SocketAddr.TheVariants.{V4}
-use Rattle.endpoint.specs.Udp.{Udp}
+use Rattle.peer.specs.Ties.{Tied}
 use Rattle.endpoint.specs.declared.udp.Route.{Route}
 use Rattle.options.specs.declared.ends.plans.PublishPlan.{PublishPlan}
 use Rattle.group_publisher.specs.Beginnings.{IsAlong, IsWayOf}
@@ -16,7 +16,7 @@ abbrev pub none : Route
 none = record { binding = record { address = V4 (record { ip = record { octets = [] }; port = 0 }); ttl = None }; peer = V4 (record { ip = record { octets = [] }; port = 0 }) }
 
 -- the way along the route that stands there
-pub one_along : (p : PublishPlan) (routes : List Route) (i number : ℕ) (d : Route) (socket : Udp) (w : ChannelWay Udp) → i < length routes → number ≡ i → IsWayOf p number (get_or routes i d).peer socket w → IsAlong p routes i w
+pub one_along : (p : PublishPlan) (routes : List Route) (i number : ℕ) (d : Route) (socket : Tied) (w : ChannelWay Tied) → i < length routes → number ≡ i → IsWayOf p number (get_or routes i d).peer socket w → IsAlong p routes i w
 one_along p routes i number d socket w low same is = record {
   socket = socket;
   route = get_or routes i d;
@@ -25,10 +25,10 @@ one_along p routes i number d socket w low same is = record {
 }
 
 -- one more
-pub more_along : (p : PublishPlan) (routes : List Route) (ways after : List (ChannelWay Udp)) (i : ℕ) (w : ChannelWay Udp) → length ways ≡ i → ((k : ℕ) (d : ChannelWay Udp) → k < i → IsAlong p routes k (get_or ways k d)) → IsAlong p routes i w → after ≡ ways ++ w ∷ []
-    → (k : ℕ) (d : ChannelWay Udp) → k < i + 1 → IsAlong p routes k (get_or after k d)
+pub more_along : (p : PublishPlan) (routes : List Route) (ways after : List (ChannelWay Tied)) (i : ℕ) (w : ChannelWay Tied) → length ways ≡ i → ((k : ℕ) (d : ChannelWay Tied) → k < i → IsAlong p routes k (get_or ways k d)) → IsAlong p routes i w → after ≡ ways ++ w ∷ []
+    → (k : ℕ) (d : ChannelWay Tied) → k < i + 1 → IsAlong p routes k (get_or after k d)
 more_along p routes ways after i w many each is pushed k d low =
-    subst (λ (xs : List (ChannelWay Udp)). IsAlong p routes k (get_or xs k d)) (sym pushed) (either (cases_lt k i))
+    subst (λ (xs : List (ChannelWay Tied)). IsAlong p routes k (get_or xs k d)) (sym pushed) (either (cases_lt k i))
   where
     either : (k < i) ⊎ (i ≤ k) → IsAlong p routes k (get_or (ways ++ w ∷ []) k d)
     either (inl below) = subst (IsAlong p routes k) (sym (get_or-append ways (w ∷ []) d k (subst (λ n. k < n) (sym many) below))) (each k d below)

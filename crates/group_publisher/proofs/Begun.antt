@@ -6,8 +6,13 @@ use Rattle.agents.specs.Duties.{Agent}
 use Rattle.agents.specs.LogSenders.{SendsLog}
 use Rattle.shared_log.specs.Handles.{LogValue}
 use Rattle.shared_log.specs.declared.reader.source.LogFrames.{LogFrames}
-use Rattle.std.proofs.Common.{◌≡◌, subst, sym}
-use Rattle.group_publisher.specs.Beginnings.{with_flow}
+use Rattle.std.proofs.Common.{◌≡◌, ◌∙◌, ℕ, ◌<◌, ◌≤◌, ◌^◌, ◌&&◌, ◌||◌, Bool, true, false, not, nat_le, nat_lt, if◌then◌else◌, [], length, Some, ap, arith, refl, subst, sym}
+use Rattle.std.specs.Prelude.{⊤}
+use Rattle.std.proofs.lemmas.Bool.{leb-true, ltb-true}
+use Rattle.flow_control.specs.Stream.{flow_after}
+use Rattle.group_publisher.specs.Beginnings.{begins_now, heard_count, numbered_from, with_flow}
+use Rattle.group_publisher.specs.Turns.{Begins}
+use Rattle.group_publisher.specs.declared.sender_thread.GroupSender.{GroupSender}
 
 pub sends_still : {F : Type 0} (l : LogValue) (a b : Agent LogFrames F) (flow : F) → SendsLog l a → b ≡ with_flow a flow → SendsLog l b
 sends_still {F} l a b flow sends same = subst (SendsLog l) (sym same) (record {
@@ -26,3 +31,67 @@ passes_still {D} l queue p r device are same = subst (ArePasses l queue) (sym sa
 -- its passes, where the device is told something twice
 pub passes_on : {D : Type 0} (l : LogValue) (queue : TableId) (p r s : SenderPasses D) (first second : D) → ArePasses l queue p → r ≡ record p { duty = record (p.duty) { device = first } } → s ≡ record r { duty = record (r.duty) { device = second } } → ArePasses l queue s
 passes_on {D} l queue p r s first second are once twice = passes_still l queue r s second (passes_still l queue p r first are once) twice
+
+-- ---- with whom it begins
+
+abbrev NotTrue : Bool → Type 0
+NotTrue true = ⊥
+NotTrue false = ⊤
+
+not_true : false ≡ true → ⊥
+not_true h = subst NotTrue h tt
+
+or_true : (b : Bool) → (b || true) ≡ true
+or_true true = refl
+or_true false = refl
+
+-- nobody is left out, or it doesn't begin now
+none_out : (begins : Bool) (heard all : ℕ) → (not begins || nat_le all heard) ≡ true → (begins && nat_lt heard all) ≡ false
+none_out true heard all h = grind (arith, h)
+none_out false heard all h = refl
+
+-- it begins without some
+some_out : (begins : Bool) (heard all : ℕ) → (not begins || nat_le all heard) ≡ false → (begins ≡ true) × ((begins && nat_lt heard all) ≡ true)
+some_out true heard all h = (refl, grind (arith, h))
+some_out false heard all h = absurd (not_true (sym h))
+
+pub stands : {D : Type 0} (wait now : ℕ) (begun begins result : Bool) (sender : GroupSender D) (heard all at : ℕ) → result ≡ (begun || begins) → begins ≡ begins_now begun wait now heard at → heard ≡ heard_count sender.passes.duty.device.ways → all ≡ length sender.passes.duty.device.ways → at ≡ sender.agent.core.handler.at
+    → (not begins || nat_le all heard) ≡ true → Begins wait now begun sender result sender
+stands {D} wait now begun begins result sender heard all at so is count many here test =
+    let ways = sender.passes.duty.device.ways in
+    let none : (begins && nat_lt (heard_count ways) (length ways)) ≡ false = (λ i. begins && nat_lt (sym count i) (sym many i)) ∙ none_out begins heard all test in
+    record {
+      begins = begins;
+      is = is ∙ (λ i. begins_now begun wait now (count i) (here i));
+      begun_is = so;
+      flow = ap (λ (b : Bool). if b then flow_after (Some (heard_count ways)) sender.agent.core.handler.at [] else sender.agent.core.flow) (sym none);
+      ways = ap (λ (b : Bool). if b then numbered_from 0 ways else ways) (sym none);
+    }
+
+pub begins_without : {D : Type 0} (wait now : ℕ) (begun begins : Bool) (old new : GroupSender D) (heard all at : ℕ) → begins ≡ begins_now begun wait now heard at → heard ≡ heard_count old.passes.duty.device.ways → all ≡ length old.passes.duty.device.ways → at ≡ old.agent.core.handler.at
+    → (not begins || nat_le all heard) ≡ false → new.agent.core.flow ≡ flow_after (Some heard) at [] → new.passes.duty.device.ways ≡ numbered_from 0 old.passes.duty.device.ways → Begins wait now begun old true new
+begins_without {D} wait now begun begins old new heard all at is count many here test flow numbered =
+    let ways = old.passes.duty.device.ways in
+    let out = some_out begins heard all test in
+    let some : (begins && nat_lt (heard_count ways) (length ways)) ≡ true = (λ i. begins && nat_lt (sym count i) (sym many i)) ∙ out.1 in
+    record {
+      begins = begins;
+      is = is ∙ (λ i. begins_now begun wait now (count i) (here i));
+      begun_is = sym (ap (λ (b : Bool). begun || b) out.0 ∙ or_true begun);
+      flow = flow ∙ (λ i. flow_after (Some (count i)) (here i) []) ∙ ap (λ (b : Bool). if b then flow_after (Some (heard_count ways)) old.agent.core.handler.at [] else old.agent.core.flow) (sym some);
+      ways = numbered ∙ ap (λ (b : Bool). if b then numbered_from 0 ways else ways) (sym some);
+    }
+
+-- then its limit can begin there
+can_begin : (begun a b c d : Bool) → (not begun && (a && (b && (c && d)))) ≡ true → (c ≡ true) × (d ≡ true)
+can_begin false true true true true h = (refl, refl)
+can_begin true a b c d h = absurd (not_true h)
+can_begin false false b c d h = absurd (not_true h)
+can_begin false true false c d h = absurd (not_true h)
+can_begin false true true false d h = absurd (not_true h)
+can_begin false true true true false h = absurd (not_true h)
+
+pub may_begin : (begun begins : Bool) (wait now heard all at : ℕ) → begins ≡ begins_now begun wait now heard at → (not begins || nat_le all heard) ≡ false → (heard ≤ 8) × (at < 2 ^ 63)
+may_begin begun begins wait now heard all at is test =
+    let both = can_begin begun (nat_le wait now) (nat_lt 0 heard) (nat_le heard 8) (nat_lt at (2 ^ 63)) (sym is ∙ (some_out begins heard all test).0) in
+    (leb-true heard 8 both.0, ltb-true at (2 ^ 63) both.1)

@@ -7,6 +7,7 @@ use Rattle.publisher.specs.Judging.{end_in}
 use Rattle.publisher.specs.Progress.{judged_by}
 use Rattle.publisher.specs.declared.judged.Judged.{Judged}
 use Rattle.publisher.specs.declared.progress.Progress.{Progress}
+use Rattle.publisher.specs.declared.telling.ToldShortfall.{ToldShortfall}
 use Rattle.group_publisher.specs.Endings.{group_ending}
 use Rattle.group_publisher.specs.Judging.{Ends, Judges}
 use Rattle.group_publisher.specs.Seeing.{ChannelWay}
@@ -20,14 +21,14 @@ judged_or is None = is
 judged_or is (Some other) = other
 
 -- by this reading it was judged so
-as_judged : (reading : Option Reading) (e : Option Ending) (is : Judged) → Some is ≡ judged_by reading e → (reading ≡ is.reading) × (e ≡ Some is.ending)
-as_judged reading None is h = absurd (subst IsSome h tt)
-as_judged reading (Some ending) is h =
-    let same : is ≡ record { ending = ending; reading = reading } = ap (judged_or is) h in
+as_judged : (reading : Option Reading) (line : Option ToldShortfall) (e : Option Ending) (is : Judged) → Some is ≡ judged_by reading line e → (reading ≡ is.reading) × (e ≡ Some is.ending)
+as_judged reading line None is h = absurd (subst IsSome h tt)
+as_judged reading line (Some ending) is h =
+    let same : is ≡ record { ending = ending; reading = reading; told = line } = ap (judged_or is) h in
     (sym (ap (λ (j : Judged). j.reading) same), ap (λ (j : Judged). Some j.ending) (sym same))
 
 pub ends : {D : Type 0} (p : Progress) (shown ways : List (ChannelWay D)) (linger wait : ℕ) (answer : Option Judged) (is : Judged) → Judges p shown linger wait answer → answer ≡ Some is → shown ≡ ways → Ends ways linger wait is
 ends {D} p shown ways linger wait answer is told found same =
-    let both = as_judged told.reading _ is (sym found ∙ told.is) in
+    let both = as_judged told.reading told.line _ is (sym found ∙ told.is) in
     subst (λ (ws : List (ChannelWay D)). Ends ws linger wait is) same
     (ap (λ (r : Option Reading). group_ending shown (end_in r) linger wait) (sym both.0) ∙ both.1)

@@ -7,3 +7,6 @@ pub mod Along
 pub mod Ends
 pub mod Given
 pub mod Begun
+pub mod Short
+pub mod Numbered
+mod BeginRows

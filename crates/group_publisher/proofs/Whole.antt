@@ -70,7 +70,7 @@ each read judged linger wait [] whole ended all = tt
 each read judged linger wait (w ∷ ws) whole ended all =
     let both = both_true (is_whole_along (end_in judged.reading) w) _ all in
     let is = ends_whole (heard_along w) (end_in judged.reading) linger wait both.0 ∙ ap (λ (e : Ending). Some e) (sym whole) in (
-      arrived read (Ok judged) (Ok Whole) (heard_along w) linger wait (record { silence = None; is = is }) (sym ended) refl,
+      arrived read (Ok judged) (Ok Whole) (heard_along w) None linger wait is (sym ended) refl,
       each read judged linger wait ws whole ended both.1,
     )
 

@@ -2,7 +2,7 @@
 use Rattle.std.proofs.Common.{◌≡◌, ◌∙◌, ℕ, suc, ◌+◌, ◌<◌, List, [], ◌∷◌, ◌++◌, map, length, take, drop, drop-cons, get_or, set, add-one, ap, sym, arith}
 use Rattle.std.proofs.lemmas.List.{drop-set-lt, map-append, map_more, take_more_set}
 
-same_head : {X : Type 0} (xs ys : List X) (i : ℕ) (d : X) → i < length xs → i < length ys → drop i xs ≡ drop i ys → get_or xs i d ≡ get_or ys i d
+pub same_head : {X : Type 0} (xs ys : List X) (i : ℕ) (d : X) → i < length xs → i < length ys → drop i xs ≡ drop i ys → get_or xs i d ≡ get_or ys i d
 same_head xs ys i d lx ly e =
     let x = drop-cons xs i d lx in
     let y = drop-cons ys i d ly in

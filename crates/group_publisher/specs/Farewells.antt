@@ -5,7 +5,7 @@ use Rattle.theory.specs.Position.{Geometry}
 use Rattle.peer.specs.Farewells.{end_of}
 use Rattle.peer.specs.Watching.{with_told}
 use Rattle.peer.specs.declared.watch.ToldEnds.{ToldEnds}
-use Rattle.publisher.specs.Farewells.{has_told_alone}
+use Rattle.publisher.specs.Farewells.{has_told_alone, has_told_no_other}
 use Rattle.group_publisher.specs.Seeing.{ChannelWay}
 
 -- how many datagrams were given to its device
@@ -43,3 +43,7 @@ TellsFarewell (Some tail) old new = AreGiven 5 old new
 -- each device told this end alone
 abbrev pub are_told_alone : Geometry → Option ℕ → List (Option ToldEnds) → Bool
 are_told_alone g end ends = list_all (λ told. has_told_alone told g end) ends
+
+-- no device told another, if it told any
+abbrev pub are_told_no_other : Geometry → Option ℕ → List (Option ToldEnds) → Bool
+are_told_no_other g end ends = list_all (λ told. has_told_no_other told g end) ends

@@ -5,4 +5,6 @@ pub mod Farewells
 pub mod Judging
 pub mod Ended
 pub mod Beginnings
+pub mod Turns
+pub mod Shorts
 pub mod Texts

@@ -7,7 +7,7 @@ ghost use Rattle.shared_log.specs.Books.{IsDone};
 ghost use Rattle.shared_log.specs.Parts.{IsNewReader};
 ghost use Rattle.flow_control.specs.Stream.{flow_after};
 ghost use Rattle.agents.specs.LogSenders.{IsNewSenderBy, SendsLog};
-ghost use Rattle.peer.specs.declared.ending.Ending.TheVariants.{Whole};
+ghost use Rattle.peer.specs.declared.ending.Ending.TheVariants.{Short, Whole};
 ghost use Rattle.offering.specs.Ended.{EndsInput};
 ghost use Rattle.publisher.specs.Beginnings.{ArePublisherParts, device_of};
 ghost use Rattle.publisher.specs.Ended.{reading_left};
@@ -15,15 +15,17 @@ ghost use Rattle.publisher.specs.Judging.{end_in, fault_in};
 ghost use Rattle.publisher.specs.Openings.{ArePasses};
 ghost use Rattle.group_publisher.specs.Beginnings.{AreWaysAlong, IsWayOf};
 ghost use Rattle.group_publisher.specs.Ended.{AllHaveArrived, PublishesAllAlong};
-ghost use Rattle.group_publisher.specs.Farewells.{are_told_alone};
+ghost use Rattle.group_publisher.specs.Farewells.{are_told_alone, are_told_no_other};
+ghost use Rattle.group_publisher.specs.Shorts.{EndsShort, SaysItsShortfall};
 
 use crate::sender_thread::{GroupDevice, GroupSender};
 use crate::two_threads::{GroupPublished, run};
 use crate::way::Way;
 use agents::{Began, Duty, open_stream_sender};
-use endpoint::{Datagrams, DeviceError, Fan, Route, UdpDevice};
+use endpoint::{Datagrams, DeviceError, Fan, Route};
 use offering::OfferingState;
 use options::PublishPlan;
+use peer::TiedDevice;
 use publisher::{
     Calls, ChannelDevice, Ending, Offering, Progress, PublishFault, PublisherContext,
     PublisherParts, SenderPasses, buffered, channel_device, connected, parts_over, shared, started,
@@ -67,14 +69,14 @@ fn ways_along<R: Net>(
     alloc: Global,
     plan: &PublishPlan,
     routes: &[Route],
-) -> Result<Vec<Way<ChannelDevice<UdpDevice>>>, PublishFault>
+) -> Result<Vec<Way<ChannelDevice<TiedDevice>>>, PublishFault>
     requires { length routes.now ≤ 8 }
     ensures { IfOk result (λ ways. AreWaysAlong plan.now routes.now ways.items) }
 {
     let mut ways = Vec::new(alloc);
     for route in routes {
         let number = ways.as_slice().len();
-        let device = connected(rt, alloc, route)?;
+        let device = connected(rt, alloc, plan, route)?;
         let way = way_over(alloc, plan, number, route.peer, device);
         if ways.push(way).is_err() {
             return Err(PublishFault::Failed(DeviceError::Memory));
@@ -89,17 +91,22 @@ fn opened<'a, D: Datagrams + Drop>(
     state: &'a OfferingState,
     reader: LogReader,
     passes: SenderPasses<GroupDevice<D>>,
-    ways: usize,
+    ways: (usize, SocketAddr),
 ) -> Result<GroupSender<'a, D>, PublishFault>
     requires reader { IsNewReader state.now.log 0 reader }
     requires start { IsStart state.now.log.identity.geometry state.now.log.start }
     requires consumers { 0 < state.now.log.consumers }
-    requires few { ways ≤ 8 }
-    ensures new { IfOk result (λ s. IsNewSenderBy (flow_after (Some ways) state.now.log.start []) state.now.log reader s.agent) }
+    requires few { ways.0 ≤ 8 }
+    ensures new { IfOk result (λ s. IsNewSenderBy (flow_after (Some ways.0) state.now.log.start []) state.now.log reader s.agent) }
     ensures sends { IfOk result (λ s. SendsLog state.now.log s.agent × (s.passes ≡ passes)) }
 {
+    let (ways, peer) = ways;
     let agent = open_stream_sender(alloc, &state.log, reader, Some(ways))?;
-    Ok(GroupSender { agent, passes })
+    Ok(GroupSender {
+        agent,
+        passes,
+        peer,
+    })
 }
 
 /// What is left of a publisher's parts as its thread starts to send.
@@ -107,6 +114,7 @@ struct Sending<D> {
     reader: LogReader,
     passes: SenderPasses<GroupDevice<D>>,
     ways: usize,
+    peer: SocketAddr,
 }
 
 /// Runs over what the threads share: the sender is opened before the other thread is started.
@@ -132,13 +140,16 @@ fn publish_shared<
     ensures whole { IfOk result (λ e. e.ending ≡ Ok Whole → AllHaveArrived (reading_left e.input) sending.ways e.attendances.items) }
     ensures faulted { IfOk result (λ e. IfSome (fault_in (reading_left e.input)) (λ fault. e.ending ≡ Err fault)) }
     ensures told { IfOk result (λ e. e.ending ≡ Ok Whole → are_told_alone context.now.plan.now.geometry (end_in (reading_left e.input)) e.ends.items ≡ true) }
+    ensures no_other { IfOk result (λ e. IfOk e.ending (λ _. are_told_no_other context.now.plan.now.geometry (end_in (reading_left e.input)) e.ends.items ≡ true)) }
+    ensures short { IfOk result (λ e. e.ending ≡ Ok Short → EndsShort context.now.state.now.log sending.passes sending.ways context.now.plan.now e.told) }
 {
     let Sending {
         reader,
         passes,
         ways,
+        peer,
     } = sending;
-    let mut sender = opened(alloc, context.state, reader, passes, ways)?;
+    let mut sender = opened(alloc, context.state, reader, passes, (ways, peer))?;
     let reading = started(context.rt, alloc, context.plan, offering)?;
     run(alloc, context, &mut sender, ways, reading, errors)
 }
@@ -172,10 +183,14 @@ pub fn publish_group_over<
     ensures faulted { IfOk result (λ e. IfSome (fault_in (reading_left e.input)) (λ fault. e.ending ≡ Err fault)) }
     // Where it ends whole no way's device was given an end to tell but the reading's.
     ensures told { IfOk result (λ e. e.ending ≡ Ok Whole → are_told_alone plan.now.geometry (end_in (reading_left e.input)) e.ends.items ≡ true) }
+    // Where it ends without a fault no way's device was given another end to tell.
+    ensures no_other { IfOk result (λ e. IfOk e.ending (λ _. are_told_no_other plan.now.geometry (end_in (reading_left e.input)) e.ends.items ≡ true)) }
+    // Where it ends short a line has said why.
+    ensures short { IfOk result (λ e. e.ending ≡ Ok Short → EndsShort parts.state.log parts.passes (length parts.passes.duty.device.ways) plan.now e.told) }
 {
     let PublisherParts {
         began,
-        peer: _,
+        peer,
         state,
         conductor,
         publisher,
@@ -197,6 +212,7 @@ pub fn publish_group_over<
         reader,
         passes,
         ways,
+        peer,
     };
     publish_shared(alloc, &context, sending, offering, errors)
 }
@@ -207,7 +223,7 @@ fn prepared<R: Net + Clock>(
     alloc: Global,
     plan: &PublishPlan,
     routes: &[Route],
-) -> Result<PublisherParts<GroupDevice<UdpDevice>>, PublishFault>
+) -> Result<PublisherParts<GroupDevice<TiedDevice>>, PublishFault>
     requires some { 0 < length routes.now }
     requires few { length routes.now ≤ 8 }
     ensures parts { IfOk result (λ p. ArePublisherParts plan.now p) }
@@ -247,7 +263,8 @@ pub fn publish_group<
 ) -> Result<Ending, PublishFault>
     requires some { 0 < length routes.now }
     requires few { length routes.now ≤ 8 }
-    ensures { result ≡ Ok Whole → PublishesAllAlong plan.now (length routes.now) (I.remaining input) }
+    ensures whole { result ≡ Ok Whole → PublishesAllAlong plan.now (length routes.now) (I.remaining input) }
+    ensures short { result ≡ Ok Short → SaysItsShortfall plan.now routes.now }
 {
     let input = buffered(alloc, input)?;
     let parts = prepared(rt, alloc, plan, routes)?;

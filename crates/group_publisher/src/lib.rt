@@ -8,8 +8,8 @@
 //! gives up where nothing more is waited for along any way: the tail was told, it was silent or nobody was heard for too long,
 //! or its receiver is left behind (`peer`). Along one way that is how a publisher to one ends (`ends_as_one`).
 //!
-//! Those that weren't heard within the plan's wait are left out: the sender goes on by a group of the others
-//! (`begin_with_heard`). That it does, and by which numbers, isn't said, but that nothing else changes is.
+//! Those that weren't heard within the plan's wait are left out: the sender goes on by a group of exactly the others, whose ways
+//! get the numbers from 0 on (`begin_with_heard`, by `Begins`; `EndsBehind` has its cycles from the first one on).
 //!
 //! Its reading and what is left of its input are as with one subscriber (`publish_group_over`, by `EndsInput`, over any reader
 //! and any devices); its log isn't closed. Where it ends whole, the reading has ended at the input's end, and what was accepted
@@ -17,7 +17,8 @@
 //! cycle it keeps the log (`KeepsLog`), and its core hears what came along the ways and is told the moment last (`CyclesAt`); a
 //! fault is the devices' or the reading's, and no other (`FailsBy`). The lines that name a way are exact, and so is how often
 //! the stream's end is told along each, one by one. Where it ends whole each end that a way's device was given to tell is where
-//! the reading's messages end (`are_told_alone`). That ways keep their numbers while datagrams go along them isn't said, nor
+//! the reading's messages end (`are_told_alone`). Where it ends short none was given another, and a line was given that says of
+//! a way why (`publish_group`, by `SaysItsShortfall`). That ways keep their numbers while datagrams go along them isn't said, nor
 //! that what a group's sender gives out is honest for its stream.
 #![tactic(auto)]
 

@@ -1,6 +1,6 @@
 //! The thread that sends along all ways, keeps the log, and decides the end.
 
-ghost use Rattle.std.specs.Prelude.{◌≡◌, ◌≤◌, Err, IfErr, IfOk, IsTrue, is_some, length, map};
+ghost use Rattle.std.specs.Prelude.{◌≡◌, ◌≤◌, ◌||◌, nat_le, not, Err, IfErr, IfOk, IfSome, IsTrue, length, map};
 ghost use Rattle.std.specs.List.{list_all};
 ghost use Rattle.agents.specs.LogSenders.{SendsLog};
 ghost use Rattle.sender_meaning.specs.Moments.{CyclesAt};
@@ -10,25 +10,27 @@ ghost use Rattle.publisher.specs.Keeping.{KeepsLog};
 ghost use Rattle.publisher.specs.Openings.{ArePasses};
 ghost use Rattle.publisher.specs.Progress.{end_to_tell, with_end_told};
 ghost use Rattle.publisher.specs.declared.fault.PublishFault.TheVariants.{Failed};
-ghost use Rattle.group_publisher.specs.Beginnings.{unnumbered, with_flow};
-ghost use Rattle.group_publisher.specs.Endings.{heard_along, is_broken_along};
+ghost use Rattle.group_publisher.specs.Beginnings.{begins_now, heard_count, is_heard_along, next_number, numbered_from, unnumbered, with_flow, with_number};
+ghost use Rattle.group_publisher.specs.Endings.{is_broken_along};
 ghost use Rattle.group_publisher.specs.Farewells.{TellsWhereDue};
-ghost use Rattle.group_publisher.specs.Judging.{Ends, Judges};
+ghost use Rattle.group_publisher.specs.Judging.{HasToldAlong, Judges};
 ghost use Rattle.group_publisher.specs.Seeing.{begun, seen_along};
+ghost use Rattle.group_publisher.specs.Turns.{Begins, Cycles, EndsBehind};
 
 use crate::ending::{are_broken, group_ending};
 use crate::seeing::begin_all;
-use crate::telling::{tell_counts, tell_left_out, tell_news, tell_unwritten_ways};
+use crate::telling::{tell_all_done, tell_counts, tell_ending, tell_left_out, tell_news};
 use crate::two_threads::tell_all;
 use crate::way::Way;
 use agents::{Duty, IdleStrategy, StreamSender};
 use endpoint::{Datagrams, DeviceError, Fan};
 use flow_control::StreamFlow;
 use publisher::{
-    ChannelDevice, Ending, Judged, Progress, PublishFault, PublisherContext, SenderPasses,
-    check_reading, end_in, end_unless_judged, keep, messages_in, tail_in, tell_whole,
+    ChannelDevice, Judged, Progress, PublishFault, PublisherContext, SenderPasses, check_reading,
+    end_in, end_unless_judged, keep, messages_in, tail_in,
 };
 use std::io::Write;
+use std::net::SocketAddr;
 use std::sync::Wait;
 use std::time::Clock;
 
@@ -38,6 +40,9 @@ const OUTSIDE: i64 = -1;
 /// How many ways there are at the most.
 const MOST_WAYS: usize = 8;
 
+/// Below this lies each position of a stream.
+const MOST_POSITIONS: u64 = 1 << 63;
+
 /// The nanoseconds of a second.
 const NANOSECONDS_PER_SECOND: u64 = 1_000_000_000;
 
@@ -46,9 +51,11 @@ pub type GroupDevice<D> = Fan<Way<ChannelDevice<D>>>;
 
 /// What sends and keeps.
 #[derive(Drop)]
-pub(crate) struct GroupSender<'a, D> {
-    pub(crate) agent: StreamSender<'a>,
-    pub(crate) passes: SenderPasses<GroupDevice<D>>,
+pub struct GroupSender<'a, D> {
+    pub agent: StreamSender<'a>,
+    pub passes: SenderPasses<GroupDevice<D>>,
+    /// Whom a line names that is about none of its receivers alone.
+    pub peer: SocketAddr,
 }
 
 /// A cycle begins along each way.
@@ -85,14 +92,24 @@ fn see<D: Datagrams, E: Write>(
     see_all(duty.device_mut().each_mut(), errors, linger, now);
 }
 
-/// Up to where the stream was sent, and how many datagrams were sent again: along each way the same. What else comes and goes
-/// is no work.
-fn work_of<D: Datagrams>(sender: &GroupSender<'_, D>) -> (u64, u64) {
-    let resends = match sender.passes.duty.device().each().first() {
+/// How many datagrams were passed over, along all ways, modulo 2^64.
+fn passed_along<D: Datagrams>(ways: &[Way<ChannelDevice<D>>]) -> u64 {
+    let mut passed: u64 = 0;
+    for way in ways.iter() {
+        passed = passed.wrapping_add(way.device.tally().passed);
+    }
+    passed
+}
+
+/// Up to where the stream was sent, how many datagrams were sent again, along each way the same, and how many were passed over.
+/// What else comes and goes is no work.
+fn work_of<D: Datagrams>(sender: &GroupSender<'_, D>) -> (u64, u64, u64) {
+    let ways = sender.passes.duty.device().each();
+    let resends = match ways.first() {
         None => 0,
         Some(way) => way.device.tally().resends,
     };
-    (sender.agent.position(), resends)
+    (sender.agent.position(), resends, passed_along(ways))
 }
 
 /// A cycle of the sender, and one of the conductor. Whether there was work.
@@ -132,6 +149,7 @@ fn cycle<R: Wait + Clock, D: Datagrams, E: Write>(
     ensures passes { ArePasses context.now.state.now.log context.now.conductor.now sender.new.passes }
     ensures told { IfOk result (λ _. CyclesAt now sender.old.agent.core sender.new.agent.core) }
     ensures keeps { IfOk result (λ busy. KeepsLog context.now.state.now.log sender.old.passes busy sender.new.passes) }
+    ensures cycles { IfOk result (λ _. Cycles context.now.plan.now.linger now sender.old sender.new) }
 {
     let position = sender.agent.position();
     begin(&mut sender.passes.duty, position);
@@ -171,6 +189,7 @@ fn judge<R, D: Datagrams, E: Write>(
     now: u64,
 ) -> Result<Option<Judged>, PublishFault>
     ensures judges { IfOk result (λ answer. Judges progress.new ways.now context.now.plan.now.linger context.now.plan.now.wait answer) }
+    ensures told { IfOk result (λ answer. IfSome answer (HasToldAlong ways.now)) }
     ensures broken { IsTrue (list_all is_broken_along ways.now) → result ≡ Err (Failed Device) }
     ensures fails { IfErr result (FailsBy (list_all is_broken_along ways.now)) }
 {
@@ -182,30 +201,32 @@ fn judge<R, D: Datagrams, E: Write>(
         return Err(PublishFault::Failed(DeviceError::Device));
     }
     check_reading(progress, &reading, messages, errors)?;
-    tell_counts(context, progress, ways, errors, now);
     let end = end_in(&reading);
-    let Some(ending) = group_ending(ways, end, plan.linger, plan.wait) else {
+    let ending = group_ending(ways, end, plan.linger, plan.wait);
+    tell_counts(context, progress, ways, errors, now, ending.is_some());
+    let Some(ending) = ending else {
         return Ok(None);
     };
-    match ending {
-        Ending::Whole => {
-            let _ = tell_whole(errors, plan.start, tail);
-        }
-        Ending::Short => tell_unwritten_ways(errors, ways, end, tail),
-    }
-    Ok(Some(Judged { ending, reading }))
+    let told = tell_ending(errors, ways, ending, end, plan.start, tail);
+    tell_all_done(errors, ways, messages, tail.saturating_sub(plan.start), now);
+    Ok(Some(Judged {
+        ending,
+        reading,
+        told,
+    }))
 }
 
 /// Whether somebody was heard along a way.
 fn is_heard<D>(way: &Way<ChannelDevice<D>>) -> bool
-    ensures { result ≡ is_some (heard_along way.now).present }
+    ensures { result ≡ is_heard_along way.now }
 {
     way.device.attendance().present.is_some()
 }
 
 /// Along how many ways somebody was heard.
 fn count_heard<D>(ways: &[Way<ChannelDevice<D>>]) -> usize
-    ensures { result ≤ length ways.now }
+    ensures few { result ≤ length ways.now }
+    ensures heard { result ≡ heard_count ways.now }
 {
     let mut count = 0;
     for way in ways {
@@ -217,27 +238,71 @@ fn count_heard<D>(ways: &[Way<ChannelDevice<D>>]) -> usize
 }
 
 /// Gives a way this number, if somebody was heard along it; else a number that is of no group, and that is told.
-fn number<D, E: Write>(way: &mut Way<ChannelDevice<D>>, errors: &mut E, number: i64, wait: u64)
-    ensures { way.new ≡ record way.old { number = way.new.number } }
+fn number<D, E: Write>(way: &mut Way<ChannelDevice<D>>, errors: &mut E, number: u64, wait: u64)
+    ensures kept { way.new ≡ record way.old { number = way.new.number } }
+    ensures numbered { way.new ≡ with_number number way.old }
 {
-    way.number = number;
-    if !is_heard(way) {
-        way.number = OUTSIDE;
-        let _ = tell_left_out(errors, way.peer, wait / NANOSECONDS_PER_SECOND);
+    if is_heard(way) {
+        way.number = number.cast_signed();
+        return;
+    }
+    way.number = OUTSIDE;
+    let _ = tell_left_out(errors, way.peer, wait / NANOSECONDS_PER_SECOND);
+}
+
+/// The number that comes behind this way's.
+fn next_number<D>(way: &Way<ChannelDevice<D>>, next: u64) -> u64
+    ensures { result ≡ next_number next way.now }
+{
+    if is_heard(way) {
+        next.wrapping_add(1)
+    } else {
+        next
     }
 }
 
 /// Numbers the ways along which somebody was heard from 0 on; the others are told.
 fn number_heard<D, E: Write>(ways: &mut [Way<ChannelDevice<D>>], errors: &mut E, wait: u64)
-    ensures { map unnumbered ways.new ≡ map unnumbered ways.old }
+    ensures kept { map unnumbered ways.new ≡ map unnumbered ways.old }
+    ensures numbered { ways.new ≡ numbered_from 0 ways.old }
 {
-    let mut next: i64 = 0;
+    let mut next: u64 = 0;
     for way in ways.iter_mut() {
+        let behind = next_number(way, next);
         number(way, errors, next, wait);
-        if is_heard(way) {
-            next = next.wrapping_add(1);
-        }
+        next = behind;
     }
+}
+
+/// Whether it begins now with those that were heard, at this position: it hasn't yet, the others weren't heard for as long as it
+/// waits, and these can be a group.
+fn begins_now(begun: bool, wait: u64, now: u64, heard: usize, position: u64) -> bool
+    ensures { result ≡ begins_now begun wait now heard position }
+{
+    !begun && wait <= now && 0 < heard && heard <= MOST_WAYS && position < MOST_POSITIONS
+}
+
+/// Whether it goes on with all: it doesn't begin now, or all were heard.
+fn keeps_all(begins: bool, heard: usize, all: usize) -> bool
+    ensures { result ≡ (not begins || nat_le all heard) }
+{
+    !begins || all <= heard
+}
+
+/// Whether it has begun by then.
+fn has_begun(begun: bool, begins: bool) -> bool
+    ensures { result ≡ (begun || begins) }
+{
+    begun || begins
+}
+
+/// Numbers the ways of what it sends with along which somebody was heard.
+fn number_all<D: Datagrams, E: Write>(duty: &mut Duty<GroupDevice<D>>, errors: &mut E, wait: u64)
+    ensures same { duty.new ≡ record duty.old { device = duty.new.device } }
+    ensures kept { map unnumbered duty.new.device.ways ≡ map unnumbered duty.old.device.ways }
+    ensures numbered { duty.new.device.ways ≡ numbered_from 0 duty.old.device.ways }
+{
+    number_heard(duty.device_mut().each_mut(), errors, wait);
 }
 
 /// Begins with those that were heard, once the others weren't for as long as the plan waits: these are told, and hold nobody up
@@ -252,28 +317,25 @@ fn begin_with_heard<D: Datagrams, E: Write>(
     ensures agent { sender.new.agent ≡ with_flow sender.old.agent sender.new.agent.core.flow }
     ensures passes { sender.new.passes ≡ record sender.old.passes { duty = record sender.old.passes.duty { device = sender.new.passes.duty.device } } }
     ensures kept { map unnumbered sender.new.passes.duty.device.ways ≡ map unnumbered sender.old.passes.duty.device.ways }
+    ensures begins { Begins wait now begun sender.old result sender.new }
 {
-    if begun || now < wait {
-        return begun;
-    }
     let ways = sender.passes.duty.device().each();
     let (heard, all) = (count_heard(ways), ways.len());
     let position = sender.agent.position();
-    if heard == 0 || heard > MOST_WAYS || position > i64::MAX as u64 {
-        return false;
+    let begins = begins_now(begun, wait, now, heard, position);
+    if keeps_all(begins, heard, all) {
+        return has_begun(begun, begins);
     }
-    if heard < all {
-        number_heard(sender.passes.duty.device_mut().each_mut(), errors, wait);
-        sender
-            .agent
-            .set_flow(StreamFlow::new(position, Some(heard)));
-    }
+    number_all(&mut sender.passes.duty, errors, wait);
+    sender
+        .agent
+        .set_flow(StreamFlow::new(position, Some(heard)));
     true
 }
 
 /// Sends and keeps until the publisher ends. The answer is how, by the receivers that its ways have heard, and by how the
 /// reading had ended then.
-#[tactic(auto, using(crate::proofs::Begun::sends_still, crate::proofs::Ends::ends))]
+#[tactic(auto, using(crate::proofs::Begun::sends_still))]
 pub(crate) fn send_all<R: Wait + Clock, D: Datagrams, E: Write>(
     context: &PublisherContext<'_, R>,
     sender: &mut GroupSender<'_, D>,
@@ -281,7 +343,7 @@ pub(crate) fn send_all<R: Wait + Clock, D: Datagrams, E: Write>(
 ) -> Result<Judged, PublishFault>
     requires agent { SendsLog context.now.state.now.log sender.old.agent }
     requires passes { ArePasses context.now.state.now.log context.now.conductor.now sender.old.passes }
-    ensures { IfOk result (λ judged. Ends sender.new.passes.duty.device.ways context.now.plan.now.linger context.now.plan.now.wait judged) }
+    ensures { IfOk result (EndsBehind context.now.plan.now sender.old sender.new) }
 {
     let mut progress = Progress::new();
     let mut begun = false;

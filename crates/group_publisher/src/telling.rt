@@ -1,22 +1,28 @@
 //! What a publisher to several subscribers tells on its error output: whom a line is about stands before it. An error is the
 //! output's.
 
-ghost use Rattle.std.specs.Prelude.{◌≡◌, ◌++◌, OnOk, Some};
+ghost use Rattle.std.specs.Prelude.{◌≡◌, ◌++◌, true, IfNone, IfSome, None, OnOk, Some};
+ghost use Rattle.std.specs.List.{list_all};
 ghost use Rattle.std.specs.Io.KnownBytes.{Appends};
 ghost use Rattle.publisher.specs.Texts.{alone_line, change_text, counters_line};
+ghost use Rattle.peer.specs.declared.ending.Ending.TheVariants.{Short, Whole};
+ghost use Rattle.group_publisher.specs.Endings.{is_whole_along};
+ghost use Rattle.group_publisher.specs.Judging.{IsToldOf, IsUnwritten, last_of};
 ghost use Rattle.group_publisher.specs.Texts.{at_text, behind_line, behind_text, left_out_line, left_out_text, quiet_line};
 
 use crate::seeing::News;
 use crate::way::Way;
 use endpoint::Datagrams;
-use peer::{Attendance, Behind};
+use peer::{Attendance, Behind, Ending};
 use publisher::{
-    ChannelDevice, Counts, Progress, PublisherContext, look, shortfall_of, tell_alone, tell_change,
-    tell_counters, tell_refused, tell_shortfall, told_in,
+    ChannelDevice, Counts, Progress, PublisherContext, ToldShortfall, Totals, look, shortfall_of,
+    tell_alone, tell_change, tell_counters, tell_refused, tell_totals, tell_whole, tell_why,
+    told_in,
 };
 use std::io::Write;
 use std::net::SocketAddr;
 use std::{fmt, io};
+use text::Pace;
 
 /// One that is left behind, so far.
 #[derive(Clone, Copy)]
@@ -140,20 +146,96 @@ pub(crate) fn tell_news<D: Datagrams, E: Write>(
     }
 }
 
-/// Tells along which ways not all was written of a stream that ends at `end`, if its input has ended, and else has come to `tail`.
-pub(crate) fn tell_unwritten_ways<D: Datagrams, E: Write>(
+/// Gives the line of a way along which not all was written of a stream that ends at `end`, if its input has ended, and else has
+/// come to `tail`.
+fn tell_unwritten<D: Datagrams, E: Write>(
+    errors: &mut E,
+    way: &Way<ChannelDevice<D>>,
+    end: Option<u64>,
+    tail: u64,
+) -> Option<ToldShortfall>
+    ensures whole { IfNone result (is_whole_along end way.now ≡ true) }
+    ensures told { IfSome result (IsUnwritten end tail way.now) }
+{
+    let attendance = way.device.attendance();
+    if attendance.is_whole(end) {
+        return None;
+    }
+    let shortfall = shortfall_of(&attendance, end, tail, way.silence);
+    Some(tell_why(errors, way.peer, shortfall))
+}
+
+/// The line that was given last: this one, if it was, or else one before it.
+fn last_of(before: Option<ToldShortfall>, told: Option<ToldShortfall>) -> Option<ToldShortfall>
+    ensures { result ≡ last_of before told }
+{
+    match told {
+        None => before,
+        Some(told) => Some(told),
+    }
+}
+
+/// The same along all ways. The line that was given last, if one was.
+fn tell_unwritten_ways<D: Datagrams, E: Write>(
     errors: &mut E,
     ways: &[Way<ChannelDevice<D>>],
     end: Option<u64>,
     tail: u64,
-) {
+) -> Option<ToldShortfall>
+    ensures whole { IfNone result (list_all (is_whole_along end) ways.now ≡ true) }
+    ensures told { IfSome result (IsToldOf end tail ways.now) }
+{
+    let mut last = None;
     for way in ways {
-        let attendance = way.device.attendance();
-        if !attendance.is_whole(end) {
-            let shortfall = shortfall_of(&attendance, end, tail, way.silence);
-            let _ = tell_shortfall(errors, way.peer, shortfall);
-        }
+        let told = tell_unwritten(errors, way, end, tail);
+        last = last_of(last, told);
     }
+    last
+}
+
+/// How it ends: along which ways not all was written, if it ends short; else whether anything was published of a stream from
+/// `start` to `tail`. The line that said why last.
+pub(crate) fn tell_ending<D: Datagrams, E: Write>(
+    errors: &mut E,
+    ways: &[Way<ChannelDevice<D>>],
+    ending: Ending,
+    end: Option<u64>,
+    start: u64,
+    tail: u64,
+) -> Option<ToldShortfall>
+    ensures whole { ending ≡ Whole → result ≡ None }
+    ensures short { ending ≡ Short → IfNone result (list_all (is_whole_along end) ways.now ≡ true) × IfSome result (IsToldOf end tail ways.now) }
+{
+    match ending {
+        Ending::Whole => {
+            let _ = tell_whole(errors, start, tail);
+            None
+        }
+        Ending::Short => tell_unwritten_ways(errors, ways, end, tail),
+    }
+}
+
+/// Tells what was done in all, of so many messages in so many bytes of stream, at this moment.
+pub(crate) fn tell_all_done<D: Datagrams, E: Write>(
+    errors: &mut E,
+    ways: &[Way<ChannelDevice<D>>],
+    messages: u64,
+    bytes: u64,
+    now: u64,
+) {
+    let mut resends: u64 = 0;
+    for way in ways {
+        resends = resends.saturating_add(way.device.tally().resends);
+    }
+    let totals = Totals {
+        pace: Pace {
+            count: messages,
+            nanoseconds: now,
+        },
+        bytes,
+        resends,
+    };
+    let _ = tell_totals(errors, totals);
 }
 
 /// Tells how many datagrams were refused along each way, where any was.
@@ -170,13 +252,14 @@ pub(crate) fn tell_refused_ways<D: Datagrams, E: Write>(
     }
 }
 
-/// Tells the counters of each way once a second, where they are asked for.
+/// Tells the counters of each way once a second and at the last, where they are asked for.
 pub(crate) fn tell_counts<R, D: Datagrams, E: Write>(
     context: &PublisherContext<'_, R>,
     progress: &mut Progress,
     ways: &[Way<ChannelDevice<D>>],
     errors: &mut E,
     now: u64,
+    last: bool,
 )
     ensures { progress.new.faulted ≡ progress.old.faulted }
 {
@@ -184,7 +267,7 @@ pub(crate) fn tell_counts<R, D: Datagrams, E: Write>(
     if !plan.end.counters {
         return;
     }
-    let Some(recent) = progress.shows(messages, now) else {
+    let Some(recent) = progress.shows(messages, now, last) else {
         return;
     };
     let tail = context.state.tail();

@@ -5,14 +5,15 @@ ghost use Rattle.std.specs.Prelude.{◌≡◌, [], Err, IfOk, IfSome, Ok, Some, 
 ghost use Rattle.shared_log.specs.Readers.{ReaderValue};
 ghost use Rattle.flow_control.specs.Stream.{flow_after};
 ghost use Rattle.agents.specs.LogSenders.{IsNewSenderBy, SendsLog};
-ghost use Rattle.peer.specs.declared.ending.Ending.TheVariants.{Whole};
+ghost use Rattle.peer.specs.declared.ending.Ending.TheVariants.{Short, Whole};
 ghost use Rattle.offering.specs.Ended.{EndsInput};
 ghost use Rattle.publisher.specs.Ended.{reading_left};
 ghost use Rattle.publisher.specs.Judging.{end_in, fault_in};
 ghost use Rattle.publisher.specs.Openings.{ArePasses};
 ghost use Rattle.group_publisher.specs.Ended.{AllHaveArrived, ending_with};
 ghost use Rattle.group_publisher.specs.Endings.{heard_along};
-ghost use Rattle.group_publisher.specs.Farewells.{AreGiven, AreTold, TellsFarewell, are_told_alone, ends_along, ends_with, given_along, given_with};
+ghost use Rattle.group_publisher.specs.Farewells.{AreGiven, AreTold, TellsFarewell, are_told_alone, are_told_no_other, ends_along, ends_with, given_along, given_with};
+ghost use Rattle.group_publisher.specs.Turns.{SaysWhy};
 
 use crate::sender_thread::{GroupDevice, GroupSender, send_all};
 use crate::telling::tell_refused_ways;
@@ -23,8 +24,9 @@ use offering::{InputEnd, Reader};
 use peer::{Attendance, ToldEnds};
 use position::Geometry;
 use publisher::{
-    ChannelDevice, Ending, FAREWELL_PAUSE, FAREWELLS, PublishFault, PublisherContext, end_in,
-    ended, ending_told, farewell_in, has_told_alone, input_end, reading_left,
+    ChannelDevice, Ending, FAREWELL_PAUSE, FAREWELLS, PublishFault, PublisherContext,
+    ToldShortfall, end_in, ended, ending_told, ending_unless_another, farewell_in, has_told_alone,
+    has_told_no_other, input_end, reading_left, tell_if_elsewhere, told_of,
 };
 use std::alloc::{AllocError, Global};
 use std::io::{BufRead, Write};
@@ -38,6 +40,8 @@ use std::time::{Clock, Duration};
 #[derive(Drop)]
 pub struct GroupPublished<I> {
     pub ending: Result<Ending, PublishFault>,
+    /// The line that said why it ended short, where it did: the last one, where several ways have one.
+    pub told: Option<ToldShortfall>,
     pub attendances: Vec<Attendance>,
     /// The ends of its stream that the device of each way was given to tell.
     pub ends: Vec<Option<ToldEnds>>,
@@ -79,6 +83,17 @@ fn are_told_alone(ends: &[Option<ToldEnds>], geometry: &Geometry, end: Option<u6
     let mut all = true;
     for told in ends {
         all = all && has_told_alone(*told, geometry, end);
+    }
+    all
+}
+
+/// Whether no device told an end but this one.
+fn are_told_no_other(ends: &[Option<ToldEnds>], geometry: &Geometry, end: Option<u64>) -> bool
+    ensures { result ≡ are_told_no_other geometry.now end ends.now }
+{
+    let mut all = true;
+    for told in ends {
+        all = all && has_told_no_other(*told, geometry, end);
     }
     all
 }
@@ -156,8 +171,13 @@ pub(crate) fn run<R: Threads + Wait + Clock, I: BufRead + Drop, D: Datagrams, E:
     ensures whole { IfOk result (λ p. p.ending ≡ Ok Whole → AllHaveArrived (reading_left p.input) ways p.attendances.items) }
     ensures faulted { IfOk result (λ p. IfSome (fault_in (reading_left p.input)) (λ fault. p.ending ≡ Err fault)) }
     ensures told { IfOk result (λ p. p.ending ≡ Ok Whole → are_told_alone context.now.plan.now.geometry (end_in (reading_left p.input)) p.ends.items ≡ true) }
+    // Where it ends without a fault no way's device has told an end but the reading's.
+    ensures no_other { IfOk result (λ p. IfOk p.ending (λ _. are_told_no_other context.now.plan.now.geometry (end_in (reading_left p.input)) p.ends.items ≡ true)) }
+    // Where it ends short a line has said why.
+    ensures short { IfOk result (λ p. p.ending ≡ Ok Short → SaysWhy context.now.plan.now sender.old p.told) }
 {
     let sent = send_all(context, sender, errors);
+    let line = told_of(&sent);
     context.state.stop();
     tell_refused_ways(errors, sender.passes.duty.device().each());
     let heard = attendances_of(alloc, sender.passes.duty.device().each());
@@ -175,9 +195,12 @@ pub(crate) fn run<R: Threads + Wait + Clock, I: BufRead + Drop, D: Datagrams, E:
     };
     let geometry = &context.plan.geometry;
     let told_alone = are_told_alone(ends.as_slice(), geometry, end_in(&reading));
-    let ending = ending_with(ending, attendances.as_slice().len(), ways);
+    let no_other = are_told_no_other(ends.as_slice(), geometry, end_in(&reading));
+    let known = ending_with(ending, attendances.as_slice().len(), ways);
+    let ending = ending_unless_another(ending_told(known, told_alone), no_other);
     Ok(GroupPublished {
-        ending: ending_told(ending, told_alone),
+        told: tell_if_elsewhere(errors, sender.peer, line, &ending),
+        ending,
         attendances,
         ends,
         input,

@@ -8,7 +8,7 @@ use Rattle.offering.specs.declared.fault.ReadingFault.TheVariants.{Input, Full}
 
 -- messages are counted from 1, and the greatest is that of the stream
 abbrev pub IsOfMessage : Geometry → InputFault → Type 0
-IsOfMessage g inputs.Read = ⊤
+IsOfMessage g (inputs.Read code) = ⊤
 IsOfMessage g (inputs.TooLong number greatest) = (1 ≤ number) × (greatest ≡ max_message g)
 IsOfMessage g (inputs.Cut number) = 1 ≤ number
 IsOfMessage g inputs.Memory = ⊤

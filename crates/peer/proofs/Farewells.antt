@@ -5,7 +5,7 @@ use Rattle.std.specs.Prelude.{◌+ℤ◌, ◌*ℤ◌, IfSome, IfNone}
 use Rattle.std.specs.Int.{w32, int_wrapping_sub}
 use Rattle.theory.specs.Bytes.{Identity}
 use Rattle.theory.specs.Position.{Geometry, IsGeometry, max_position, position_of}
-use Rattle.theory.specs.Wire.{Setup, SETUP, Spells}
+use Rattle.theory.specs.Wire.{Setup, SETUP}
 use Rattle.frames.specs.Fronts.{FrontSpells}
 use Rattle.peer.specs.Watching.{Gives, Watched, with_told}
 use Rattle.theory.proofs.Named.{names_place}

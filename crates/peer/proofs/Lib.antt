@@ -4,3 +4,4 @@ mod Rows
 pub mod Farewells
 pub mod Refused
 pub mod Numbered
+pub mod Passing

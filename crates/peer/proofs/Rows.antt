@@ -1,13 +1,13 @@
 -- Messages that aren't of one receiver from the start to the tail.
 use Rattle.std.proofs.Common.{◌≡◌, ◌⊎◌, pos, ◌≤◌, [], ◌∷◌, None, Some, ℕ, ℤ, true, false, refl, inl, inr, sym, ◌∙◌, ⊎_elim, arith}
 use Rattle.theory.specs.Bytes.{Identity}
-use Rattle.theory.specs.Wire.{SM, Status}
+use Rattle.theory.specs.Wire.{NAK, SM, Nak, Status}
 use Rattle.peer.specs.Endings.{IsOneFromStart, is_silent, patience}
 use Rattle.peer.specs.Attending.{after_all, newcomer, nobody}
 use Rattle.peer.specs.Screening.{verdict_of}
-use Rattle.peer.specs.Watching.{Watched, behind_of, new_watch, screened, told, told_by, with_told}
+use Rattle.peer.specs.Watching.{Watched, after_frame, behind_of, due_of, new_watch, screened, screened_of, told, told_by, with_told}
 use Rattle.peer.specs.declared.screen.Bounds.{Bounds}
-use Rattle.peer.specs.declared.screen.Verdict.TheVariants.{Passes, Tells, Disbelieved, Misses, LeftBehind, Unanswered}
+use Rattle.peer.specs.declared.screen.Verdict.TheVariants.{Passes, Tells, Disbelieved, Held, Misses, LeftBehind, Unanswered}
 
 -- one that told 0 and then 64
 whole : IsOneFromStart 0 64 ((pos 1, 0) ∷ (pos 1, 64) ∷ [])
@@ -73,6 +73,35 @@ another_session_passes = refl
 
 another_stream_passes : verdict_of stream sent (SM 0 (telling (pos 1) (pos 1002) (pos 96) (pos 32769))) ≡ Passes
 another_stream_passes = refl
+
+-- ---- what waits: those of the cycle have asked for half a term
+
+abbrev missing : ℤ → Nak
+missing bytes = record { session = pos 1; stream = pos 1001; term_id = pos 7; term_offset = pos 0; length = bytes }
+
+abbrev full : Watched
+full = record (new_watch stream 0 None) { bounds = record { sent_to = 64; asked = Some 32768 } }
+
+abbrev waits : Watched
+waits = after_frame full (NAK (missing (pos 32)))
+
+no_room_is_left : screened_of full (NAK (missing (pos 32))) ≡ Held
+no_room_is_left = refl
+
+it_is_passed_over : waits.passed ≡ 1
+it_is_passed_over = refl
+
+one_waits_at_a_time : screened_of waits (NAK (missing (pos 64))) ≡ Unanswered
+one_waits_at_a_time = refl
+
+status_messages_behind_it_tell : screened_of waits (SM 0 (telling (pos 1) (pos 1001) (pos 64) (pos 128))) ≡ Tells (pos 9) 64
+status_messages_behind_it_tell = refl
+
+not_in_the_same_cycle : due_of waits ≡ None
+not_in_the_same_cycle = refl
+
+in_the_next_cycle : due_of (told waits 64) ≡ Some (missing (pos 32))
+in_the_next_cycle = refl
 
 -- ---- the ends that were told
 

@@ -1,7 +1,10 @@
 -- Numbers that are read by their signs.
-use Rattle.std.proofs.Common.{◌≡◌, ℕ, ℤ, pos, negsuc, true, nat_le, nat_lt, refl, sym, subst}
-use Rattle.peer.specs.Screening.{asked_bytes, is_at_most, told_at}
-use Rattle.peer.specs.Watching.{is_below}
+use Rattle.std.proofs.Common.{◌≡◌, ◌≤◌, ◌∙◌, ℕ, ℤ, pos, negsuc, true, false, List, length, nat_le, nat_lt, refl, sym, ap, subst, arith}
+use Rattle.std.proofs.lemmas.List.{length-take-le}
+use Rattle.theory.specs.Wire.{Wire, DATA, PAD, HEARTBEAT, NAK, SM, SETUP, spelling}
+use Rattle.frames.specs.Fronts.{FrontSpells}
+use Rattle.peer.specs.Screening.{asked_bytes, is_at_most, is_handed, told_at}
+use Rattle.peer.specs.Watching.{Watched, is_below, screened_of}
 use Rattle.peer.specs.declared.screen.Verdict.TheVariants.{Passes, Tells}
 
 pub low_enough : (number : ℤ) (n most : ℕ) → number ≡ pos n → nat_le n most ≡ is_at_most number most
@@ -31,3 +34,16 @@ lies_below number n most is = subst (λ x. nat_lt n most ≡ is_below x most) (s
 pub below_any : (number : ℤ) (most : ℕ) → ((n : ℕ) → number ≡ pos n → ⊥) → true ≡ is_below number most
 below_any (pos n) most not = absurd (not n refl)
 below_any (negsuc n) most not = refl
+
+-- only a status message and a negative acknowledgement are passed over
+
+spelled_so_long : (f : Wire) (bytes : List ℕ) (n m : ℕ) → FrontSpells bytes f n → length (spelling f) ≡ m → n ≡ m
+spelled_so_long f bytes n m s size = sym (length-take-le n bytes s.within) ∙ ap length s.spelled.1 ∙ size
+
+pub unhanded_is_short : (w : Watched) (f : Wire) (bytes : List ℕ) (n : ℕ) → FrontSpells bytes f n → is_handed (screened_of w f) ≡ false → n ≤ 40
+unhanded_is_short w (DATA h flags payload) bytes n s e = absurd (grind (arith, e))
+unhanded_is_short w (PAD h m) bytes n s e = absurd (grind (arith, e))
+unhanded_is_short w (HEARTBEAT h) bytes n s e = absurd (grind (arith, e))
+unhanded_is_short w (NAK m) bytes n s e = let is = spelled_so_long (NAK m) bytes n 28 s refl in omega (arith, is)
+unhanded_is_short w (SM flags m) bytes n s e = let is = spelled_so_long (SM flags m) bytes n 36 s refl in omega (arith, is)
+unhanded_is_short w (SETUP m) bytes n s e = absurd (grind (arith, e))

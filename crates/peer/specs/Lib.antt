@@ -1,4 +1,5 @@
 pub mod Texts
+pub mod Setups
 pub mod Ties
 pub mod Watching
 pub mod Attending

@@ -1,5 +1,5 @@
 -- What a contract sees of a publisher's device, and what a datagram makes of it.
-use Rattle.std.specs.Prelude.{◌≡◌, ℕ, ◌+◌, ◌-◌, ◌%◌, ◌^◌, ℤ, Bool, true, false, pos, negsuc, nat_lt, if◌then◌else◌, max, min, List, [], length, take, Option, None, Some, Result, Ok, Err}
+use Rattle.std.specs.Prelude.{◌≡◌, ◌⊎◌, ◌≤◌, ◌<◌, ⊤, ℕ, zero, suc, ◌+◌, ◌-◌, ◌%◌, ◌^◌, ℤ, Bool, true, false, pos, negsuc, nat_lt, if◌then◌else◌, max, min, List, [], length, take, Option, None, Some, is_some, Result, Ok, Err}
 use Rattle.std.specs.Int.{cast_signed, w32}
 use Rattle.theory.specs.Bytes.{Identity}
 use Rattle.theory.specs.Position.{position_of}
@@ -8,12 +8,14 @@ use Rattle.frames.specs.Datagrams.{IsDatagramFault}
 use Rattle.frames.specs.FaultCounts.{counting, uncounted}
 use Rattle.frames.specs.declared.fault.FrameError.{FrameError}
 use Rattle.frames.specs.Fronts.{FrontSpells}
-use Rattle.endpoint.specs.Calls.{Receives}
+use Rattle.endpoint.specs.Calls.{Fills, Receives}
 use Rattle.endpoint.specs.Devices.{Device, HasGrown, NeverFall, counted, greatest}
 use Rattle.endpoint.specs.declared.datagrams.DeviceFailed.{DeviceFailed}
 use Rattle.peer.specs.Attending.{after_status, nobody}
-use Rattle.peer.specs.Screening.{asked_bytes, is_handed, verdict_of}
+use Rattle.peer.specs.Screening.{asked_bytes, half_term, has_room, is_handed, verdict_of}
 use Rattle.peer.specs.declared.attendance.Attendance.{Attendance}
+use Rattle.peer.specs.declared.attended.Found.{Found}
+use Rattle.peer.specs.declared.attended.Found.TheVariants as found
 use Rattle.peer.specs.declared.screen.Bounds.{Bounds}
 use Rattle.peer.specs.declared.screen.Verdict.{Verdict}
 use Rattle.peer.specs.declared.screen.Verdict.TheVariants.{Passes, Tells, Misses, Disbelieved, Held, LeftBehind, Unanswered}
@@ -34,6 +36,8 @@ pub record Watched : Type 0 where
   pub tally : Tally
   -- how many receives found nothing
   pub nones : ℕ
+  -- how many datagrams it has passed over since one did
+  pub passed : ℕ
   -- the ends of the stream that it was given to tell
   pub ends : Option ToldEnds
   -- how many bytes behind the sender's position a frame can be sent again, where a receiver that lacks more is left behind
@@ -50,8 +54,9 @@ new_watch sent start reach = record {
   attendance = nobody start;
   bounds = record { sent_to = start; asked = None };
   held = None;
-  tally = record { datagrams = 0; resends = 0; statuses = 0; naks = 0; disbelieved = 0; refused = uncounted };
+  tally = record { datagrams = 0; resends = 0; statuses = 0; naks = 0; disbelieved = 0; passed = 0; refused = uncounted };
   nones = 0;
+  passed = 0;
   ends = None;
   reach = reach;
 }
@@ -67,8 +72,9 @@ watching_device inner nones = record { sent = []; received = []; failures = inne
 abbrev pub told : Watched → ℕ → Watched
 told w position = record w { bounds = record { sent_to = position; asked = None } }
 
+-- a receive found nothing
 abbrev pub with_none : Watched → Watched
-with_none w = record w { nones = counted w.nones }
+with_none w = record w { nones = counted w.nones; passed = 0 }
 
 -- one more, modulo 2 ^ 64
 abbrev pub plus_one : ℕ → ℕ
@@ -94,19 +100,23 @@ told_by w receiver position = record w {
   tally = record w.tally { statuses = plus_one w.tally.statuses };
 }
 
+-- a datagram is passed over
+abbrev pub passing : Watched → Watched
+passing w = record w { passed = w.passed + 1; tally = record w.tally { passed = plus_one w.tally.passed } }
+
 -- a status message wasn't believed
 abbrev pub disbelieving : Watched → Watched
-disbelieving w = record (with_none w) { tally = record w.tally { disbelieved = plus_one w.tally.disbelieved } }
+disbelieving w = record w { tally = record w.tally { disbelieved = plus_one w.tally.disbelieved } }
 
--- what isn't handed over was found by nobody
+-- what isn't handed over is passed over
 abbrev pub after_verdict : Watched → Verdict → Watched
 after_verdict w Passes = w
 after_verdict w (Tells receiver position) = told_by w receiver position
 after_verdict w (Misses bytes) = missed w bytes
-after_verdict w Disbelieved = disbelieving w
-after_verdict w Held = with_none w
-after_verdict w (LeftBehind receiver position) = with_none (told_by w receiver position)
-after_verdict w Unanswered = with_none w
+after_verdict w Disbelieved = passing (disbelieving w)
+after_verdict w Held = passing w
+after_verdict w (LeftBehind receiver position) = passing (told_by w receiver position)
+after_verdict w Unanswered = passing w
 
 -- what is held back: it is a negative acknowledgement
 abbrev pub held_of : Wire → Option Nak
@@ -147,13 +157,13 @@ is_left reach sent_to (Some h) = is_behind reach sent_to h.last
 abbrev pub is_left_behind : Watched → Bool
 is_left_behind w = is_left w.reach w.bounds.sent_to w.attendance.present
 
--- of one that is left behind neither status messages nor negative acknowledgements are handed over
+-- of one that is left behind neither status messages nor negative acknowledgements are handed over; one is held back at a time
 abbrev pub screened : Watched → Verdict → Verdict
 screened w Passes = Passes
 screened w (Tells receiver position) = if is_behind w.reach w.bounds.sent_to (told_last w.attendance.present receiver position) then LeftBehind receiver position else Tells receiver position
 screened w (Misses bytes) = if is_left_behind w then Unanswered else Misses bytes
 screened w Disbelieved = Disbelieved
-screened w Held = if is_left_behind w then Unanswered else Held
+screened w Held = if is_left_behind w then Unanswered else (if is_some w.held then Unanswered else Held)
 screened w (LeftBehind receiver position) = LeftBehind receiver position
 screened w Unanswered = Unanswered
 
@@ -173,10 +183,10 @@ behind_by (Some reach) sent_to (Some h) = if nat_lt (h.last + reach) sent_to the
 abbrev pub behind_of : Watched → Option Behind
 behind_of w = behind_by w.reach w.bounds.sent_to w.attendance.present
 
--- a receive that hands something over isn't one that found nothing
-abbrev pub CountsHanded : Bool → ℕ → ℕ → Type 0
-CountsHanded true old new = new ≡ old
-CountsHanded false old new = HasGrown old new
+-- how many were passed over, with one more where it isn't handed over
+abbrev pub passed_after : Bool → ℕ → ℕ
+passed_after true passed = passed
+passed_after false passed = passed + 1
 
 abbrev pub found_of : Bool → ℕ → Option ℕ
 found_of handed n = if handed then Some n else None
@@ -195,20 +205,78 @@ pub record Screens (old : Watched) (bytes : List ℕ) (found : Option ℕ) (new 
   pub frame : (f : Wire) → FrontSpells bytes f (length bytes) → (found ≡ found_of (is_handed (screened_of old f)) (length bytes)) × (new ≡ after_frame old f)
   pub others : ((f : Wire) → FrontSpells bytes f (length bytes) → ⊥) → (found ≡ Some (length bytes)) × CountsRefused old bytes new
 
+-- what was found is handed over
+abbrev pub IsHandedOn : Watched → List ℕ → Option ℕ → Watched → Type 0
+IsHandedOn old bytes None new = ⊥
+IsHandedOn old bytes (Some n) new = Screens old bytes (Some n) new
+
 -- by what the inner device answered
 abbrev pub Judges : {D : Type 0} → Watching D → Result (Option ℕ) DeviceFailed → List ℕ → Result (Option ℕ) DeviceFailed → Watching D → Type 0
 Judges old (Err e) after result new = (result ≡ Err e) × (new ≡ record old { inner = new.inner })
 Judges old (Ok None) after result new = (result ≡ Ok None) × (new ≡ record { inner = new.inner; watch = with_none old.watch })
-Judges old (Ok (Some n)) after (Ok found) new = Screens old.watch (take n after) found new.watch
+Judges old (Ok (Some n)) after (Ok found) new = IsHandedOn old.watch (take n after) found new.watch
 Judges old (Ok (Some n)) after (Err e) new = ⊥
 
--- a receive of the inner device, and what becomes of that
-pub record Screened {D : Type 0} (device : D → Device) (tells : D → Type 0) (old : Watching D) (before : List ℕ) (result : Result (Option ℕ) DeviceFailed) (after : List ℕ) (new : Watching D) : Type 0 where
-  pub answer : Result (Option ℕ) DeviceFailed
-  pub counts : NeverFall (device old.inner) (device new.inner)
-  pub receives : Receives (tells old.inner) (device old.inner) before answer after (device new.inner)
-  pub still_tells : tells old.inner → tells new.inner
-  pub judged : Judges old answer after result new
+module _ {D : Type 0} (device : D → Device) (tells : D → Type 0) where
+  -- a receive of the inner device, and what becomes of that
+  pub record Screened (old : Watching D) (before : List ℕ) (result : Result (Option ℕ) DeviceFailed) (after : List ℕ) (new : Watching D) : Type 0 where
+    pub answer : Result (Option ℕ) DeviceFailed
+    pub counts : NeverFall (device old.inner) (device new.inner)
+    pub receives : Receives (tells old.inner) (device old.inner) before answer after (device new.inner)
+    pub still_tells : tells old.inner → tells new.inner
+    pub judged : Judges old answer after result new
+
+  -- a receive of the inner device found a datagram that isn't handed over, where fewer than 256 were passed over since a receive
+  -- found nothing
+  pub record PassesOne (before : List ℕ) (old new : Watching D) : Type 0 where
+    pub room : old.watch.passed < 256
+    pub size : ℕ
+    pub arrived : List ℕ
+    pub counts : NeverFall (device old.inner) (device new.inner)
+    pub receives : Receives (tells old.inner) (device old.inner) before (Ok (Some size)) arrived (device new.inner)
+    pub still_tells : tells old.inner → tells new.inner
+    pub screens : Screens old.watch (take size arrived) None new.watch
+    pub counted : new.watch.passed ≡ old.watch.passed + 1
+
+  -- so many did, one after the other; each was given the buffer as it was before
+  abbrev pub PassesMany : ℕ → List ℕ → Watching D → Watching D → Type 0
+  PassesMany zero before old new = new ≡ old
+  PassesMany (suc n) before old new = (middle : Watching D) × PassesMany n before old middle × PassesOne before middle new
+
+  -- 256 were passed over, so nothing is found
+  pub record PassedEnough (old : Watching D) (result : Result (Option ℕ) DeviceFailed) (new : Watching D) : Type 0 where
+    pub many : 256 ≤ old.watch.passed
+    pub none : result ≡ Ok None
+    pub is : new ≡ record old { watch = with_none old.watch }
+
+  -- what isn't handed over is passed over; then comes a receive of the inner device that found something else, or so many were
+  -- passed over
+  pub record Finds (old : Watching D) (before : List ℕ) (result : Result (Option ℕ) DeviceFailed) (after : List ℕ) (new : Watching D) : Type 0 where
+    pub count : ℕ
+    pub middle : Watching D
+    pub passes : PassesMany count before old middle
+    pub ends : Screened middle before result after new ⊎ PassedEnough middle result new
+
+  -- a look at the inner device: it hands over, passes over, leaving the buffer as it was, or finds nothing
+  abbrev pub LooksInto : Watching D → List ℕ → Result Found DeviceFailed → List ℕ → Watching D → Type 0
+  LooksInto old before (Ok (found.Handed n)) after new = Screened old before (Ok (Some n)) after new
+  LooksInto old before (Ok found.Passed) after new = PassesOne before old new × (after ≡ before)
+  LooksInto old before (Ok found.Nothing) after new = Screened old before (Ok None) after new
+  LooksInto old before (Err e) after new = Screened old before (Err e) after new
+
+-- only one that finds nothing counts as such
+abbrev pub CountsLook : Result Found DeviceFailed → ℕ → ℕ → Type 0
+CountsLook (Ok (found.Handed n)) old new = new ≡ old
+CountsLook (Ok found.Passed) old new = new ≡ old
+CountsLook (Ok found.Nothing) old new = HasGrown old new
+CountsLook (Err e) old new = new ≡ old
+
+-- what is handed over fits the buffer, whose bytes behind it stay
+abbrev pub FillsLook : Result Found DeviceFailed → List ℕ → List ℕ → Type 0
+FillsLook (Ok (found.Handed n)) before after = Fills n before after
+FillsLook (Ok found.Passed) before after = after ≡ before
+FillsLook (Ok found.Nothing) before after = ⊤
+FillsLook (Err e) before after = ⊤
 
 -- one that was held back is handed over as it came, as far as it has room
 abbrev pub released : Watched → Nak → Watched
@@ -219,9 +287,17 @@ pub record Releases {D : Type 0} (old : Watching D) (m : Nak) (before : List ℕ
   pub front : take (min 28 (length before)) after ≡ take (min 28 (length before)) (spelling (NAK m))
   pub is : new ≡ record old { watch = released old.watch m }
 
--- what is held back goes first
+-- one that is held back is due where those of the cycle leave room for it; so it is in a later cycle
+abbrev pub due_in : Identity → Bounds → Option Nak → Option Nak
+due_in s b None = None
+due_in s b (Some m) = if has_room b.asked (asked_bytes m.length) (half_term s) then Some m else None
+
+abbrev pub due_of : Watched → Option Nak
+due_of w = due_in w.sent w.bounds w.held
+
+-- what is due goes first
 abbrev pub Takes : {D : Type 0} → (D → Device) → (D → Type 0) → Option Nak → Watching D → List ℕ → Result (Option ℕ) DeviceFailed → List ℕ → Watching D → Type 0
-Takes device tells None old before result after new = Screened device tells old before result after new
+Takes device tells None old before result after new = Finds device tells old before result after new
 Takes device tells (Some m) old before result after new = Releases old m before result after new
 
 -- ---- what is sent

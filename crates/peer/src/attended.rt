@@ -1,11 +1,11 @@
 //! A publisher's end.
 
-ghost use Rattle.std.specs.Prelude.{◌≡◌, Some, min, length, take, drop};
-ghost use Rattle.endpoint.specs.Calls.{Receives, Sends};
+ghost use Rattle.std.specs.Prelude.{◌≡◌, ◌≤◌, ◌<◌, Some, min, length, take, drop};
+ghost use Rattle.endpoint.specs.Calls.{CountsFailure, Receives, Sends};
 ghost use Rattle.endpoint.specs.Devices.{NeverFall};
 ghost use Rattle.theory.specs.Wire.{NAK, spelling};
 ghost use Rattle.frames.specs.Frames.{nak_of};
-ghost use Rattle.peer.specs.Watching.{Gives, Takes, behind_of, plus_one, told, watching, watching_device, with_told};
+ghost use Rattle.peer.specs.Watching.{CountsLook, FillsLook, Finds, Gives, LooksInto, Takes, behind_of, due_of, plus_one, told, watching, watching_device, with_told};
 ghost use Rattle.peer.specs.Farewells.{end_of};
 
 use crate::attendance::Attendance;
@@ -19,10 +19,28 @@ use std::marker::Model;
 /// The bytes of a negative acknowledgement.
 const NAK_BYTES: usize = 28;
 
+/// How many bytes a datagram has at the most that is passed over.
+const FRONT_BYTES: usize = 40;
+
+/// How many datagrams are passed over at the most, before a receive finds nothing.
+const MOST_PASSED: u64 = 256;
+
+/// What a look at the inner device has found.
+#[derive(Clone, Copy, Debug, PartialEq, Eq)]
+pub(crate) enum Found {
+    /// A datagram of so many bytes, which is handed over.
+    Handed(usize),
+    /// One that is passed over.
+    Passed,
+    /// None has come.
+    Nothing,
+}
+
 /// A device that screens what comes of a stream, notes which receivers it hears, and counts what it sends.
 ///
-/// What a screen doesn't hand over is a receive that found nothing (`Verdict`). A negative acknowledgement that is held
-/// back is the first datagram that the next receive hands over. What it carried isn't told.
+/// What a screen doesn't hand over is passed over (`Verdict`). A receive finds nothing where nothing has come, or 256 datagrams
+/// were passed over since one did. A negative acknowledgement that is held back is handed over by the first receive of the next
+/// cycle. What it carried isn't told.
 #[derive(Drop)]
 pub struct Attended<D> {
     inner: D,
@@ -48,6 +66,26 @@ fn put_nak(nak: Nak, buffer: &mut [u8]) -> usize
     let length = NAK_BYTES.min(buffer.len());
     buffer[..length].copy_from_slice(&bytes[..length]);
     length
+}
+
+/// The first bytes of a buffer, as many as there are up to 40.
+fn front_of(buffer: &[u8]) -> [u8; FRONT_BYTES]
+    ensures { take (min 40 (length buffer.now)) result ≡ take (min 40 (length buffer.now)) buffer.now }
+{
+    let mut bytes = [0; FRONT_BYTES];
+    let length = FRONT_BYTES.min(buffer.len());
+    bytes[..length].copy_from_slice(&buffer[..length]);
+    bytes
+}
+
+/// Puts so many first bytes of a buffer back.
+fn put_back(buffer: &mut [u8], front: &[u8; FRONT_BYTES], size: usize)
+    requires short { size ≤ 40 }
+    requires within { size ≤ length buffer.old }
+    ensures front { take size buffer.new ≡ take size front.now }
+    ensures rest { drop size buffer.new ≡ drop size buffer.old }
+{
+    buffer[..size].copy_from_slice(&front[..size]);
 }
 
 impl<D> Attended<D> {
@@ -121,6 +159,46 @@ impl<D: Datagrams> Attended<D> {
     }
 }
 
+impl<D: Datagrams> Attended<D> {
+    /// Looks for a datagram. Where one is passed over, the buffer stays as it was.
+    fn look(&mut self, buffer: &mut [u8]) -> Result<Found, DeviceFailed>
+        requires room { self.old.watch.passed < 256 }
+        ensures looks { LooksInto D.device D.tells self.old buffer.old result buffer.new self.new }
+        ensures counts { NeverFall (watching_device (D.device self.old.inner) self.old.watch.nones) (watching_device (D.device self.new.inner) self.new.watch.nones) }
+        ensures failures { CountsFailure result (D.device self.old.inner).failures (D.device self.new.inner).failures }
+        ensures nones { CountsLook result self.old.watch.nones self.new.watch.nones }
+        ensures filled { FillsLook result buffer.old buffer.new }
+    {
+        let front = front_of(buffer);
+        let Some(size) = self.inner.recv(buffer)? else {
+            self.watch.find_none();
+            return Ok(Found::Nothing);
+        };
+        let Some(handed) = self.watch.screen(&buffer[..size]) else {
+            put_back(buffer, &front, size);
+            return Ok(Found::Passed);
+        };
+        Ok(Found::Handed(handed))
+    }
+
+    /// Looks until a datagram is found that is handed over, nothing has come, or 256 were passed over.
+    fn find(&mut self, buffer: &mut [u8]) -> Result<Option<usize>, DeviceFailed>
+        ensures counts { NeverFall (watching_device (D.device self.old.inner) self.old.watch.nones) (watching_device (D.device self.new.inner) self.new.watch.nones) }
+        ensures receives { Receives ⊥ (watching_device (D.device self.old.inner) self.old.watch.nones) buffer.old result buffer.new (watching_device (D.device self.new.inner) self.new.watch.nones) }
+        ensures finds { Finds D.device D.tells self.old buffer.old result buffer.new self.new }
+    {
+        for _ in self.watch.passed()..MOST_PASSED {
+            match self.look(buffer)? {
+                Found::Handed(size) => return Ok(Some(size)),
+                Found::Passed => {}
+                Found::Nothing => return Ok(None),
+            }
+        }
+        self.watch.find_none();
+        Ok(None)
+    }
+}
+
 impl<D: Datagrams> Datagrams for Attended<D> {
     ghost device = { λ a. watching_device (D.device a.inner) a.watch.nones };
 
@@ -140,21 +218,17 @@ impl<D: Datagrams> Datagrams for Attended<D> {
         self.inner.send(datagram)
     }
 
-    /// Hands over what was held back, or what the inner device does, unless the screen keeps that.
+    /// Hands over what was held back, where it is due, or what the inner device does and the screen doesn't pass over.
     fn recv(&mut self, buffer: &mut [u8]) -> Result<Option<usize>, DeviceFailed>
         ensures counts { NeverFall (watching_device (D.device self.old.inner) self.old.watch.nones) (watching_device (D.device self.new.inner) self.new.watch.nones) }
         ensures receives { Receives ⊥ (watching_device (D.device self.old.inner) self.old.watch.nones) buffer.old result buffer.new (watching_device (D.device self.new.inner) self.new.watch.nones) }
-        ensures takes { Takes D.device D.tells self.old.watch.held self.old buffer.old result buffer.new self.new }
+        ensures takes { Takes D.device D.tells (due_of self.old.watch) self.old buffer.old result buffer.new self.new }
     {
-        if let Some(nak) = self.watch.held() {
+        if let Some(nak) = self.watch.due() {
             self.watch.release(&nak);
             return Ok(Some(put_nak(nak, buffer)));
         }
-        let Some(length) = self.inner.recv(buffer)? else {
-            self.watch.find_none();
-            return Ok(None);
-        };
-        Ok(self.watch.screen(&buffer[..length]))
+        self.find(buffer)
     }
 
     fn failures(&self) -> u64 {

@@ -12,8 +12,10 @@ pub enum BindError {
     Taken,
     /// This machine doesn't have the address.
     NotHere,
-    /// The system refused the socket, or memory was refused.
-    Failed(DeviceError),
+    /// The system refused the socket for another reason; with the system's number, where it gave one.
+    Refused(Option<i32>),
+    /// Memory was refused.
+    Memory,
 }
 
 impl fmt::Display for BindError {
@@ -32,7 +34,8 @@ impl BindError {
         match self {
             BindError::Taken => "the port is in use",
             BindError::NotHere => "this machine doesn't have the address",
-            BindError::Failed(error) => error.text(),
+            BindError::Refused(_) => DeviceError::Device.text(),
+            BindError::Memory => DeviceError::Memory.text(),
         }
     }
 }

@@ -1,19 +1,26 @@
-//! The two ends of a channel, over UDP: a subscriber's socket, which hears anybody (`Listener`), and its device, tied to one
-//! peer (`TiedDevice`); and a publisher's, which screens what comes, notes which receivers it hears and when it ends by that.
+//! The two ends of a channel, over UDP: a socket that hears anybody (`Listener`), and a device over it that is tied to one peer
+//! (`TiedDevice`), which both ends have; and what a publisher has round that, which screens what comes, notes which receivers it
+//! hears and when it ends by that.
 //!
-//! A tied device meets the trait of devices: it fails only where it counts that; what it hands over came from its
-//! peer and is counted as heard, and a receive that met another's datagram counts that and is one that found nothing
-//! (`TiedDevice`). A device round another that never fails takes a failed call for a lost datagram, and counts exactly
-//! those (`PatientDevice`). The farewell of a stream, a SETUP that no sender writes, tells the position where that
-//! stream ends, and no other (`end_told`, `farewells_tell_ends`).
+//! A tied device meets the trait of devices: it fails only where it counts that. What it hands over came from its peer and is
+//! counted as heard; what others sent is passed over and counted, and the last SETUP of that is kept. A receive finds nothing
+//! only where nothing has come or 256 datagrams were passed over since one found nothing, so a cycle passes over no more
+//! (`TiedDevice`, by `HandsOver`; `passing_is_bounded`). A publisher's waits for its stream's start: until a status message tells
+//! that, any address of its peer's port is heard, and who tells it is its peer from then on (`TiedDevice::along`, by `Settles`).
+//! What it sends is given to its socket for the one that it was made for, or tied to. A device round
+//! another that never fails takes a failed call for a lost datagram, and counts exactly those (`PatientDevice`). The farewell of
+//! a stream, a SETUP that no sender writes, tells the position where that stream ends, and no other (`end_told`,
+//! `farewells_tell_ends`).
 //!
 //! What becomes of a frame that comes to a publisher is exact (`judge`): a status message of its stream that tells more
 //! than was sent, or a greater window than a receiver can have, isn't believed; of the negative acknowledgements of a
 //! cycle those are held back that would ask for more than a window together; all else is handed over. A publisher's
 //! device meets the trait round any other, and does by each datagram that is one frame exactly what that verdict says,
 //! and by others nothing; where there are several receivers, of one that is left behind, since what it lacks can't be sent again,
-//! neither status messages nor negative acknowledgements are handed over (`screened`); what it held back goes first in the next receive; each datagram that it sends is counted,
-//! and the ends that it tells are noted (`Attended`, by `Takes` and `Gives`).
+//! neither status messages nor negative acknowledgements are handed over (`screened`). What isn't handed over is passed over and
+//! counted, 256 at the most before a receive finds nothing, and the buffer stays; one negative acknowledgement at a time is held
+//! back, and goes first in the next cycle. Each datagram that it sends is counted, and the ends that it tells are noted
+//! (`Attended`, by `Takes` and `Gives`).
 //!
 //! What each status message makes of the receivers that were heard, and when and how a publisher ends by that, is
 //! exact (`Attendance::hear`, `Attendance::ending`). It ends whole exactly where its input has ended, and nothing was to
@@ -35,6 +42,7 @@ mod listener;
 mod numbering;
 mod patient;
 mod screen;
+mod setups;
 mod silence;
 mod status_socket;
 mod tied;
@@ -49,7 +57,8 @@ pub use listener::Listener;
 pub use numbering::number_status;
 pub use patient::PatientDevice;
 pub use screen::{Bounds, Verdict, judge};
+pub use setups::setup_in;
 pub use silence::Silence;
 pub use status_socket::{STATUS_BYTES, StatusSocket};
-pub use tied::TiedDevice;
+pub use tied::{Awaited, TiedDevice, passing_is_bounded};
 pub use watch::{Behind, Tally, ToldEnds};

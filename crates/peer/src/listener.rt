@@ -1,15 +1,15 @@
 //! A subscriber's socket.
 
 ghost use Rattle.std.specs.Prelude.{◌≡◌, ◌≢◌, ◌⊎◌, None, Ok, IfErr, IfOk, IfSome, IsErr, IsOk, OnErr, OnOk, option_map};
-ghost use Rattle.std.specs.IoError.{error_kind};
+ghost use Rattle.std.specs.IoError.{error_kind, raw_os_error};
 ghost use Rattle.theory.specs.Wire.{SM, spelling};
 ghost use Rattle.frames.specs.Frames.{status_of};
 ghost use Rattle.peer.specs.StatusSockets.{unused};
-ghost use Rattle.peer.specs.Ties.{asking, hearing_anybody, with_came};
+ghost use Rattle.peer.specs.Ties.{asking, giving, hearing_anybody, with_came};
 
 use crate::fault::BindError;
 use crate::status_socket::{STATUS_BYTES, StatusSocket};
-use endpoint::{Binding, DeviceError, DeviceFailed, GREATEST_DATAGRAM, is_loss};
+use endpoint::{Binding, DeviceFailed, GREATEST_DATAGRAM, OpenError, Route, is_loss};
 use frames::{Frame, Status, write_frame};
 use std::alloc::Global;
 use std::io;
@@ -31,8 +31,9 @@ struct Asked {
     status: Status,
 }
 
-/// A socket that hears anybody, and asks for SETUPs. It is bound once and never connected, so that the port is this process's
-/// until it ends. No call waits. It keeps the datagram that came last, and the last message that it was given to ask with.
+/// A socket that hears anybody, and asks for SETUPs. A subscriber's is bound once and never connected, so that the port is this
+/// process's until it ends. No call waits. It keeps the datagram that came last, the last message that it was given to ask with, and for whom the last datagram was
+/// that it was given.
 #[derive(Drop)]
 pub struct Listener {
     socket: UdpSocket,
@@ -40,6 +41,8 @@ pub struct Listener {
     last: Option<Arrival>,
     asks: u64,
     asked: Option<Asked>,
+    given: Option<SocketAddr>,
+    connected: Option<SocketAddr>,
 }
 
 impl Model for Listener {
@@ -51,7 +54,7 @@ impl Model for Listener {
 
     ghost Value = { Listening };
 
-    ghost view = { λ l. record { came = option_map (λ a. record { from = a.from; bytes = take a.length l.arrived.items }) l.last; asks = l.asks; asked = option_map (λ a. record { to = a.to; frame = SM 128 (status_of a.status) }) l.asked } };
+    ghost view = { λ l. record { came = option_map (λ a. record { from = a.from; bytes = take a.length l.arrived.items }) l.last; asks = l.asks; asked = option_map (λ a. record { to = a.to; frame = SM 128 (status_of a.status) }) l.asked; given = l.given } };
 
     ghost invariant = { λ l. ForSome l.last (λ a. a.length ≤ vec_len l.arrived) };
 }
@@ -60,13 +63,19 @@ impl Model for Listener {
 fn fault_of(error: &io::Error) -> BindError
     ensures taken { error_kind error.now ≡ ErrorKind.AddrInUse → result ≡ BindError.Taken }
     ensures not_here { error_kind error.now ≡ ErrorKind.AddrNotAvailable → result ≡ BindError.NotHere }
-    ensures others { error_kind error.now ≢ ErrorKind.AddrInUse → error_kind error.now ≢ ErrorKind.AddrNotAvailable → result ≡ BindError.Failed DeviceError.Device }
+    ensures others { error_kind error.now ≢ ErrorKind.AddrInUse → error_kind error.now ≢ ErrorKind.AddrNotAvailable → result ≡ BindError.Refused (raw_os_error error.now) }
 {
     match error.kind() {
         ErrorKind::AddrInUse => BindError::Taken,
         ErrorKind::AddrNotAvailable => BindError::NotHere,
-        _ => BindError::Failed(DeviceError::Device),
+        _ => BindError::Refused(error.raw_os_error()),
     }
+}
+
+/// Whether the system gives a socket along a route; the error is the system's. It is closed again.
+fn lead<R: Net>(rt: &R, route: &Route) -> io::Result<()> {
+    let socket = route.binding.open(rt)?;
+    socket.connect(route.peer)
 }
 
 /// The datagram that asks for a SETUP with a status message.
@@ -109,9 +118,7 @@ impl Listener {
     pub fn bind<R: Net>(rt: &R, alloc: Global, binding: &Binding) -> Result<Listener, BindError>
         ensures { IfOk result (λ l. l ≡ hearing_anybody) }
     {
-        let arrived = vec![in alloc; 0; GREATEST_DATAGRAM].map_err(|_| BindError::Failed(
-            DeviceError::Memory,
-        ))?;
+        let arrived = vec![in alloc; 0; GREATEST_DATAGRAM].map_err(|_| BindError::Memory)?;
         let socket = binding.open(rt).map_err(|error| fault_of(&error))?;
         Ok(Listener {
             socket,
@@ -119,17 +126,33 @@ impl Listener {
             last: None,
             asks: 0,
             asked: None,
+            given: None,
+            connected: None,
         })
     }
 
-    /// A second handle of the socket, to which no status message was given yet. The error comes where the system refuses it.
-    pub fn status_socket(&self) -> Result<StatusSocket, DeviceFailed>
+    /// A socket that is bound as the route says, to which nothing has come yet. The error says, too, where the system gives none
+    /// that leads to the route's peer.
+    pub(crate) fn along<R: Net>(rt: &R, alloc: Global, route: &Route) -> Result<Listener, OpenError>
+        ensures { IfOk result (λ l. l ≡ hearing_anybody) }
+    {
+        if let Err(error) = lead(rt, route) {
+            return Err(OpenError::Refused(error.raw_os_error()));
+        }
+        match Listener::bind(rt, alloc, &route.binding) {
+            Ok(listener) => Ok(listener),
+            Err(BindError::Refused(number)) => Err(OpenError::Refused(number)),
+            Err(BindError::Taken | BindError::NotHere) => Err(OpenError::Refused(None)),
+            Err(BindError::Memory) => Err(OpenError::Memory),
+        }
+    }
+
+    /// A second handle of the socket, to which no status message was given yet. The error is the system's, where it refuses it.
+    pub fn status_socket(&self) -> io::Result<StatusSocket>
         ensures { IfOk result (λ s. s ≡ unused) }
     {
-        match self.socket.try_clone() {
-            Ok(socket) => Ok(StatusSocket::new(socket)),
-            Err(_) => Err(DeviceFailed),
-        }
+        let socket = self.socket.try_clone()?;
+        Ok(StatusSocket::new(socket))
     }
 
     /// Takes a datagram, if one has come. The error comes where the system refuses the call; then none has.
@@ -163,7 +186,22 @@ impl Listener {
     }
 
     /// Hands a datagram for somebody to the system. One that isn't ready loses it; the error comes where it refuses the call.
-    pub(crate) fn send(&self, to: SocketAddr, datagram: &[u8]) -> Result<(), DeviceFailed> {
+    pub(crate) fn send(&mut self, to: SocketAddr, datagram: &[u8]) -> Result<(), DeviceFailed>
+        ensures { self.new ≡ giving self.old to }
+    {
+        self.given = Some(to);
+        if self.connected == Some(to) {
+            return sent_by(self.socket.send(datagram));
+        }
         sent_by(self.socket.send_to(datagram, to))
+    }
+
+    /// Lets the system throw away what others than this one send, if it does, and send to it at less cost.
+    pub(crate) fn connect(&mut self, peer: SocketAddr)
+        ensures { self.new ≡ self.old }
+    {
+        if self.socket.connect(peer).is_ok() {
+            self.connected = Some(peer);
+        }
     }
 }

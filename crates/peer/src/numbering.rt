@@ -37,7 +37,7 @@ fn status_of(frame: &Frame<'_>) -> Option<(bool, Status)>
 }
 
 /// The status message that a datagram is, if it is one, and whether it asks for a SETUP.
-fn status_in(datagram: &[u8]) -> Option<(bool, Status)>
+pub(crate) fn status_in(datagram: &[u8]) -> Option<(bool, Status)>
     ensures found { IfSome result (λ s. Spells (SM (asks_of s.0) (status_of s.1)) datagram.now) }
     ensures only { (flags : ℕ) (m : Told) → Spells (SM flags m) datagram.now → IsSomeAnd result (λ s. (asks_of s.0 ≡ flags) × (status_of s.1 ≡ m)) }
 {

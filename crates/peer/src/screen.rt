@@ -33,7 +33,8 @@ pub enum Verdict {
     Held,
     /// A status message of a receiver that is left behind: this receiver has told this position, and it isn't handed over.
     LeftBehind { receiver: i64, position: u64 },
-    /// A negative acknowledgement of a receiver that is left behind: it isn't handed over.
+    /// A negative acknowledgement of a receiver that is left behind, or one that would be held back where another is: it isn't
+    /// handed over.
     Unanswered,
 }
 
@@ -61,7 +62,7 @@ fn half_term(sent: &Identity) -> u64
 }
 
 /// Whether these ids are the stream's.
-fn is_own(sent: &Identity, session: i32, stream: i32) -> bool
+pub(crate) fn is_own(sent: &Identity, session: i32, stream: i32) -> bool
     ensures { result ≡ is_own sent.now session stream }
 {
     session == sent.session() && stream == sent.stream()
@@ -89,7 +90,7 @@ fn told_at(receiver: i64, position: i64) -> Verdict
 }
 
 /// The position that a status message tells.
-fn told_position(sent: &Identity, status: &Status) -> i64
+pub(crate) fn told_position(sent: &Identity, status: &Status) -> i64
     ensures { result ≡ told_position sent.now (status_of status.now) }
 {
     sent.geometry().position(status.term_id, status.term_offset)
@@ -146,12 +147,18 @@ fn has_room(asked: Option<u64>, bytes: u64, most: u64) -> bool
     }
 }
 
+/// Whether a negative acknowledgement that was held back may be handed over in this cycle.
+pub(crate) fn has_room_for(sent: &Identity, asked: Option<u64>, nak: &Nak) -> bool
+    ensures { result ≡ has_room asked (asked_bytes (nak_of nak.now).length) (half_term sent.now) }
+{
+    has_room(asked, asked_bytes(nak.length), half_term(sent))
+}
+
 fn nak_verdict(sent: &Identity, bounds: &Bounds, nak: &Nak) -> Verdict
     ensures { result ≡ nak_verdict sent.now bounds.now (nak_of nak.now) }
 {
-    let bytes = asked_bytes(nak.length);
-    if has_room(bounds.asked, bytes, half_term(sent)) {
-        Verdict::Misses(bytes)
+    if has_room_for(sent, bounds.asked, nak) {
+        Verdict::Misses(asked_bytes(nak.length))
     } else {
         Verdict::Held
     }

@@ -1,44 +1,61 @@
 //! A subscriber's end that is tied to one peer.
 
-ghost use Rattle.std.specs.Prelude.{◌≡◌, ◌↔◌, IsTrue, OnErr, OnOk, if◌then◌else◌, option_map};
-ghost use Rattle.endpoint.specs.Calls.{Receives, Sends};
+ghost use Rattle.std.specs.Prelude.{◌≡◌, ◌≢◌, ◌↔◌, ◌<◌, IfOk, IsTrue, None, Some, OnErr, OnOk};
+ghost use Rattle.endpoint.specs.Calls.{CountsFailure, Fills, Receives, Sends};
+ghost use Rattle.frames.specs.Frames.{asks_of, status_of};
 ghost use Rattle.endpoint.specs.Devices.{HasGrown, NeverFall};
-ghost use Rattle.peer.specs.Ties.{HandsOver, tie_heard, tie_passed, tied_to, with_fault, with_nothing};
+ghost use Rattle.theory.specs.Wire.{SM};
+ghost use Rattle.peer.specs.Ties.{HandsCame, HandsOver, Hears, IsAwaited, Looks, PassingIsBounded, Seeks, SettlesCame, TellsStart, asking, hearing_anybody, is_at, is_of_start, is_start, keeping, offer_given, sending, sent_by, tied_to, tied_waiting, with_fault, with_nothing, with_peer, with_stranger};
 
 use crate::listener::Listener;
-use endpoint::{Datagrams, DeviceFailed};
+use crate::numbering::status_in;
+use crate::screen::{is_own, told_position};
+use crate::setups::setup_in;
+use endpoint::{Datagrams, DeviceFailed, OpenError, Route};
+use frames::{Setup, Status};
+use position::Identity;
+use std::alloc::Global;
 use std::marker::Model;
-use std::net::SocketAddr;
+use std::net::{Net, SocketAddr};
 
-/// The one peer, how many datagrams of it came, and how many of others.
+/// How many datagrams of strangers are passed over at the most, before a receive finds nothing.
+const MOST_PASSED: u64 = 256;
+
+/// What a look at the socket has found.
 #[derive(Clone, Copy, Debug, PartialEq, Eq)]
-struct Tie {
-    peer: SocketAddr,
-    heard: u64,
-    strangers: u64,
+enum Look {
+    /// A datagram of one that is heard.
+    Peers,
+    /// One of another, which is passed over.
+    Strangers,
+    /// None has come.
+    Nothing,
 }
 
-impl Tie {
-    /// Counts a datagram that came from somebody. Whether that is the peer.
-    fn count(&mut self, from: SocketAddr) -> bool
-        ensures peer { IsTrue result ↔ (from ≡ self.old.peer) }
-        ensures counted { self.new ≡ (if result then tie_heard self.old else tie_passed self.old) }
-    {
-        if from == self.peer {
-            self.heard = self.heard.saturating_add(1);
-            return true;
-        }
-        self.strangers = self.strangers.saturating_add(1);
-        false
-    }
+/// A stream, and where it begins, in bytes of it.
+#[derive(Clone, Copy)]
+pub struct Awaited {
+    pub sent: Identity,
+    pub start: u64,
 }
 
-/// A device with one peer, over a subscriber's socket. What others send it throws away and counts. A call that finds the
-/// system not ready hasn't failed: what was to be sent is lost, and nothing has come.
+/// A device with one peer, over a socket that hears anybody. One that waits for a stream's start hears any address of its peer's
+/// port, until a status message of the stream has told that: who has told it is its peer from then on. It goes on sending to whom
+/// it did: a host may answer from another of its addresses than it was called at. What others send it passes over and counts, and keeps of that the first
+/// SETUP until it is taken, and the last one behind it. A receive finds nothing where nothing has come, or 256 datagrams of others were passed over since one did; so
+/// what ends there has passed over no more. A call that finds the system not ready hasn't failed: what was to be sent is
+/// lost, and nothing has come.
 #[derive(Drop)]
 pub struct TiedDevice {
     listener: Listener,
-    tie: Tie,
+    peer: SocketAddr,
+    to: SocketAddr,
+    awaited: Option<Awaited>,
+    heard: u64,
+    strangers: u64,
+    passed: u64,
+    offer: Option<(SocketAddr, Setup)>,
+    later: Option<(SocketAddr, Setup)>,
     failures: u64,
     nones: u64,
 }
@@ -49,59 +66,158 @@ impl Model for TiedDevice {
 
     ghost Value = { Tied };
 
-    ghost view = { λ t. record { device = record { sent = []; received = []; failures = t.failures; nones = t.nones }; peer = t.tie.peer; heard = t.tie.heard; strangers = t.tie.strangers; socket = t.listener } };
+    ghost view = { λ t. record { device = record { sent = []; received = []; failures = t.failures; nones = t.nones }; peer = t.peer; to = t.to; awaited = t.awaited; heard = t.heard; strangers = t.strangers; passed = t.passed; offer = t.offer; later = t.later; socket = t.listener } };
 }
+
+/// Whether a position is this one.
+#[tactic(auto, using(crate::proofs::Passing::stands_at, crate::proofs::Passing::stands_below))]
+fn is_at(position: i64, start: u64) -> bool
+    ensures { result ≡ is_at position start }
+{
+    match u64::try_from(position) {
+        Ok(position) => position == start,
+        Err(_) => false,
+    }
+}
+
+/// Whether a status message is of the stream, and of its start.
+fn is_of_start(awaited: &Awaited, status: &Status) -> bool
+    ensures { result ≡ is_of_start awaited.now (status_of status.now) }
+{
+    is_own(&awaited.sent, status.session, status.stream)
+        && is_at(told_position(&awaited.sent, status), awaited.start)
+}
+
+/// Whether a status message tells the stream's start.
+fn is_start(awaited: &Awaited, asks: bool, status: &Status) -> bool
+    ensures { result ≡ is_start awaited.now (asks_of asks) (status_of status.now) }
+{
+    !asks && is_of_start(awaited, status)
+}
+
+/// Whether a datagram is a status message of the stream that tells its start.
+fn tells_start(awaited: &Awaited, datagram: &[u8]) -> bool
+    ensures { IsTrue result ↔ TellsStart awaited.now datagram.now }
+{
+    match status_in(datagram) {
+        None => false,
+        Some((asks, status)) => is_start(awaited, asks, &status),
+    }
+}
+
+/// A law: what is passed over is counted, and is 256 datagrams at the most before a receive finds nothing.
+pub fn passing_is_bounded()
+    ensures { PassingIsBounded }
+{}
 
 impl TiedDevice {
     /// A device over this socket whose peer this is.
     pub fn new(listener: Listener, peer: SocketAddr) -> TiedDevice
         ensures { result ≡ tied_to listener peer }
     {
+        TiedDevice::waiting(listener, peer, None)
+    }
+
+    /// The same, which waits for a start, or for none.
+    fn waiting(listener: Listener, peer: SocketAddr, awaited: Option<Awaited>) -> TiedDevice
+        ensures { result ≡ tied_waiting listener peer awaited }
+    {
         TiedDevice {
             listener,
-            tie: Tie {
-                peer,
-                heard: 0,
-                strangers: 0,
-            },
+            peer,
+            to: peer,
+            awaited,
+            heard: 0,
+            strangers: 0,
+            passed: 0,
+            offer: None,
+            later: None,
             failures: 0,
             nones: 0,
         }
     }
 
+    /// A device along a route that waits for this start. `Refused`: the system refuses a socket along it; `Memory`: there is none
+    /// for what comes.
+    pub fn along<R: Net>(
+        rt: &R,
+        alloc: Global,
+        route: &Route,
+        awaited: Awaited,
+    ) -> Result<TiedDevice, OpenError>
+        ensures { IfOk result (λ t. t ≡ tied_waiting hearing_anybody route.now.peer (Some awaited)) }
+    {
+        let listener = Listener::along(rt, alloc, route)?;
+        Ok(TiedDevice::waiting(listener, route.peer, Some(awaited)))
+    }
+
     /// Makes this its peer from now on.
     pub fn tie(&mut self, peer: SocketAddr)
-        ensures { self.new ≡ record self.old { peer = peer } }
+        ensures { self.new ≡ with_peer self.old peer }
     {
-        self.tie.peer = peer;
+        self.peer = peer;
+        self.to = peer;
     }
 
     /// Its peer.
     pub fn peer(&self) -> SocketAddr
         ensures { result ≡ self.now.peer }
     {
-        self.tie.peer
+        self.peer
     }
 
-    /// The datagram that came at the last receive, and who sent it, the peer or another.
-    pub fn last(&self) -> Option<(SocketAddr, &[u8])>
-        ensures { option_map (λ r. record { from = r.0; bytes = r.1.now }) result ≡ self.now.socket.came }
+    /// Asks its peer for a SETUP, with this status message. Whether it gets there nobody says.
+    pub fn ask(&mut self, status: Status)
+        ensures { self.new ≡ record self.old { socket = asking self.old.socket self.old.peer (SM 128 (status_of status)) } }
     {
-        self.listener.last()
+        self.listener.ask(self.peer, status);
+    }
+
+    /// Takes the first SETUP of those that it keeps, and who sent it.
+    pub fn take_offer(&mut self) -> Option<(SocketAddr, Setup)>
+        ensures taken { result ≡ self.old.offer }
+        ensures left { self.new ≡ offer_given self.old }
+    {
+        let first = self.offer;
+        self.offer = self.later;
+        self.later = None;
+        first
+    }
+
+    /// Keeps a SETUP.
+    fn keep(&mut self, from: SocketAddr, setup: Setup)
+        ensures { self.new ≡ keeping (Some (from, setup)) self.old }
+    {
+        match self.offer {
+            None => self.offer = Some((from, setup)),
+            Some(_) => self.later = Some((from, setup)),
+        }
+    }
+
+    /// Counts a datagram of another, which is passed over, and keeps the SETUP that it is.
+    fn pass(&mut self, from: SocketAddr, found: Option<Setup>)
+        requires { self.old.passed < 256 }
+        ensures { self.new ≡ keeping (sent_by from found) (with_stranger self.old) }
+    {
+        self.strangers = self.strangers.saturating_add(1);
+        self.passed += 1;
+        if let Some(setup) = found {
+            self.keep(from, setup);
+        }
     }
 
     /// How many datagrams of the peer it has handed over. At the greatest `u64` it stays.
     pub fn heard(&self) -> u64
         ensures { result ≡ self.now.heard }
     {
-        self.tie.heard
+        self.heard
     }
 
-    /// How many datagrams of others it has thrown away. At the greatest `u64` it stays.
+    /// How many datagrams of others it has passed over. At the greatest `u64` it stays.
     pub fn strangers(&self) -> u64
         ensures { result ≡ self.now.strangers }
     {
-        self.tie.strangers
+        self.strangers
     }
 
     /// Counts a failure.
@@ -135,6 +251,103 @@ impl TiedDevice {
         ensures not_fallen { NeverFall self.old.device self.new.device }
     {
         self.nones = self.nones.saturating_add(1);
+        self.passed = 0;
+    }
+
+    /// Whether a start is waited for, and this is another address of the peer's port.
+    fn is_awaited(&self, from: SocketAddr) -> bool
+        ensures { IsTrue result ↔ IsAwaited self.now.awaited self.now.peer from }
+    {
+        match self.awaited {
+            None => false,
+            Some(_) => from.port() == self.peer.port(),
+        }
+    }
+
+    fn is_peer(&self, from: SocketAddr) -> bool
+        ensures { IsTrue result ↔ (from ≡ self.now.peer) }
+    {
+        from == self.peer
+    }
+
+    /// Whether this one is heard.
+    fn hears(&self, from: SocketAddr) -> bool
+        ensures { IsTrue result ↔ Hears self.now from }
+    {
+        self.is_peer(from) || self.is_awaited(from)
+    }
+
+    /// Takes a datagram, if one has come, and passes it over where its sender isn't heard.
+    fn look(&mut self) -> Result<Look, DeviceFailed>
+        requires room { self.old.passed < 256 }
+        ensures looks { Looks self.old result self.new }
+        ensures failures { CountsFailure result self.old.device.failures self.new.device.failures }
+    {
+        let heard = self.listener.hear();
+        self.note(heard)?;
+        let Some((from, datagram)) = self.listener.last() else {
+            return Ok(Look::Nothing);
+        };
+        if self.hears(from) {
+            return Ok(Look::Peers);
+        }
+        let found = setup_in(datagram);
+        self.pass(from, found);
+        Ok(Look::Strangers)
+    }
+
+    /// Looks until a datagram of one that is heard is found. Whether one was: where not, nothing came, or 256 were passed over.
+    fn seek(&mut self) -> Result<bool, DeviceFailed>
+        ensures seeks { Seeks self.old result self.new }
+        ensures failures { CountsFailure result self.old.device.failures self.new.device.failures }
+        ensures nones { self.new.device.nones ≡ self.old.device.nones }
+        ensures carried { (self.new.device.sent ≡ self.old.device.sent) × (self.new.device.received ≡ self.old.device.received) }
+    {
+        for _ in self.passed..MOST_PASSED {
+            match self.look()? {
+                Look::Peers => return Ok(true),
+                Look::Strangers => {}
+                Look::Nothing => return Ok(false),
+            }
+        }
+        Ok(false)
+    }
+
+    /// Where what was found tells the start that is waited for, its sender is the peer from now on.
+    fn settle(&mut self)
+        ensures settles { SettlesCame self.old self.old.socket.came self.new }
+        ensures device { self.new.device ≡ self.old.device }
+        ensures socket { self.new.socket ≡ self.old.socket }
+    {
+        let Some(awaited) = self.awaited else {
+            return;
+        };
+        let Some((from, datagram)) = self.listener.last() else {
+            return;
+        };
+        if !tells_start(&awaited, datagram) {
+            return;
+        }
+        self.peer = from;
+        self.awaited = None;
+        if from == self.to {
+            self.listener.connect(from);
+        }
+    }
+
+    /// Hands over what was found. How many bytes it has, as far as there is room.
+    fn hand_over(&mut self, buffer: &mut [u8]) -> usize
+        requires found { self.old.socket.came ≢ None }
+        ensures hands { HandsCame self.old self.old.socket.came result buffer.new self.new }
+        ensures filled { Fills result buffer.old buffer.new }
+    {
+        let Some((_, datagram)) = self.listener.last() else {
+            unreachable!()
+        };
+        let length = datagram.len().min(buffer.len());
+        buffer[..length].copy_from_slice(&datagram[..length]);
+        self.heard = self.heard.saturating_add(1);
+        length
     }
 }
 
@@ -143,14 +356,15 @@ impl Datagrams for TiedDevice {
 
     ghost tells = { λ _. ⊥ };
 
-    /// Hands a datagram for the peer to the system.
+    /// Hands a datagram to the system, for the one to whom it sends.
     fn send(&mut self, datagram: &[u8]) -> Result<(), DeviceFailed>
         ensures counts { NeverFall self.old.device self.new.device }
         ensures sends { Sends ⊥ self.old.device datagram.now result self.new.device }
-        ensures sent { OnOk result (self.new ≡ self.old) }
-        ensures failed { OnErr result (self.new ≡ with_fault self.old) }
+        // It is given for that one.
+        ensures sent { OnOk result (self.new ≡ sending self.old) }
+        ensures failed { OnErr result (self.new ≡ with_fault (sending self.old)) }
     {
-        let answer = self.listener.send(self.tie.peer, datagram);
+        let answer = self.listener.send(self.to, datagram);
         self.note(answer)
     }
 
@@ -159,19 +373,12 @@ impl Datagrams for TiedDevice {
         ensures receives { Receives ⊥ self.old.device buffer.old result buffer.new self.new.device }
         ensures takes { HandsOver self.old result buffer.new self.new }
     {
-        let heard = self.listener.hear();
-        self.note(heard)?;
-        let Some((from, datagram)) = self.listener.last() else {
-            self.find_none();
-            return Ok(None);
-        };
-        if !self.tie.count(from) {
+        if !self.seek()? {
             self.find_none();
             return Ok(None);
         }
-        let length = datagram.len().min(buffer.len());
-        buffer[..length].copy_from_slice(&datagram[..length]);
-        Ok(Some(length))
+        self.settle();
+        Ok(Some(self.hand_over(buffer)))
     }
 
     fn failures(&self) -> u64 {

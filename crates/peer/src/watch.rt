@@ -1,16 +1,15 @@
 //! What a publisher notes of what comes and goes.
 
-ghost use Rattle.std.specs.Prelude.{◌≡◌, ◌≤◌, IfSome, Ok, Some, length};
+ghost use Rattle.std.specs.Prelude.{◌≡◌, ◌≤◌, ◌<◌, IfNone, IfSome, Some, is_some, length};
 ghost use Rattle.std.specs.Option.{option_map};
-ghost use Rattle.endpoint.specs.Calls.{CountsNone};
 ghost use Rattle.endpoint.specs.Devices.{HasGrown};
 ghost use Rattle.frames.specs.Frames.{header_of, nak_of, wire};
 ghost use Rattle.peer.specs.Screening.{is_handed};
-ghost use Rattle.peer.specs.Watching.{CountsHanded, CountsRefused, Gives, GivesFrame, NotesTold, Screens, after_frame, after_verdict, begins_below, behind_of, disbelieving, given, header_in, held_after, is_again, is_behind, is_below, is_left_behind, missed, new_watch, plus_one, refusing, released, screened, screened_of, told, told_by, told_last, with_none, with_told};
+ghost use Rattle.peer.specs.Watching.{CountsRefused, Gives, GivesFrame, NotesTold, Screens, after_frame, after_verdict, begins_below, behind_of, disbelieving, due_of, given, header_in, held_after, is_again, is_behind, is_below, is_left_behind, missed, new_watch, passed_after, passing, plus_one, refusing, released, screened, screened_of, told, told_by, told_last, with_none, with_told};
 
 use crate::attendance::{Attendance, Heard};
 use crate::farewell::end_told;
-use crate::screen::{Bounds, Verdict, asked_bytes, judge};
+use crate::screen::{Bounds, Verdict, asked_bytes, has_room_for, judge};
 use frames::{FaultCounts, Frame, FrameError, Header, Nak, check_datagram, read_frame};
 use position::Identity;
 use std::marker::Model;
@@ -28,6 +27,8 @@ pub struct Tally {
     pub naks: u64,
     /// The status messages that it didn't believe.
     pub disbelieved: u64,
+    /// The datagrams that it has passed over: status messages that it didn't believe, and what is held back or not answered.
+    pub passed: u64,
     /// The datagrams that can't be read, by their faults. These counts stay at the greatest `u64`.
     pub refused: FaultCounts,
 }
@@ -93,6 +94,7 @@ pub(crate) struct Watch {
     held: Option<Nak>,
     tally: Tally,
     nones: u64,
+    passed: u64,
     ends: Option<ToldEnds>,
     /// How many bytes behind the sender's position a frame can be sent again, where a receiver that lacks more is left behind.
     reach: Option<u64>,
@@ -105,7 +107,7 @@ impl Model for Watch {
 
     ghost Value = { Watched };
 
-    ghost view = { λ w. record { sent = w.sent; attendance = w.attendance; bounds = w.bounds; held = option_map nak_of w.held; tally = w.tally; nones = w.nones; ends = w.ends; reach = w.reach } };
+    ghost view = { λ w. record { sent = w.sent; attendance = w.attendance; bounds = w.bounds; held = option_map nak_of w.held; tally = w.tally; nones = w.nones; passed = w.passed; ends = w.ends; reach = w.reach } };
 }
 
 /// Whether a position lies below this one.
@@ -148,9 +150,11 @@ impl Watch {
                 statuses: 0,
                 naks: 0,
                 disbelieved: 0,
+                passed: 0,
                 refused: FaultCounts::new(),
             },
             nones: 0,
+            passed: 0,
             ends: None,
             reach,
         }
@@ -188,11 +192,22 @@ impl Watch {
         self.nones
     }
 
-    /// What is held back.
-    pub(crate) fn held(&self) -> Option<Nak>
-        ensures { option_map nak_of result ≡ self.now.held }
+    /// How many datagrams it has passed over since a receive found nothing.
+    pub(crate) fn passed(&self) -> u64
+        ensures { result ≡ self.now.passed }
     {
-        self.held
+        self.passed
+    }
+
+    /// What is held back, where those of the cycle leave room for it.
+    pub(crate) fn due(&self) -> Option<Nak>
+        ensures { option_map nak_of result ≡ due_of self.now }
+    {
+        let nak = self.held?;
+        if !has_room_for(&self.sent, self.bounds.asked, &nak) {
+            return None;
+        }
+        Some(nak)
     }
 
     /// A cycle begins, with the stream sent up to here.
@@ -212,6 +227,17 @@ impl Watch {
         ensures not_fallen { self.old.nones ≤ self.new.nones }
     {
         self.nones = self.nones.saturating_add(1);
+        self.passed = 0;
+    }
+
+    /// Counts a datagram that is passed over.
+    fn pass(&mut self)
+        requires { self.old.passed < 256 }
+        ensures passed { self.new ≡ passing self.old }
+        ensures nones { self.new.nones ≡ self.old.nones }
+    {
+        self.passed += 1;
+        self.tally.passed = self.tally.passed.wrapping_add(1);
     }
 
     /// Notes that this receiver has told this position.
@@ -233,31 +259,33 @@ impl Watch {
         self.tally.naks = self.tally.naks.wrapping_add(1);
     }
 
-    /// Counts a status message that isn't believed, and a receive that found nothing.
+    /// Counts a status message that isn't believed.
     fn disbelieve(&mut self)
         ensures counted { self.new ≡ disbelieving self.old }
-        ensures grown { HasGrown self.old.nones self.new.nones }
-        ensures not_fallen { self.old.nones ≤ self.new.nones }
+        ensures nones { self.new.nones ≡ self.old.nones }
     {
-        self.find_none();
         self.tally.disbelieved = self.tally.disbelieved.wrapping_add(1);
     }
 
     /// Notes what a frame's verdict says.
     fn note(&mut self, verdict: Verdict)
+        requires { self.old.passed < 256 }
         ensures noted { self.new ≡ after_verdict self.old verdict }
-        ensures nones { CountsHanded (is_handed verdict) self.old.nones self.new.nones }
-        ensures not_fallen { self.old.nones ≤ self.new.nones }
+        ensures nones { self.new.nones ≡ self.old.nones }
+        ensures passed { self.new.passed ≡ passed_after (is_handed verdict) self.old.passed }
     {
         match verdict {
             Verdict::Passes => {}
             Verdict::Tells { receiver, position } => self.hear_status(receiver, position),
             Verdict::Misses(bytes) => self.miss(bytes),
-            Verdict::Disbelieved => self.disbelieve(),
-            Verdict::Held | Verdict::Unanswered => self.find_none(),
+            Verdict::Disbelieved => {
+                self.disbelieve();
+                self.pass();
+            }
+            Verdict::Held | Verdict::Unanswered => self.pass(),
             Verdict::LeftBehind { receiver, position } => {
                 self.hear_status(receiver, position);
-                self.find_none();
+                self.pass();
             }
         }
     }
@@ -287,7 +315,7 @@ impl Watch {
         })
     }
 
-    /// The verdict on a frame, where one that is left behind is neither handed over nor answered.
+    /// The verdict on a frame, where one that is left behind is neither handed over nor answered, and one is held back at a time.
     fn screened(&self, verdict: Verdict) -> Verdict
         ensures { result ≡ screened self.now verdict }
     {
@@ -300,6 +328,7 @@ impl Watch {
                 verdict
             }
             Verdict::Misses(_) | Verdict::Held if self.is_left_behind() => Verdict::Unanswered,
+            Verdict::Held if self.held.is_some() => Verdict::Unanswered,
             _ => verdict,
         }
     }
@@ -319,10 +348,11 @@ impl Watch {
 
     /// A frame came, alone in a datagram. Whether it is handed over.
     fn hear(&mut self, frame: &Frame<'_>) -> bool
+        requires { self.old.passed < 256 }
         ensures handed { result ≡ is_handed (screened_of self.old (wire frame.now)) }
         ensures heard { self.new ≡ after_frame self.old (wire frame.now) }
-        ensures nones { CountsHanded result self.old.nones self.new.nones }
-        ensures not_fallen { self.old.nones ≤ self.new.nones }
+        ensures nones { self.new.nones ≡ self.old.nones }
+        ensures passed { self.new.passed ≡ passed_after result self.old.passed }
     {
         let verdict = self.screened(judge(&self.sent, &self.bounds, frame));
         self.note(verdict);
@@ -333,7 +363,7 @@ impl Watch {
     /// Counts a datagram that can't be read, by its fault.
     fn refuse(&mut self, fault: FrameError)
         ensures refused { self.new ≡ refusing self.old fault }
-        ensures nones { self.new.nones ≡ self.old.nones }
+        ensures nones { (self.new.nones ≡ self.old.nones) × (self.new.passed ≡ self.old.passed) }
     {
         self.tally.refused.count(fault);
     }
@@ -341,7 +371,7 @@ impl Watch {
     /// Counts a datagram by its fault, if it can't be read.
     fn count_refused(&mut self, datagram: &[u8])
         ensures counts { CountsRefused self.old datagram.now self.new }
-        ensures nones { self.new.nones ≡ self.old.nones }
+        ensures nones { (self.new.nones ≡ self.old.nones) × (self.new.passed ≡ self.old.passed) }
     {
         match check_datagram(datagram) {
             Ok(_) => {}
@@ -349,12 +379,15 @@ impl Watch {
         }
     }
 
-    /// A datagram came. Its length, where it is handed over.
+    /// A datagram came. Its length, where it is handed over; else it is passed over, and has 40 bytes at the most.
+    #[tactic(auto, using(crate::proofs::Screened::unhanded_is_short))]
     pub(crate) fn screen(&mut self, datagram: &[u8]) -> Option<usize>
+        requires { self.old.passed < 256 }
         ensures screens { Screens self.old datagram.now result self.new }
         ensures whole { IfSome result (λ n. n ≡ length datagram.now) }
-        ensures nones { CountsNone (Ok result) self.old.nones self.new.nones }
-        ensures not_fallen { self.old.nones ≤ self.new.nones }
+        ensures short { IfNone result (length datagram.now ≤ 40) }
+        ensures nones { self.new.nones ≡ self.old.nones }
+        ensures passed { self.new.passed ≡ passed_after (is_some result) self.old.passed }
     {
         match read_frame(datagram) {
             Ok((frame, size)) if size == datagram.len() => {

@@ -1,5 +1,7 @@
 pub mod Beginnings
 pub mod Ends
+mod ArrivedRows
+mod PatienceRows
 pub mod Faults
 pub mod Stopping
 pub mod Lines
@@ -7,3 +9,6 @@ pub mod Sent
 pub mod AllPublished
 pub mod Whole
 pub mod Told
+pub mod Turned
+pub mod Short
+pub mod Shorts

@@ -86,10 +86,10 @@ whole_so : (o : Option PublishFault) (sent : Result Ending PublishFault) → fau
 whole_so None sent h = h
 whole_so (Some fault) sent h = absurd (subst NotOkWhole h tt)
 
-pub arrived : (read : Option Reading) (sent : Result Judged PublishFault) (ending : Result Ending PublishFault) (a : Attendance) (linger wait : ℕ)
-    → IfOk sent (λ judged. Ends a linger wait judged) → ending ≡ ended_by read sent → ending ≡ Ok Whole → AllArrived read a
-arrived None (Ok judged) ending a linger wait ends is whole = absurd (subst NotOkWhole (sym is ∙ whole) tt)
-arrived None (Err fault) ending a linger wait ends is whole = absurd (subst NotOkWhole (sym is ∙ whole) tt)
-arrived (Some r) (Err fault) ending a linger wait ends is whole = absurd (subst NotOkWhole (whole_so (fault_by r.ended) (Err fault) (sym is ∙ whole)) tt)
-arrived (Some r) (Ok judged) ending a linger wait ends is whole =
-    by_judged r a judged.reading judged.ending linger wait ends.silence ends.is (whole_so (fault_by r.ended) (ending_of (Some r) (Ok judged)) (sym is ∙ whole))
+pub arrived : (read : Option Reading) (sent : Result Judged PublishFault) (ending : Result Ending PublishFault) (a : Attendance) (silence : Option ℕ) (linger wait : ℕ)
+    → IfOk sent (λ judged. Ends a silence linger wait judged) → ending ≡ ended_by read sent → ending ≡ Ok Whole → AllArrived read a
+arrived None (Ok judged) ending a silence linger wait ends is whole = absurd (subst NotOkWhole (sym is ∙ whole) tt)
+arrived None (Err fault) ending a silence linger wait ends is whole = absurd (subst NotOkWhole (sym is ∙ whole) tt)
+arrived (Some r) (Err fault) ending a silence linger wait ends is whole = absurd (subst NotOkWhole (whole_so (fault_by r.ended) (Err fault) (sym is ∙ whole)) tt)
+arrived (Some r) (Ok judged) ending a silence linger wait ends is whole =
+    by_judged r a judged.reading judged.ending linger wait silence ends (whole_so (fault_by r.ended) (ending_of (Some r) (Ok judged)) (sym is ∙ whole))

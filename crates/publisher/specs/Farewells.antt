@@ -1,6 +1,7 @@
 -- What a publisher tells of its stream's end.
-use Rattle.std.specs.Prelude.{◌≡◌, ◌+◌, ◌%◌, ◌^◌, ℕ, Bool, false, ◌&&◌, min, nat_eq, Option, None, Some, Result, Ok, Err, if◌then◌else◌}
+use Rattle.std.specs.Prelude.{◌≡◌, ◌+◌, ◌%◌, ◌^◌, ℕ, Bool, true, false, ◌&&◌, min, nat_eq, Option, None, Some, Result, Ok, Err, if◌then◌else◌}
 use Rattle.theory.specs.Position.{Geometry, max_position}
+use Rattle.endpoint.specs.declared.device_error.DeviceError.TheVariants.{Device}
 use Rattle.peer.specs.Farewells.{end_of}
 use Rattle.peer.specs.Watching.{Watched, with_told}
 use Rattle.peer.specs.declared.ending.Ending.{Ending}
@@ -10,7 +11,7 @@ use Rattle.offering.specs.declared.reading.Reading.{Reading}
 use Rattle.publisher.specs.Judging.{end_in}
 use Rattle.publisher.specs.declared.judged.Judged.{Judged}
 use Rattle.publisher.specs.declared.fault.PublishFault.{PublishFault}
-use Rattle.publisher.specs.declared.fault.PublishFault.TheVariants.{Input, Full, NoSocket, Failed}
+use Rattle.publisher.specs.declared.fault.PublishFault.TheVariants.{Input, Full, NoSocket, NoThread, Failed}
 
 -- the device was given this end to tell, if one; whom it has heard stays
 pub record TellsOne (tail : ℕ) (old new : Watched) : Type 0 where
@@ -40,7 +41,8 @@ TellsFarewell (Some tail) old new = TellsFive tail old new
 abbrev pub farewell_of_fault : PublishFault → Option ℕ → Option ℕ
 farewell_of_fault (Input fault) end = end
 farewell_of_fault Full end = end
-farewell_of_fault (NoSocket route) end = None
+farewell_of_fault (NoSocket route number) end = None
+farewell_of_fault NoThread end = None
 farewell_of_fault (Failed error) end = None
 
 abbrev pub farewell_by : Result Ending PublishFault → Option ℕ → Option ℕ
@@ -59,7 +61,22 @@ has_told_alone None g end = false
 has_told_alone (Some ends) g None = false
 has_told_alone (Some ends) g (Some tail) = are_all ends (min tail (max_position g))
 
+-- no end was told but this one, if any
+abbrev pub has_told_no_other : Option ToldEnds → Geometry → Option ℕ → Bool
+has_told_no_other None g end = true
+has_told_no_other (Some ends) g end = has_told_alone (Some ends) g end
+
+-- another end that was told is a fault
+abbrev pub ending_unless_another : Result Ending PublishFault → Bool → Result Ending PublishFault
+ending_unless_another (Ok ending) true = Ok ending
+ending_unless_another (Ok ending) false = Err (Failed Device)
+ending_unless_another (Err fault) no_other = Err fault
+
 -- whole only where they are
 abbrev pub ending_told : Result Ending PublishFault → Bool → Result Ending PublishFault
 ending_told (Ok ending) told_alone = Ok (if told_alone then ending else Short)
 ending_told (Err fault) told_alone = Err fault
+
+-- how it ended in all, where these ends were told
+abbrev pub ending_in_all : Result Ending PublishFault → Option ToldEnds → Geometry → Option ℕ → Result Ending PublishFault
+ending_in_all ending ends g end = ending_unless_another (ending_told ending (has_told_alone ends g end)) (has_told_no_other ends g end)

@@ -1,6 +1,7 @@
 -- A fault of the reading, and one of a device, as one of the publisher.
-use Rattle.endpoint.specs.declared.device_error.DeviceError.{DeviceError}
-use Rattle.endpoint.specs.declared.device_error.DeviceError.TheVariants.{Device, Memory}
+use Rattle.endpoint.specs.declared.device_error.DeviceError.TheVariants.{Memory}
+use Rattle.endpoint.specs.declared.open_error.OpenError.{OpenError}
+use Rattle.endpoint.specs.declared.open_error.OpenError.TheVariants as opening
 use Rattle.endpoint.specs.declared.udp.Route.{Route}
 use Rattle.offering.specs.declared.fault.ReadingFault.{ReadingFault}
 use Rattle.offering.specs.declared.fault.ReadingFault.TheVariants as stops
@@ -12,6 +13,6 @@ publish_fault (stops.Input fault) = Input fault
 publish_fault stops.Full = Full
 
 -- why there is none along a route
-abbrev pub of_device : Route → DeviceError → PublishFault
-of_device route Device = NoSocket route
-of_device route Memory = Failed Memory
+abbrev pub of_opening : Route → OpenError → PublishFault
+of_opening route (opening.Refused number) = NoSocket route number
+of_opening route opening.Memory = Failed Memory

@@ -4,7 +4,10 @@ pub mod Looking
 pub mod Openings
 pub mod Keeping
 pub mod Progress
+pub mod Turns
 pub mod Ended
 pub mod Farewells
 pub mod Texts
+pub mod Whys
+pub mod Shorts
 pub mod Beginnings

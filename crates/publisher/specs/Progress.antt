@@ -1,16 +1,18 @@
 -- What a publisher has seen and told, and how it ends by that.
-use Rattle.std.specs.Prelude.{◌≡◌, ℕ, ◌-◌, ◌&&◌, ◌||◌, Bool, not, true, false, nat_eq, nat_le, nat_lt, is_some, if◌then◌else◌, Option, None, Some, IfSome}
+use Rattle.std.specs.Prelude.{◌≡◌, ℕ, ◌-◌, ◌&&◌, ◌||◌, Bool, not, true, false, nat_eq, nat_le, nat_lt, is_some, if◌then◌else◌, List, [], ◌∷◌, Option, None, Some, IfSome}
 use Rattle.peer.specs.declared.attendance.Attendance.{Attendance}
 use Rattle.peer.specs.declared.attendance.Heard.{Heard}
 use Rattle.peer.specs.declared.ending.Ending.{Ending}
 use Rattle.peer.specs.Endings.{ending_of}
 use Rattle.peer.specs.Silences.{judged, never, seen_at}
+use Rattle.peer.specs.declared.silence.Silence.{Silence}
 use Rattle.offering.specs.declared.reading.Reading.{Reading}
 use Rattle.publisher.specs.Judging.{end_in, fault_in}
 use Rattle.publisher.specs.declared.fault.PublishFault.{PublishFault}
 use Rattle.publisher.specs.declared.judged.Judged.{Judged}
 use Rattle.publisher.specs.declared.looking.Seen.{Seen}
 use Rattle.publisher.specs.declared.progress.Progress.{Progress}
+use Rattle.publisher.specs.declared.telling.ToldShortfall.{ToldShortfall}
 
 abbrev pub told_from : ℕ → Option Heard → ℕ
 told_from start None = start
@@ -39,17 +41,17 @@ with_work p worked now = record p { worked = seen_at p.worked worked now }
 abbrev pub with_fault : Option PublishFault → Progress → Progress
 with_fault fault p = record p { faulted = p.faulted || is_some fault }
 
--- a second has gone by since the counters were told
-abbrev pub is_shown : Progress → ℕ → Bool
-is_shown p now = nat_le 1000000000 (now - p.shown)
+-- the counters are told: a second has gone by since they were, or it is the last time
+abbrev pub is_shown : Progress → ℕ → Bool → Bool
+is_shown p now last = last || nat_le 1000000000 (now - p.shown)
 
--- then so many messages were accepted in it
-abbrev pub shown_messages : Progress → ℕ → ℕ → Option ℕ
-shown_messages p messages now = if is_shown p now then Some (messages - p.messages) else None
+-- then so many messages were accepted since
+abbrev pub shown_messages : Progress → ℕ → ℕ → Bool → Option ℕ
+shown_messages p messages now last = if is_shown p now last then Some (messages - p.messages) else None
 
 -- and the next second begins
-abbrev pub shown_at : Progress → ℕ → ℕ → Progress
-shown_at p messages now = if is_shown p now then record p { shown = now; messages = messages } else p
+abbrev pub shown_at : Progress → ℕ → ℕ → Bool → Progress
+shown_at p messages now last = if is_shown p now last then record p { shown = now; messages = messages } else p
 
 -- the stream's end wasn't told for 100 ms
 abbrev pub is_due_since : Option ℕ → ℕ → Bool
@@ -81,17 +83,29 @@ is_alone p a now = not p.alone && (is_nobody a.present && nat_le 5000000000 now)
 abbrev pub ending_seen : Progress → Seen → Option ℕ → ℕ → ℕ → ℕ → Option Ending
 ending_seen p s end linger wait now = ending_of s.attendance end (judged p.statuses s.at_rest now) linger wait
 
-abbrev pub judged_by : Option Reading → Option Ending → Option Judged
-judged_by reading None = None
-judged_by reading (Some ending) = Some (record { ending = ending; reading = reading })
+abbrev pub judged_by : Option Reading → Option ToldShortfall → Option Ending → Option Judged
+judged_by reading line None = None
+judged_by reading line (Some ending) = Some (record { ending = ending; reading = reading; told = line })
 
 -- by how the reading has ended, if it has, this is how the publisher ends, if it does; where that was a fault, it was told
 pub record Judges (p : Progress) (s : Seen) (linger wait now : ℕ) (answer : Option Judged) : Type 0 where
   pub reading : Option Reading
-  pub is : answer ≡ judged_by reading (ending_seen p s (end_in reading) linger wait now)
+  pub line : Option ToldShortfall
+  pub is : answer ≡ judged_by reading line (ending_seen p s (end_in reading) linger wait now)
   pub told : IfSome (fault_in reading) (λ _. p.faulted ≡ true)
 
--- receivers that were heard end a publisher this way, by how the reading had ended
-pub record Ends (a : Attendance) (linger wait : ℕ) (judged : Judged) : Type 0 where
-  pub silence : Option ℕ
-  pub is : ending_of a (end_in judged.reading) silence linger wait ≡ Some judged.ending
+-- receivers that were heard, and for how long no status message came, where that is judged, end a publisher this way, by how the
+-- reading had ended
+abbrev pub Ends : Attendance → Option ℕ → ℕ → ℕ → Judged → Type 0
+Ends a silence linger wait judged = ending_of a (end_in judged.reading) silence linger wait ≡ Some judged.ending
+
+-- ---- the silence
+
+-- since when no status message came, by what cycles have shown, each at its moment, the last one first
+abbrev pub silence_over : List (Seen × ℕ) → Silence
+silence_over [] = never
+silence_over (c ∷ cs) = seen_at (silence_over cs) c.0.tally.statuses c.1
+
+-- for how long none came, by a cycle at this moment behind these, where all that had come was heard in it
+abbrev pub silence_by : Seen → ℕ → List (Seen × ℕ) → Option ℕ
+silence_by s now cs = judged (silence_over ((s, now) ∷ cs)) s.at_rest now

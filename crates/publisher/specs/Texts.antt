@@ -1,5 +1,5 @@
 -- What a user reads of a fault, and what a publisher tells on its error output.
-use Rattle.std.specs.Prelude.{ℕ, ◌-◌, ◌/◌, Bool, true, false, List, [], ◌∷◌, ◌++◌, Option, None, Some, codes, decimal, nat_eq, if◌then◌else◌}
+use Rattle.std.specs.Prelude.{ℕ, ℤ, ◌-◌, ◌/◌, Bool, true, false, List, [], ◌∷◌, ◌++◌, Option, None, Some, codes, decimal, nat_eq, if◌then◌else◌}
 use Rattle.std.specs.Fmt.{signed_decimal}
 use Rattle.std.specs.Net.Text.{socket_text}
 use Rattle.peer.specs.Texts.{joined}
@@ -13,17 +13,28 @@ use Rattle.endpoint.specs.Texts as devices
 use Rattle.frames.specs.FaultCounts.{counts_text}
 use Rattle.frames.specs.declared.fault_counts.FaultCounts.{FaultCounts}
 use Rattle.messages.specs.Texts as inputs
+use Rattle.text.specs.Paces.{pace_text}
 use Rattle.publisher.specs.declared.telling.Counts.{Counts}
+use Rattle.publisher.specs.declared.telling.Totals.{Totals}
 use Rattle.publisher.specs.declared.telling.Shortfall.{Shortfall}
-use Rattle.publisher.specs.declared.telling.Shortfall.TheVariants.{Unheard, Silent, Several}
+use Rattle.publisher.specs.declared.telling.Shortfall.TheVariants.{Unheard, Silent, Several, Elsewhere, Unclosed}
 use Rattle.publisher.specs.declared.fault.PublishFault.{PublishFault}
-use Rattle.publisher.specs.declared.fault.PublishFault.TheVariants.{Input, Full, NoSocket, Failed}
+use Rattle.publisher.specs.declared.fault.PublishFault.TheVariants.{Input, Full, NoSocket, NoThread, Failed}
 
 abbrev pub text_of : PublishFault → List ℕ
 text_of (Input fault) = inputs.text_of fault
 text_of Full = codes "the stream is at its last position"
-text_of (NoSocket route) = codes "the system gives no socket from " ++ socket_text route.binding.address ++ codes " to " ++ socket_text route.peer
+text_of (NoSocket route number) = codes "the system gives no socket from " ++ socket_text route.binding.address ++ codes " to " ++ socket_text route.peer
+text_of NoThread = codes "device: the system gives no thread"
 text_of (Failed error) = devices.text_of error
+
+-- the system's number of what failed, where it gave one
+abbrev pub number_of : PublishFault → Option ℤ
+number_of (Input fault) = inputs.number_of fault
+number_of Full = None
+number_of (NoSocket route number) = number
+number_of NoThread = None
+number_of (Failed error) = None
 
 -- ---- lines
 
@@ -69,6 +80,8 @@ gave_up_text peer (Silent seconds acknowledged bytes) = joined (
     codes "gave up: nothing was heard from " ∷ socket_text peer ∷ codes " for " ∷ decimal seconds ∷ codes " s; it has acknowledged "
     ∷ decimal acknowledged ∷ codes " of " ∷ decimal bytes ∷ codes " bytes" ∷ [])
 gave_up_text peer Several = joined (codes "not all was written at " ∷ socket_text peer ∷ codes " by one subscriber that was there from the start on" ∷ [])
+gave_up_text peer Elsewhere = codes "gave up: the input ended elsewhere than where the stream was taken to"
+gave_up_text peer Unclosed = codes "gave up: the log couldn't be closed, since memory was refused or a thread still has it"
 
 abbrev pub gave_up_line : SocketAddr → Shortfall → List ℕ
 gave_up_line peer shortfall = gave_up_text peer shortfall ++ 10 ∷ []
@@ -83,9 +96,6 @@ whole_text start tail = if nat_eq tail start then empty_line else []
 abbrev pub ending_text : Ending → SocketAddr → Shortfall → ℕ → ℕ → List ℕ
 ending_text Whole peer shortfall start tail = whole_text start tail
 ending_text Short peer shortfall start tail = gave_up_line peer shortfall
-
-abbrev pub unshown_line : List ℕ
-unshown_line = codes "gave up: the log couldn't be closed, since memory was refused or a thread still has it" ++ 10 ∷ []
 
 abbrev pub alone_line : List ℕ
 alone_line = codes "nobody was heard for 5 s: no subscriber is there, or it follows another publisher, or takes another stream or session, or only shorter terms" ++ 10 ∷ []
@@ -106,6 +116,15 @@ traffic_text c = joined (
 
 abbrev pub counters_line : Counts → List ℕ
 counters_line c = stream_text c ++ codes " " ++ traffic_text c ++ 10 ∷ []
+
+-- what it has done in all
+abbrev pub totals_text : Totals → List ℕ
+totals_text t = joined (
+    codes "published " ∷ decimal t.pace.count ∷ codes " messages, " ∷ decimal t.bytes ∷ codes " bytes of stream, " ∷ pace_text t.pace
+    ∷ codes "; " ∷ decimal t.resends ∷ codes " datagrams sent again" ∷ [])
+
+abbrev pub totals_line : Totals → List ℕ
+totals_line t = totals_text t ++ 10 ∷ []
 
 -- how many datagrams were refused, by their faults
 abbrev pub refused_line : FaultCounts → List ℕ

@@ -97,6 +97,7 @@ pub fn parts_over<D: Drop>(
 ) -> Result<PublisherParts<D>, PublishFault>
     ensures parts { IfOk result (λ p. ArePublisherParts plan.now p) }
     ensures device { IfOk result (λ p. p.passes.duty.device ≡ device) }
+    ensures peer { IfOk result (λ p. p.peer ≡ peer) }
     ensures refused { IfErr result (λ fault. fault ≡ PublishFault.Failed DeviceError.Memory) }
 {
     let duty = duty_over(alloc, plan, device)?;
@@ -136,6 +137,7 @@ pub fn publisher_parts<D: Datagrams + Drop>(
 ) -> Result<PublisherParts<ChannelDevice<D>>, PublishFault>
     ensures parts { IfOk result (λ p. ArePublisherParts plan.now p) }
     ensures device { IfOk result (λ p. p.passes.duty.device ≡ device_of plan.now None device) }
+    ensures peer { IfOk result (λ p. p.peer ≡ peer) }
     ensures refused { IfErr result (λ fault. fault ≡ PublishFault.Failed DeviceError.Memory) }
 {
     parts_over(

@@ -1,6 +1,6 @@
 //! A publisher from its begin to its end.
 
-ghost use Rattle.std.specs.Prelude.{◌≡◌, ◌<◌, Err, IfErr, IfOk, IfSome, Ok, true};
+ghost use Rattle.std.specs.Prelude.{◌≡◌, ◌<◌, Err, IfErr, IfOk, IfSome, Ok, Some, true};
 ghost use Rattle.std.specs.Arc.{arc_value};
 ghost use Rattle.std.specs.Io.Buffered.{reader_remaining};
 ghost use Rattle.position.specs.Openings.{IsStart};
@@ -9,30 +9,32 @@ ghost use Rattle.shared_log.specs.Books.{IsDone};
 ghost use Rattle.shared_log.specs.Parts.{IsNewReader};
 ghost use Rattle.shared_log.specs.Readers.{IsReaderOf};
 ghost use Rattle.agents.specs.LogSenders.{IsNewSender, SendsLog};
-ghost use Rattle.endpoint.specs.declared.device_error.DeviceError.{DeviceError};
-ghost use Rattle.peer.specs.declared.ending.Ending.TheVariants.{Whole};
+ghost use Rattle.endpoint.specs.declared.open_error.OpenError.{OpenError};
+ghost use Rattle.peer.specs.declared.ending.Ending.TheVariants.{Short, Whole};
 ghost use Rattle.offering.specs.Ended.{EndsInput};
 ghost use Rattle.publisher.specs.Beginnings.{ArePublisherParts};
 ghost use Rattle.publisher.specs.Ended.{AllArrived, HasSent, LeavesLog, PublishesAll, reading_left};
-ghost use Rattle.publisher.specs.Farewells.{has_told_alone};
-ghost use Rattle.publisher.specs.Faults.{of_device};
+ghost use Rattle.publisher.specs.Farewells.{has_told_alone, has_told_no_other};
+ghost use Rattle.publisher.specs.Faults.{of_opening};
 ghost use Rattle.publisher.specs.Judging.{end_in, fault_in};
-ghost use Rattle.publisher.specs.Openings.{ArePasses, IsKept};
+ghost use Rattle.peer.specs.Ties.{hearing_anybody, tied_waiting};
+ghost use Rattle.publisher.specs.Openings.{ArePasses, IsKept, identity_of};
+ghost use Rattle.publisher.specs.Shorts.{EndsShort, SaysItsShortfall};
 
-use crate::beginning::{PublisherParts, publisher_parts};
+use crate::beginning::{PublisherParts, planned_stream, publisher_parts};
 use crate::fault::PublishFault;
 use crate::log_end::{LogEnd, ending_of, log_of};
 use crate::looking::ChannelDevice;
 use crate::publisher_context::PublisherContext;
 use crate::sender_thread::{ChannelSender, SenderPasses};
-use crate::telling::tell_unshown;
+use crate::telling::tell_if_unclosed;
 use crate::two_threads::{Published, run};
 use agents::{Began, open_sender};
-use endpoint::{Datagrams, DeviceError, Route, UdpDevice};
+use endpoint::{Datagrams, DeviceError, OpenError, Route};
 use messages::FusedReader;
 use offering::{OfferingState, Reader, start_reader};
 use options::PublishPlan;
-use peer::Ending;
+use peer::{Awaited, Ending, TiedDevice};
 use sender_meaning::keeps_its_reader;
 use shared_log::{Keeper, LogFrames, LogReader, Publisher};
 use std::alloc::Global;
@@ -74,6 +76,7 @@ fn opened<'a, D: Drop>(
     requires consumers { 0 < state.now.log.consumers }
     ensures new { IfOk result (λ s. IsNewSender state.now.log sending.reader s.agent) }
     ensures sends { IfOk result (λ s. SendsLog state.now.log s.agent × (s.passes ≡ sending.passes)) }
+    ensures peer { IfOk result (λ s. s.peer ≡ sending.peer) }
 {
     let Sending {
         reader,
@@ -109,7 +112,7 @@ impl<I> Offering<I> {
     }
 }
 
-/// Starts the thread that reads. The fault is `Device`: the system refused a thread.
+/// Starts the thread that reads. The fault is `NoThread`.
 pub fn started<R: Threads + Clock + Send + Copy + 'static, I: BufRead + Send + Drop + 'static>(
     rt: &R,
     alloc: Global,
@@ -126,7 +129,7 @@ pub fn started<R: Threads + Clock + Send + Copy + 'static, I: BufRead + Send + D
     } = offering;
     match start_reader(rt, alloc, plan.end.form, state, input, publisher) {
         Some(reader) => Ok(reader),
-        None => Err(PublishFault::Failed(DeviceError::Device)),
+        None => Err(PublishFault::NoThread),
     }
 }
 
@@ -169,6 +172,8 @@ fn publish_shared<
     ensures whole { IfOk result (λ e. e.0.ending ≡ Ok Whole → AllArrived (reading_left e.0.input) e.0.attendance) }
     ensures faulted { IfOk result (λ e. IfSome (fault_in (reading_left e.0.input)) (λ fault. e.0.ending ≡ Err fault)) }
     ensures told { IfOk result (λ e. e.0.ending ≡ Ok Whole → has_told_alone e.0.ends context.now.plan.now.geometry (end_in (reading_left e.0.input)) ≡ true) }
+    ensures no_other { IfOk result (λ e. IfOk e.0.ending (λ _. has_told_no_other e.0.ends context.now.plan.now.geometry (end_in (reading_left e.0.input)) ≡ true)) }
+    ensures short { IfOk result (λ e. e.0.ending ≡ Ok Short → EndsShort context.now.state.now.log sending.passes context.now.plan.now sending.peer e.0.told) }
 {
     // A law that the proof cites.
     keeps_its_reader();
@@ -201,6 +206,10 @@ pub fn publish_over<
     ensures faulted { IfOk result (λ e. IfSome (fault_in (reading_left e.0.input)) (λ fault. e.0.ending ≡ Err fault)) }
     // Where it ends whole its device was given no end to tell but the reading's.
     ensures told { IfOk result (λ e. e.0.ending ≡ Ok Whole → has_told_alone e.0.ends plan.now.geometry (end_in (reading_left e.0.input)) ≡ true) }
+    // Where it ends without a fault its device was given no other end to tell.
+    ensures no_other { IfOk result (λ e. IfOk e.0.ending (λ _. has_told_no_other e.0.ends plan.now.geometry (end_in (reading_left e.0.input)) ≡ true)) }
+    // Where it ends short a line has said why.
+    ensures short { IfOk result (λ e. e.0.ending ≡ Ok Short → EndsShort parts.state.log parts.passes plan.now parts.peer e.0.told) }
 {
     let PublisherParts {
         began,
@@ -238,20 +247,30 @@ pub fn publish_over<
 }
 
 /// Why there is no device along this route: the system refuses a socket, or memory was refused.
-fn fault_along(route: &Route, error: DeviceError) -> PublishFault
-    ensures { result ≡ of_device route.now error }
+fn fault_along(route: &Route, error: OpenError) -> PublishFault
+    ensures { result ≡ of_opening route.now error }
 {
     match error {
-        DeviceError::Device => PublishFault::NoSocket(*route),
-        DeviceError::Memory => PublishFault::Failed(DeviceError::Memory),
+        OpenError::Refused(number) => PublishFault::NoSocket(*route, number),
+        OpenError::Memory => PublishFault::Failed(DeviceError::Memory),
     }
 }
 
-/// The device along a route.
-pub fn connected<R: Net>(rt: &R, alloc: Global, route: &Route) -> Result<UdpDevice, PublishFault>
-    ensures { IfErr result (λ fault. (error : DeviceError) × (fault ≡ of_device route.now error)) }
+/// The device along a route, which waits for the plan's stream's start.
+pub fn connected<R: Net>(
+    rt: &R,
+    alloc: Global,
+    plan: &PublishPlan,
+    route: &Route,
+) -> Result<TiedDevice, PublishFault>
+    ensures waits { IfOk result (λ t. t ≡ tied_waiting hearing_anybody route.now.peer (Some (record { sent = identity_of plan.now; start = plan.now.start }))) }
+    ensures refused { IfErr result (λ fault. (error : OpenError) × (fault ≡ of_opening route.now error)) }
 {
-    match UdpDevice::bind_along(rt, alloc, route) {
+    let awaited = Awaited {
+        sent: planned_stream(plan),
+        start: plan.start,
+    };
+    match TiedDevice::along(rt, alloc, route, awaited) {
         Ok(device) => Ok(device),
         Err(error) => Err(fault_along(route, error)),
     }
@@ -263,11 +282,12 @@ fn prepared<R: Net + Clock>(
     alloc: Global,
     plan: &PublishPlan,
     route: &Route,
-) -> Result<PublisherParts<ChannelDevice<UdpDevice>>, PublishFault>
-    ensures { IfOk result (λ p. ArePublisherParts plan.now p) }
+) -> Result<PublisherParts<ChannelDevice<TiedDevice>>, PublishFault>
+    ensures parts { IfOk result (λ p. ArePublisherParts plan.now p) }
+    ensures peer { IfOk result (λ p. p.peer ≡ route.now.peer) }
 {
     let began = Began::now(rt)?;
-    let device = connected(rt, alloc, route)?;
+    let device = connected(rt, alloc, plan, route)?;
     publisher_parts(alloc, plan, began, route.peer, device)
 }
 
@@ -285,17 +305,6 @@ pub fn buffered<I: Read + Drop>(
     }
 }
 
-/// Tells that what was published can't be shown, where all was sent and its log couldn't be closed.
-fn tell_if_unshown<E: Write>(
-    errors: &mut E,
-    sent: &Result<Ending, PublishFault>,
-    ending: &Result<Ending, PublishFault>,
-) {
-    if *sent == Ok(Ending::Whole) && *ending != Ok(Ending::Whole) {
-        let _ = tell_unshown(errors);
-    }
-}
-
 /// Publishes the messages of the input as planned, along a route, and answers how it ended. Another receiver that comes, that
 /// nobody does, a fault of the input, why it gave up, an empty input and the counters are lines of `errors`: where it ends
 /// short a line says why.
@@ -307,8 +316,9 @@ fn tell_if_unshown<E: Write>(
 /// process, or at its next message. It ends whole only where all of the input was read, and its log is closed then.
 ///
 /// The fault is `Input` where a message couldn't be read, and what came before it was delivered or given up on, `Full` at
-/// the stream's last position, `NoSocket` where the system refused one along the route, `Device` where a thread or the clock
-/// couldn't be had or each call of the socket failed for the plan's linger, and `Memory` where memory was refused.
+/// the stream's last position, `NoSocket` where the system refused one along the route, `NoThread` where it refused a thread,
+/// `Device` where the clock couldn't be read or each call of the socket failed for the plan's linger, and `Memory` where memory
+/// was refused.
 pub fn publish<
     R: Threads + Wait + Clock + Net + Sync + Send + Copy + 'static,
     I: Read + Send + Drop + 'static,
@@ -321,13 +331,14 @@ pub fn publish<
     input: I,
     errors: &mut E,
 ) -> Result<Ending, PublishFault>
-    ensures { result ≡ Ok Whole → PublishesAll plan.now (I.remaining input) }
+    ensures whole { result ≡ Ok Whole → PublishesAll plan.now (I.remaining input) }
+    ensures short { result ≡ Ok Short → SaysItsShortfall plan.now route.now.peer }
 {
     let input = buffered(alloc, input)?;
     let parts = prepared(rt, alloc, plan, route)?;
     let (published, end) = publish_over(rt, alloc, plan, parts, input, errors)?;
-    let sent = published.ending;
+    let (sent, told) = (published.ending, published.told);
     let ending = ending_of(published, end);
-    tell_if_unshown(errors, &sent, &ending);
+    let _why = tell_if_unclosed(errors, route.peer, told, &sent, &ending);
     ending
 }

@@ -1,6 +1,6 @@
 ghost use Rattle.std.specs.Prelude.{◌≡◌, Some};
 ghost use Rattle.publisher.specs.Faults.{publish_fault};
-ghost use Rattle.publisher.specs.Texts.{text_of};
+ghost use Rattle.publisher.specs.Texts.{number_of, text_of};
 ghost use Rattle.endpoint.specs.declared.device_error.DeviceError.TheVariants.{Device, Memory};
 ghost use Rattle.publisher.specs.declared.fault.PublishFault.TheVariants.{Failed};
 
@@ -18,9 +18,12 @@ pub enum PublishFault {
     Input(InputFault),
     /// The stream has come to its last position.
     Full,
-    /// The system refuses a socket along this route: this machine doesn't have the address, or no way leads to the peer.
-    NoSocket(Route),
-    /// The socket, a thread or the clock failed, or memory was refused.
+    /// The system refuses a socket along this route: this machine doesn't have the address, no way leads to the peer, or it
+    /// isn't permitted; with the system's number, where it gave one.
+    NoSocket(Route, Option<i32>),
+    /// The system gives no thread.
+    NoThread,
+    /// The socket or the clock failed, or memory was refused.
     Failed(DeviceError),
 }
 
@@ -31,16 +34,30 @@ impl fmt::Display for PublishFault {
         match *self {
             PublishFault::Input(fault) => write!(f, "{fault}"),
             PublishFault::Full => write!(f, "the stream is at its last position"),
-            PublishFault::NoSocket(route) => {
+            PublishFault::NoSocket(route, _) => {
                 let (from, to) = (route.binding.address, route.peer);
                 write!(f, "the system gives no socket from {from} to {to}")
             }
+            PublishFault::NoThread => write!(f, "device: the system gives no thread"),
             PublishFault::Failed(error) => write!(f, "{error}"),
         }
     }
 }
 
 impl Error for PublishFault {}
+
+impl PublishFault {
+    /// The system's number of what failed, if it gave one.
+    pub fn number(&self) -> Option<i32>
+        ensures { result ≡ number_of self.now }
+    {
+        match *self {
+            PublishFault::Input(fault) => fault.number(),
+            PublishFault::NoSocket(_, number) => number,
+            _ => None,
+        }
+    }
+}
 
 impl From<ReadingFault> for PublishFault {
     ghost from_gives = { λ from fault. fault ≡ publish_fault from };

@@ -1,5 +1,6 @@
 //! How the end was judged.
 
+use crate::telling::ToldShortfall;
 use offering::Reading;
 use peer::Ending;
 
@@ -8,4 +9,6 @@ use peer::Ending;
 pub struct Judged {
     pub ending: Ending,
     pub reading: Option<Reading>,
+    /// The line that said why it ends short, where it does.
+    pub told: Option<ToldShortfall>,
 }

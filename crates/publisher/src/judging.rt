@@ -2,10 +2,11 @@
 
 ghost use Rattle.std.specs.Prelude.{◌≡◌, ◌||◌, true, ℕ, if◌then◌else◌, Err, IfErr, IfOk, IfSome, IsTrue, OnErr, OnOk};
 ghost use Rattle.endpoint.specs.declared.device_error.DeviceError.TheVariants.{Device};
-ghost use Rattle.peer.specs.Silences.{seen_at};
+ghost use Rattle.peer.specs.Silences.{judged, seen_at};
 ghost use Rattle.publisher.specs.declared.fault.PublishFault.TheVariants.{Failed};
 ghost use Rattle.publisher.specs.Judging.{FailsBy, IsStop, device_fault, end_in, fault_in, input_fault, messages_in, reading_fault, tail_in};
 ghost use Rattle.publisher.specs.Progress.{Judges, is_alone, is_broken, seen, shown_at, with_fault, with_work};
+ghost use Rattle.publisher.specs.Whys.{HasToldWhy};
 
 use crate::fault::PublishFault;
 use crate::judged::Judged;
@@ -13,12 +14,14 @@ use crate::looking::Seen;
 use crate::progress::{Progress, told_in};
 use crate::publisher_context::PublisherContext;
 use crate::telling::{
-    Counts, shortfall_of, tell_alone, tell_change, tell_counters, tell_ending, tell_fault,
+    Counts, Totals, shortfall_of, tell_alone, tell_change, tell_counters, tell_ending, tell_fault,
+    tell_totals,
 };
 use endpoint::DeviceError;
 use offering::{Reading, ReadingEnd};
 use std::io::Write;
 use std::net::SocketAddr;
+use text::Pace;
 
 /// Why the reading stopped, if that wasn't the input's end.
 pub fn fault_in(reading: &Option<Reading>) -> Option<PublishFault>
@@ -133,21 +136,23 @@ fn tell_receivers<E: Write>(progress: &mut Progress, cycle: &Seen, errors: &mut 
     }
 }
 
-/// Tells the counters once a second, where they are asked for.
+/// Tells the counters once a second and at the last, where they are asked for.
 fn tell_counts<R, E: Write>(
     context: &PublisherContext<'_, R>,
     progress: &mut Progress,
     cycle: &Seen,
     errors: &mut E,
     now: u64,
+    last: bool,
 )
-    ensures { (messages : ℕ) × (progress.new ≡ (if context.now.plan.now.end.counters then shown_at progress.old messages now else progress.old)) }
+    ensures told { (messages : ℕ) × (progress.new ≡ (if context.now.plan.now.end.counters then shown_at progress.old messages now last else progress.old)) }
+    ensures kept { (progress.new.statuses ≡ progress.old.statuses) × (progress.new.faulted ≡ progress.old.faulted) }
 {
     let (plan, messages) = (context.plan, context.state.messages());
     if !plan.end.counters {
         return;
     }
-    if let Some(recent) = progress.shows(messages, now) {
+    if let Some(recent) = progress.shows(messages, now, last) {
         let counts = Counts {
             session: plan.session,
             messages,
@@ -177,6 +182,7 @@ pub(crate) fn judge<R, E: Write>(
 ) -> Result<Option<Judged>, PublishFault>
     ensures judges { IfOk result (λ judged. Judges progress.new cycle.now context.now.plan.now.linger context.now.plan.now.wait now judged) }
     ensures seen { IfOk result (λ _. progress.new.statuses ≡ seen_at progress.old.statuses cycle.now.tally.statuses now) }
+    ensures told { IfOk result (λ answer. IfSome answer (HasToldWhy peer cycle.now.attendance (judged progress.new.statuses cycle.now.at_rest now))) }
     ensures broken { IsTrue (is_broken progress.old cycle.now.worked context.now.plan.now.linger now) → result ≡ Err (Failed Device) }
     ensures fails { IfErr result (FailsBy (is_broken progress.old cycle.now.worked context.now.plan.now.linger now)) }
 {
@@ -187,13 +193,27 @@ pub(crate) fn judge<R, E: Write>(
     check_device(progress, cycle, plan.linger, now)?;
     check_reading(progress, &reading, messages, errors)?;
     tell_receivers(progress, cycle, errors, now);
-    tell_counts(context, progress, cycle, errors, now);
     let (end, silence) = (end_in(&reading), progress.silence(cycle, now));
     let attendance = cycle.attendance;
-    let Some(ending) = attendance.ending(end, silence, plan.linger, plan.wait) else {
+    let ending = attendance.ending(end, silence, plan.linger, plan.wait);
+    tell_counts(context, progress, cycle, errors, now, ending.is_some());
+    let Some(ending) = ending else {
         return Ok(None);
     };
     let shortfall = shortfall_of(&attendance, end, tail, silence);
-    let _ = tell_ending(errors, ending, peer, shortfall, attendance.start, tail);
-    Ok(Some(Judged { ending, reading }))
+    let (_, told) = tell_ending(errors, ending, peer, shortfall, attendance.start, tail);
+    let totals = Totals {
+        pace: Pace {
+            count: messages,
+            nanoseconds: now,
+        },
+        bytes: tail.saturating_sub(attendance.start),
+        resends: cycle.tally.resends,
+    };
+    let _ = tell_totals(errors, totals);
+    Ok(Some(Judged {
+        ending,
+        reading,
+        told,
+    }))
 }

@@ -16,10 +16,12 @@
 //! the conductor, by which the log is kept (`KeepsLog`), and each message is offered at a length that the log takes. Its device
 //! takes what fails for lost, loses by the plan's rates and seed, and screens and notes the plan's stream from the plan's start
 //! (`publisher_parts`, by `ArePublisherParts` and `device_of`); in each cycle it is told up to where the sender has sent. It
-//! ends by its device's attendance, by how the reading had ended, the plan's linger and wait, and a silence that is judged only
-//! where the socket was empty (`send_all`, by `Ends`; `Progress`). Reading stops only at a full stream or the input's fault,
-//! which is told before one of sending; the texts that are told are exact. Where it ends whole, each end that its device was
-//! given to tell is where the reading's messages end (`publish`, by `TellsItsEnd`).
+//! ends by its device's attendance, by how the reading had ended, the plan's linger and wait, and the silence that its cycles
+//! have shown, each at its moment, judged only where the socket was empty (`send_all`, by `EndsBehind`; `Progress`). Reading
+//! stops only at a full stream or the input's fault, which is told before one of sending; the texts that are told are exact.
+//! Where it ends whole, each end that its device was given to tell is where the reading's messages end (`publish`, by
+//! `TellsItsEnd`). Where it ends short it was given no other end to tell, and a line was given that says why: it gave up by
+//! such a silence, or its log couldn't be closed (`publish`, by `SaysItsShortfall`; only giving it makes a `ToldShortfall`).
 //!
 //! While the reading goes on its thread hides the pass, so of a publisher that ends before it no more is said; nor which
 //! datagrams went out, since its device tells nothing; nor that anything is read or sent: `tools/channels` shows it.
@@ -52,10 +54,10 @@ pub use progress::{Progress, told_in};
 pub use publisher_context::PublisherContext;
 pub use sender_thread::{SenderPasses, end_unless_judged, keep};
 pub use telling::{
-    Counts, Shortfall, shortfall_of, tell_alone, tell_change, tell_counters, tell_refused,
-    tell_shortfall, tell_whole,
+    Counts, Shortfall, ToldShortfall, Totals, shortfall_of, tell_alone, tell_change, tell_counters,
+    tell_if_elsewhere, tell_refused, tell_shortfall, tell_totals, tell_whole, tell_why,
 };
 pub use two_threads::{
-    FAREWELL_PAUSE, FAREWELLS, Published, ended, ending_told, farewell_in, has_told_alone,
-    input_end, reading_left,
+    FAREWELL_PAUSE, FAREWELLS, Published, ended, ending_in_all, ending_told, ending_unless_another,
+    farewell_in, has_told_alone, has_told_no_other, input_end, reading_left, told_of,
 };

@@ -1,6 +1,6 @@
 //! The end of a publisher's log.
 
-ghost use Rattle.std.specs.Prelude.{◌≡◌, ◌∷◌, ◌++◌, [], IfSome, Ok};
+ghost use Rattle.std.specs.Prelude.{◌≡◌, ◌⊎◌, ◌∷◌, ◌++◌, [], IfSome, Ok};
 ghost use Rattle.std.specs.Arc.{arc_value};
 ghost use Rattle.std.specs.List.{AllByRecursion};
 ghost use Rattle.peer.specs.declared.ending.Ending.TheVariants.{Whole};
@@ -8,6 +8,7 @@ ghost use Rattle.shared_log.specs.Books.{IsCommittedBy, IsDone};
 ghost use Rattle.shared_log.specs.Handles.{LogValue};
 ghost use Rattle.shared_log.specs.Readers.{known_of};
 ghost use Rattle.publisher.specs.Ended.{CanClose, IsClosed, LeavesLog, ShowsAll};
+ghost use Rattle.publisher.specs.Shorts.{unclosed};
 
 use crate::fault::PublishFault;
 use crate::two_threads::Published;
@@ -59,7 +60,8 @@ fn closed(end: LogEnd, publisher: Publisher) -> Option<Book>
 
 /// How one ended whose log isn't closed: not whole.
 fn unclosed(ending: Result<Ending, PublishFault>) -> Result<Ending, PublishFault>
-    ensures { result ≡ Ok Whole → ⊥ }
+    ensures short { result ≡ Ok Whole → ⊥ }
+    ensures kept { result ≡ unclosed ending }
 {
     match ending {
         Ok(_) => Ok(Ending::Short),
@@ -73,10 +75,12 @@ pub(crate) fn ending_of<I: Drop>(
     end: LogEnd,
 ) -> Result<Ending, PublishFault>
     requires { CanClose published.input end }
-    ensures { result ≡ Ok Whole → (published.ending ≡ Ok Whole) × IsClosed published.input end }
+    ensures whole { result ≡ Ok Whole → (published.ending ≡ Ok Whole) × IsClosed published.input end }
+    ensures kept { (result ≡ published.ending) ⊎ (result ≡ unclosed published.ending) }
 {
     let Published {
         ending,
+        told: _,
         attendance: _,
         ends: _,
         input,

@@ -84,13 +84,13 @@ impl Progress {
         !works && linger <= self.worked.lasts(now)
     }
 
-    /// How many messages were accepted since counters were told, if they are to be told at this moment; then the next second
-    /// begins.
-    pub fn shows(&mut self, messages: u64, now: u64) -> Option<u64>
-        ensures due { result ≡ shown_messages self.old messages now }
-        ensures shown { self.new ≡ shown_at self.old messages now }
+    /// How many messages were accepted since counters were told, if they are to be told at this moment, as always at the last;
+    /// then the next second begins.
+    pub fn shows(&mut self, messages: u64, now: u64, last: bool) -> Option<u64>
+        ensures due { result ≡ shown_messages self.old messages now last }
+        ensures shown { self.new ≡ shown_at self.old messages now last }
     {
-        if now.saturating_sub(self.shown) < SECOND {
+        if !last && now.saturating_sub(self.shown) < SECOND {
             return None;
         }
         let recent = messages.saturating_sub(self.messages);

@@ -9,7 +9,8 @@ ghost use Rattle.publisher.specs.Keeping.{KeepsLog};
 ghost use Rattle.publisher.specs.Looking.{calls_of, seen_of};
 ghost use Rattle.publisher.specs.Openings.{ArePasses, IsKept};
 ghost use Rattle.publisher.specs.Farewells.{TellsEnd, end_unless_judged};
-ghost use Rattle.publisher.specs.Progress.{Ends, end_to_tell, with_end_told};
+ghost use Rattle.publisher.specs.Progress.{end_to_tell, with_end_told};
+ghost use Rattle.publisher.specs.Turns.{EndsBehind, TurnsOne};
 
 use crate::fault::PublishFault;
 use crate::judged::Judged;
@@ -57,17 +58,18 @@ fn begin<D>(sender: &mut ChannelSender<'_, D>)
     ensures told { sender.new.passes.duty.device.watch ≡ told sender.old.passes.duty.device.watch sender.old.agent.core.handler.at }
     ensures inner { sender.new.passes.duty.device.inner ≡ sender.old.passes.duty.device.inner }
     ensures agent { sender.new.agent ≡ sender.old.agent }
+    ensures peer { sender.new.peer ≡ sender.old.peer }
     ensures passes { sender.new.passes ≡ record sender.old.passes { duty = record sender.old.passes.duty { device = sender.new.passes.duty.device } } }
 {
     let position = sender.agent.position();
     believe(&mut sender.passes.duty, position);
 }
 
-/// Up to where the stream was sent, and how many datagrams were sent again. What else comes and goes is no work: while nothing
-/// is published heartbeats and status messages go on, and the thread rests between them.
-fn work_of<D>(sender: &ChannelSender<'_, D>) -> (u64, u64) {
+/// Up to where the stream was sent, how many datagrams were sent again, and how many were passed over. What else comes and goes
+/// is no work: while nothing is published heartbeats and status messages go on, and the thread rests between them.
+fn work_of<D>(sender: &ChannelSender<'_, D>) -> (u64, u64, u64) {
     let tally = sender.passes.duty.device().tally();
-    (sender.agent.position(), tally.resends)
+    (sender.agent.position(), tally.resends, tally.passed)
 }
 
 /// A cycle of the conductor, with what a sender keeps the log by. Whether there was work.
@@ -97,6 +99,7 @@ fn run_cycle<R: Wait + Clock, D: Datagrams>(
     ensures agent { SendsLog context.now.state.now.log sender.new.agent }
     ensures lives { Lived sender.old.agent.core sender.new.agent.core }
     ensures told { IfOk result (λ _. LivedTo now sender.old.agent.core sender.new.agent.core) }
+    ensures peer { sender.new.peer ≡ sender.old.peer }
     ensures passes { ArePasses context.now.state.now.log context.now.conductor.now sender.new.passes }
     ensures keeps { IfOk result (λ busy. KeepsLog context.now.state.now.log sender.old.passes busy sender.new.passes) }
 {
@@ -122,6 +125,7 @@ fn cycle<R: Wait + Clock, D: Datagrams>(
     ensures agent { SendsLog context.now.state.now.log sender.new.agent }
     ensures lives { Lived sender.old.agent.core sender.new.agent.core }
     ensures told { IfOk result (λ _. LivedTo now sender.old.agent.core sender.new.agent.core) }
+    ensures peer { sender.new.peer ≡ sender.old.peer }
     ensures passes { ArePasses context.now.state.now.log context.now.conductor.now sender.new.passes }
     ensures seen { IfOk result (λ r. r.1 ≡ seen_of (calls_of sender.old.passes.duty.device) sender.new.passes.duty.device) }
     ensures keeps { IfOk result (λ r. KeepsLog context.now.state.now.log sender.old.passes r.0 sender.new.passes) }
@@ -153,6 +157,7 @@ fn tell_end_where_due<D: Datagrams>(
     ensures told { TellsEnd (end_to_tell progress.old end sender.old.agent.core.handler.at now) sender.old.passes.duty.device.watch sender.new.passes.duty.device.watch }
     ensures progress { progress.new ≡ with_end_told progress.old (end_to_tell progress.old end sender.old.agent.core.handler.at now) now }
     ensures agent { sender.new.agent ≡ sender.old.agent }
+    ensures peer { sender.new.peer ≡ sender.old.peer }
     ensures passes { sender.new.passes ≡ record sender.old.passes { duty = record sender.old.passes.duty { device = sender.new.passes.duty.device } } }
 {
     if let Some(tail) = progress.end_to_tell(end, sender.agent.position(), now) {
@@ -161,7 +166,7 @@ fn tell_end_where_due<D: Datagrams>(
 }
 
 /// A cycle at this moment, judged. Whether there was work, and how the publisher ends, if it does.
-#[tactic(auto, using(crate::proofs::Ends::ends, crate::proofs::Told::keeps_still, crate::proofs::Told::heard_still))]
+#[tactic(auto, using(crate::proofs::Told::keeps_still))]
 fn turn<R: Wait + Clock, D: Datagrams, E: Write>(
     context: &PublisherContext<'_, R>,
     sender: &mut ChannelSender<'_, D>,
@@ -173,8 +178,9 @@ fn turn<R: Wait + Clock, D: Datagrams, E: Write>(
     ensures agent { SendsLog context.now.state.now.log sender.new.agent }
     ensures lives { Lived sender.old.agent.core sender.new.agent.core }
     ensures told { IfOk result (λ _. (now : ℕ) × LivedTo now sender.old.agent.core sender.new.agent.core) }
+    ensures peer { sender.new.peer ≡ sender.old.peer }
     ensures passes { ArePasses context.now.state.now.log context.now.conductor.now sender.new.passes }
-    ensures ends { IfOk result (λ r. IfSome r.1 (Ends sender.new.passes.duty.device.watch.attendance context.now.plan.now.linger context.now.plan.now.wait)) }
+    ensures turns { IfOk result (λ r. TurnsOne progress.old progress.new context.now.plan.now.linger context.now.plan.now.wait sender.old r.1 sender.new) }
     ensures keeps { IfOk result (λ r. KeepsLog context.now.state.now.log sender.old.passes r.0 sender.new.passes) }
 {
     let now = context.began.moment(context.rt)?;
@@ -198,8 +204,9 @@ pub fn send_all<R: Wait + Clock, D: Datagrams, E: Write>(
     ensures agent { SendsLog context.now.state.now.log sender.new.agent }
     ensures lives { Lived sender.old.agent.core sender.new.agent.core }
     ensures told { IfOk result (λ _. (now : ℕ) × LivedTo now sender.old.agent.core sender.new.agent.core) }
+    ensures peer { sender.new.peer ≡ sender.old.peer }
     ensures keeper { IsKept context.now.state.now.log sender.new.passes.keeper }
-    ensures ends { IfOk result (λ judged. Ends sender.new.passes.duty.device.watch.attendance context.now.plan.now.linger context.now.plan.now.wait judged) }
+    ensures ends { IfOk result (λ judged. EndsBehind sender.old sender.new context.now.plan.now.linger context.now.plan.now.wait judged) }
 {
     let mut progress = Progress::new();
     let mut idle = IdleStrategy::new();

@@ -1,9 +1,10 @@
 //! What a publisher tells on its error output, a line each. An error is the output's.
 
-ghost use Rattle.std.specs.Prelude.{◌≡◌, ◌≢◌, OnOk, Some};
+ghost use Rattle.std.specs.Prelude.{◌≡◌, ◌≢◌, IsTrue, OnOk, Some};
 ghost use Rattle.std.specs.Io.KnownBytes.{Appends};
 ghost use Rattle.frames.specs.FaultCounts.{uncounted};
-ghost use Rattle.publisher.specs.Texts.{alone_line, change_text, counters_line, empty_line, ending_text, fault_line, gave_up_line, gave_up_text, joined_text, left_text, refused_line, shortfall_of, stream_text, traffic_text, unshown_line, whole_text};
+ghost use Rattle.publisher.specs.Texts.{alone_line, change_text, counters_line, empty_line, ending_text, fault_line, gave_up_line, gave_up_text, joined_text, left_text, refused_line, shortfall_of, stream_text, totals_line, totals_text, traffic_text, whole_text};
+ghost use Rattle.publisher.specs.Whys.{SaysElsewhere, SaysUnclosed, TellsWhy};
 
 use crate::fault::PublishFault;
 use frames::FaultCounts;
@@ -11,6 +12,7 @@ use peer::{Attendance, Ending, Heard, Tally};
 use std::io::Write;
 use std::net::SocketAddr;
 use std::{fmt, io};
+use text::Pace;
 
 /// The nanoseconds of a second.
 const NANOSECONDS_PER_SECOND: u64 = 1_000_000_000;
@@ -122,6 +124,10 @@ pub enum Shortfall {
     },
     /// The stream's end was acknowledged, but not by one that was there from the start on, alone.
     Several,
+    /// All was acknowledged, but the input ended elsewhere than where the stream was taken to.
+    Elsewhere,
+    /// All was acknowledged, but the log couldn't be closed: memory was refused, or a thread still has it.
+    Unclosed,
 }
 
 /// A publisher's end towards a subscriber: its address, and why it gave up on it.
@@ -148,6 +154,14 @@ impl fmt::Display for GaveUp {
             Shortfall::Several => write!(
                 f,
                 "not all was written at {peer} by one subscriber that was there from the start on"
+            ),
+            Shortfall::Elsewhere => write!(
+                f,
+                "gave up: the input ended elsewhere than where the stream was taken to"
+            ),
+            Shortfall::Unclosed => write!(
+                f,
+                "gave up: the log couldn't be closed, since memory was refused or a thread still has it"
             ),
         }
     }
@@ -188,6 +202,28 @@ pub fn tell_shortfall<E: Write>(
     writeln!(errors, "{gave_up}")
 }
 
+/// A line that was given to an output: why a publisher gave up on the subscriber there. Only who gives it makes one.
+#[derive(Clone, Copy)]
+pub struct ToldShortfall {
+    pub peer: SocketAddr,
+    pub shortfall: Shortfall,
+    /// Whether the output took it.
+    taken: bool,
+}
+
+/// Gives the line of why it gave up on the subscriber there.
+pub fn tell_why<E: Write>(errors: &mut E, peer: SocketAddr, shortfall: Shortfall) -> ToldShortfall
+    ensures why { (result.peer ≡ peer) × (result.shortfall ≡ shortfall) }
+    ensures line { IsTrue result.taken → Appends (E.contents errors.old) (E.contents errors.new) (gave_up_line peer shortfall) }
+{
+    let taken = tell_shortfall(errors, peer, shortfall).is_ok();
+    ToldShortfall {
+        peer,
+        shortfall,
+        taken,
+    }
+}
+
 /// The input was empty.
 fn tell_empty<E: Write>(errors: &mut E) -> io::Result<()>
     ensures { OnOk result (Appends (E.contents errors.old) (E.contents errors.new) empty_line) }
@@ -206,7 +242,7 @@ pub fn tell_whole<E: Write>(errors: &mut E, start: u64, tail: u64) -> io::Result
 }
 
 /// How it ends: why it gave up on the subscriber there, if it did; else whether anything was published of a stream from
-/// `start` to `tail`.
+/// `start` to `tail`. Whether the output took that, and the line that says why.
 pub(crate) fn tell_ending<E: Write>(
     errors: &mut E,
     ending: Ending,
@@ -214,23 +250,49 @@ pub(crate) fn tell_ending<E: Write>(
     shortfall: Shortfall,
     start: u64,
     tail: u64,
-) -> io::Result<()>
-    ensures { OnOk result (Appends (E.contents errors.old) (E.contents errors.new) (ending_text ending peer shortfall start tail)) }
+) -> (bool, Option<ToldShortfall>)
+    ensures line { IsTrue result.0 → Appends (E.contents errors.old) (E.contents errors.new) (ending_text ending peer shortfall start tail) }
+    ensures why { TellsWhy ending peer shortfall result.1 }
 {
     match ending {
-        Ending::Whole => tell_whole(errors, start, tail),
-        Ending::Short => tell_shortfall(errors, peer, shortfall),
+        Ending::Whole => (tell_whole(errors, start, tail).is_ok(), None),
+        Ending::Short => {
+            let told = tell_why(errors, peer, shortfall);
+            (told.taken, Some(told))
+        }
     }
 }
 
-/// What was published can't be shown: memory was refused, or a thread still has the log.
-pub(crate) fn tell_unshown<E: Write>(errors: &mut E) -> io::Result<()>
-    ensures { OnOk result (Appends (E.contents errors.old) (E.contents errors.new) unshown_line) }
+/// Where it ends short and no line has said why, one does now: the input ended elsewhere than where the stream was taken to.
+pub fn tell_if_elsewhere<E: Write>(
+    errors: &mut E,
+    peer: SocketAddr,
+    told: Option<ToldShortfall>,
+    ending: &Result<Ending, PublishFault>,
+) -> Option<ToldShortfall>
+    ensures { SaysElsewhere peer told ending.now result }
 {
-    writeln!(
-        errors,
-        "gave up: the log couldn't be closed, since memory was refused or a thread still has it"
-    )
+    match (told, ending) {
+        (Some(told), _) => Some(told),
+        (None, Ok(Ending::Short)) => Some(tell_why(errors, peer, Shortfall::Elsewhere)),
+        (None, _) => None,
+    }
+}
+
+/// Where all was sent and its log couldn't be closed, a line says so.
+pub(crate) fn tell_if_unclosed<E: Write>(
+    errors: &mut E,
+    peer: SocketAddr,
+    told: Option<ToldShortfall>,
+    sent: &Result<Ending, PublishFault>,
+    ending: &Result<Ending, PublishFault>,
+) -> Option<ToldShortfall>
+    ensures { SaysUnclosed peer told sent.now ending.now result }
+{
+    match (sent, ending) {
+        (Ok(Ending::Whole), Ok(Ending::Short)) => Some(tell_why(errors, peer, Shortfall::Unclosed)),
+        _ => told,
+    }
 }
 
 /// Nobody was heard for five seconds.
@@ -256,6 +318,45 @@ pub fn tell_counters<E: Write>(errors: &mut E, counts: Counts) -> io::Result<()>
 {
     let (stream, traffic) = (Stream(counts), Traffic(counts));
     writeln!(errors, "{stream} {traffic}")
+}
+
+/// What a publisher has done at its end.
+#[derive(Clone, Copy)]
+pub struct Totals {
+    /// How many messages were accepted, and for how long it published.
+    pub pace: Pace,
+    /// How many bytes of the stream they are, with headers and alignment.
+    pub bytes: u64,
+    /// How many datagrams were sent again.
+    pub resends: u64,
+}
+
+impl fmt::Display for Totals {
+    ghost output = { λ totals. Some (totals_text totals) };
+
+    fn fmt<W: fmt::Write>(&self, f: &mut fmt::Formatter<W>) -> fmt::Result {
+        let Totals {
+            pace,
+            bytes,
+            resends,
+        } = *self;
+        let messages = pace.count;
+        write!(
+            f,
+            "published {messages} messages, {bytes} bytes of stream, {pace}; {resends} datagrams sent again"
+        )
+    }
+}
+
+/// What it has done, in all, where it was any message.
+pub fn tell_totals<E: Write>(errors: &mut E, totals: Totals) -> io::Result<()>
+    ensures some { totals.pace.count ≢ 0 → OnOk result (Appends (E.contents errors.old) (E.contents errors.new) (totals_line totals)) }
+    ensures none { totals.pace.count ≡ 0 → OnOk result (E.contents errors.new ≡ E.contents errors.old) }
+{
+    if totals.pace.count == 0 {
+        return Ok(());
+    }
+    writeln!(errors, "{totals}")
 }
 
 /// How many datagrams were refused, by their faults, where any was.

@@ -1,14 +1,16 @@
 //! The two threads of a publisher: one reads messages and offers them, the other sends, keeps the log and decides the end.
 
-ghost use Rattle.std.specs.Prelude.{◌≡◌, Err, IfSome, Ok, true};
+ghost use Rattle.std.specs.Prelude.{◌≡◌, Err, IfOk, IfSome, Ok, true};
 ghost use Rattle.agents.specs.LogSenders.{SendsLog};
-ghost use Rattle.peer.specs.declared.ending.Ending.TheVariants.{Whole};
+ghost use Rattle.peer.specs.declared.ending.Ending.TheVariants.{Short, Whole};
 ghost use Rattle.sender_meaning.specs.Lives.{Lived};
 ghost use Rattle.offering.specs.Ended.{EndsInput};
 ghost use Rattle.publisher.specs.Ended.{AllArrived, reading_left};
-ghost use Rattle.publisher.specs.Farewells.{TellsFarewell, ending_told, farewell_in, has_told_alone};
+ghost use Rattle.publisher.specs.Farewells.{TellsFarewell, ending_in_all, ending_told, ending_unless_another, farewell_in, has_told_alone, has_told_no_other};
 ghost use Rattle.publisher.specs.Judging.{end_in, ended_by, fault_in, is_read};
 ghost use Rattle.publisher.specs.Openings.{ArePasses, IsKept};
+ghost use Rattle.publisher.specs.Turns.{SaysWhy};
+ghost use Rattle.publisher.specs.Whys.{told_by};
 
 use crate::fault::PublishFault;
 use crate::judged::Judged;
@@ -16,9 +18,9 @@ use crate::judging::{end_in, fault_in};
 use crate::looking::ChannelDevice;
 use crate::publisher_context::PublisherContext;
 use crate::sender_thread::{ChannelSender, send_all};
-use crate::telling::tell_refused;
+use crate::telling::{ToldShortfall, tell_if_elsewhere, tell_refused};
 use agents::Duty;
-use endpoint::Datagrams;
+use endpoint::{Datagrams, DeviceError};
 use offering::{InputEnd, Reader, Reading, ReadingEnd};
 use peer::{Attendance, Ending, ToldEnds};
 use position::Geometry;
@@ -38,6 +40,8 @@ pub const FAREWELL_PAUSE: u64 = 20;
 #[derive(Drop)]
 pub struct Published<I> {
     pub ending: Result<Ending, PublishFault>,
+    /// The line that said why it ended short, where it did.
+    pub told: Option<ToldShortfall>,
     pub attendance: Attendance,
     /// The ends of its stream that its device was given to tell.
     pub ends: Option<ToldEnds>,
@@ -100,7 +104,8 @@ pub fn farewell_in(reading: &Option<Reading>, ending: &Result<Ending, PublishFau
     ensures { result ≡ farewell_in reading.now ending.now }
 {
     match *ending {
-        Err(PublishFault::Failed(_) | PublishFault::NoSocket(_)) => None,
+        Err(PublishFault::Failed(_) | PublishFault::NoSocket(_, _) | PublishFault::NoThread) =>
+            None,
         _ => end_in(reading),
     }
 }
@@ -133,6 +138,26 @@ pub fn has_told_alone(ends: Option<ToldEnds>, geometry: &Geometry, end: Option<u
     }
 }
 
+/// Whether a device told no end but this one, if any. The stream's shape bounds it.
+pub fn has_told_no_other(ends: Option<ToldEnds>, geometry: &Geometry, end: Option<u64>) -> bool
+    ensures { result ≡ has_told_no_other ends geometry.now end }
+{
+    ends.is_none() || has_told_alone(ends, geometry, end)
+}
+
+/// How it ended, by whether its device told no other end than the reading's: else that is a fault, whoever was told.
+pub fn ending_unless_another(
+    ending: Result<Ending, PublishFault>,
+    no_other: bool,
+) -> Result<Ending, PublishFault>
+    ensures { result ≡ ending_unless_another ending no_other }
+{
+    match ending {
+        Ok(_) if !no_other => Err(PublishFault::Failed(DeviceError::Device)),
+        _ => ending,
+    }
+}
+
 /// How it ended, by whether its device told the reading's end alone: whole only then.
 pub fn ending_told(
     ending: Result<Ending, PublishFault>,
@@ -157,9 +182,32 @@ pub fn reading_left<I>(input: &Option<InputEnd<I>>) -> Option<Reading>
     }
 }
 
+/// The line that was given as the sending was judged.
+pub fn told_of(sent: &Result<Judged, PublishFault>) -> Option<ToldShortfall>
+    ensures { result ≡ told_by sent.now }
+{
+    match *sent {
+        Ok(ref judged) => judged.told,
+        Err(_) => None,
+    }
+}
+
+/// How it ended, by how its reading did and what was sent, and by the ends that its device told.
+pub fn ending_in_all(
+    ending: Result<Ending, PublishFault>,
+    ends: Option<ToldEnds>,
+    geometry: &Geometry,
+    end: Option<u64>,
+) -> Result<Ending, PublishFault>
+    ensures { result ≡ ending_in_all ending ends geometry.now end }
+{
+    let told_alone = has_told_alone(ends, geometry, end);
+    let no_other = has_told_no_other(ends, geometry, end);
+    ending_unless_another(ending_told(ending, told_alone), no_other)
+}
+
 /// Sends until the publisher ends, and tells the stream's end, where the reading has one. Where the reading has ended by then,
 /// its thread is joined.
-#[tactic(auto, using(crate::proofs::Whole::arrived))]
 pub(crate) fn run<R: Threads + Wait + Clock, I: BufRead + Drop, D: Datagrams, E: Write>(
     context: &PublisherContext<'_, R>,
     sender: &mut ChannelSender<'_, D>,
@@ -178,8 +226,13 @@ pub(crate) fn run<R: Threads + Wait + Clock, I: BufRead + Drop, D: Datagrams, E:
     // Whom its device has heard, and which ends that was given to tell.
     ensures noted { (result.attendance ≡ sender.new.passes.duty.device.watch.attendance) × (result.ends ≡ sender.new.passes.duty.device.watch.ends) }
     ensures told { result.ending ≡ Ok Whole → has_told_alone result.ends context.now.plan.now.geometry (end_in (reading_left result.input)) ≡ true }
+    // Where it ends without a fault it has told no end but the reading's.
+    ensures no_other { IfOk result.ending (λ _. has_told_no_other result.ends context.now.plan.now.geometry (end_in (reading_left result.input)) ≡ true) }
+    // Where it ends short a line has said why.
+    ensures short { result.ending ≡ Ok Short → SaysWhy context.now.plan.now sender.old result.told }
 {
     let sent = send_all(context, sender, errors);
+    let told = told_of(&sent);
     context.state.stop();
     let _ = tell_refused(errors, sender.passes.duty.device().tally().refused);
     let input = input_end(context.rt, context, reader);
@@ -189,9 +242,10 @@ pub(crate) fn run<R: Threads + Wait + Clock, I: BufRead + Drop, D: Datagrams, E:
     bid_farewell(context.rt, &mut sender.passes.duty, end);
     let device = sender.passes.duty.device();
     let (attendance, ends) = (device.attendance(), device.ends());
-    let told_alone = has_told_alone(ends, &context.plan.geometry, end_in(&reading));
+    let ending = ending_in_all(ending, ends, &context.plan.geometry, end_in(&reading));
     Published {
-        ending: ending_told(ending, told_alone),
+        told: tell_if_elsewhere(errors, sender.peer, told, &ending),
+        ending,
         attendance,
         ends,
         input,

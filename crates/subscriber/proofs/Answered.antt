@@ -1,5 +1,5 @@
 -- That a subscriber answers the end of its stream.
-use Rattle.std.proofs.Common.{◌≡◌, ◌∙◌, ◌⊎◌, ℕ, List, [], ◌∷◌, ◌++◌, map, Bool, IsTrue, Option, None, Some, inl, inr, refl, sym, ap, subst, false, true}
+use Rattle.std.proofs.Common.{◌≡◌, ◌∙◌, ◌⊎◌, ◌+◌, ◌%◌, ◌^◌, ℕ, List, [], ◌∷◌, ◌++◌, map, Bool, IsTrue, Option, None, Some, inl, inr, refl, sym, ap, subst, false, true}
 use Rattle.std.specs.declared.net.SocketAddr.{SocketAddr}
 use Rattle.agents.specs.Cycles.{Cycle}
 use Rattle.agents.specs.Parties.{ReceiverHears, ReceiverTicks}
@@ -9,8 +9,10 @@ use Rattle.messages.specs.declared.form.Form.{Form}
 use Rattle.options.specs.declared.ends.plans.SubscribePlan.{SubscribePlan}
 use Rattle.receiver.specs.Lives.{Act, ActsSo, Hears, Lives, Ticks}
 use Rattle.receiver.specs.Subscribing.{Subscribing}
-use Rattle.subscription.specs.Offers.{Offer, SubscriberDevice, setup_taken}
-use Rattle.subscription.specs.Watches.{Seen}
+use Rattle.peer.specs.Ties.{Offer}
+use Rattle.subscription.specs.Offers.{SubscriberDevice, setup_taken}
+use Rattle.subscription.specs.Watches.{AttendsEach, IsWithinTurn, Seen, looking}
+use Rattle.subscription.specs.declared.images.Images.{Images}
 use Rattle.subscription.specs.declared.joined.Joined.{Joined}
 use Rattle.subscription.specs.declared.meeting.Meeting.{Meeting}
 use Rattle.subscriber.proofs.Leaving.{heard_unpolled, listened}
@@ -51,12 +53,12 @@ answered_on s t acts h lives = record {
 
 -- ---- a cycle, and then a look at the end
 
--- it lived on, answered, and then its silence was told
-pub answered_life : (plan : SubscribePlan) (a b c : Option (List ℕ)) (count more : ℕ) (j k l m : Joined) → k.number ≡ j.number → l.number ≡ k.number → m ≡ record l { silent = m.silent }
-    → Follows plan a count j.number j.follower b → LivesOn plan.end.form count j.follower b more k.follower c → ListensOn k.follower l.follower → Follows plan a more m.number m.follower c
-answered_life plan a b c count more j k l m first second told h w on =
-    let lived : Follows plan a more j.number l.follower c = listened plan a c more j.number k.follower l.follower (follows_on plan a b c count more j.number j.follower k.follower h w) on in
-    same_life plan a c more l m (ap (λ x. x.number) told) (ap (λ x. x.follower) told) (subst (λ (n : ℕ). Follows plan a more n l.follower c) (sym (second ∙ first)) lived)
+-- it lived on, answered, and then lines were told
+pub answered_life : (plan : SubscribePlan) (a b c : Option (List ℕ)) (count more : ℕ) (j k l m : Joined) → k.images ≡ j.images → l.images ≡ k.images → m.images ≡ l.images → m.follower ≡ l.follower
+    → Follows plan a count j.images j.follower b → LivesOn plan.end.form count j.follower b more k.follower c → ListensOn k.follower l.follower → Follows plan a more m.images m.follower c
+answered_life plan a b c count more j k l m first second third same h w on =
+    let lived : Follows plan a more j.images l.follower c = listened plan a c more j.images k.follower l.follower (follows_on plan a b c count more j.images j.follower k.follower h w) on in
+    same_life plan a c more l m third same (subst (λ (n : Images). Follows plan a more n l.follower c) (sym (second ∙ first)) lived)
 
 pub ends_answered : (form : Form) (count more at : ℕ) (before after : Option (List ℕ)) (j k l : Joined) (x : Stand) → k.ended ≡ j.ended → WritesActs form count j.follower.subscriber before more k.follower.subscriber after → IsTicked at k.follower.subscriber → LivesUnpolled k.follower.subscriber l.follower.subscriber → AnswersEnd at k l x
     → (IsTrue j.ended → HasAnswered j.follower.subscriber) → IsTrue l.ended → HasAnswered l.follower.subscriber
@@ -86,10 +88,10 @@ ends_answered form count more at before after j k l x same w ticked on a answere
 pub same_answered : (j k : Joined) → k.ended ≡ j.ended → k.follower.subscriber ≡ j.follower.subscriber → (IsTrue j.ended → HasAnswered j.follower.subscriber) → IsTrue k.ended → HasAnswered k.follower.subscriber
 same_answered j k ended same answered so = subst HasAnswered (sym same) (answered (subst (λ (b : Bool). IsTrue b) ended so))
 
-turned : (plan : SubscribePlan) (s t : Seen) (m : Meeting) (rebuilt : ℕ) (j k : Joined) → Passes s m j k t ⊎ Resumes s m rebuilt j k t ⊎ Renews plan s m rebuilt j k t → (IsTrue j.ended → HasAnswered j.follower.subscriber) → IsTrue k.ended → HasAnswered k.follower.subscriber
+turned : (plan : SubscribePlan) (s t : Seen) (m : Meeting) (rebuilt : ℕ) (j k : Joined) → Passes s m rebuilt j k t ⊎ Resumes s m rebuilt j k t ⊎ Renews plan s m rebuilt j k t → (IsTrue j.ended → HasAnswered j.follower.subscriber) → IsTrue k.ended → HasAnswered k.follower.subscriber
 turned plan s t m rebuilt j k (inl p) h = same_answered j k (ap (λ x. x.ended) p.warns.kept) (ap (λ x. x.follower.subscriber) p.warns.kept) h
 turned plan s t m rebuilt j k (inr (inl p)) h = same_answered j k (ap (λ x. x.ended) p.tied) (ap (λ x. x.follower.subscriber) p.tied) h
-turned plan s t m rebuilt j k (inr (inr p)) h = λ so. let not = p.renewed.ended in cc
+turned plan s t m rebuilt j k (inr (inr p)) h = λ so. let not = p.replaced.renewed.ended in cc
 
 considered : (plan : SubscribePlan) (from : SocketAddr) (f : Setup) (s t : Seen) (j k : Joined) → Considers plan s from f j k t → (IsTrue j.ended → HasAnswered j.follower.subscriber) → IsTrue k.ended → HasAnswered k.follower.subscriber
 considered plan from f s t j k (inl p) h = same_answered j k (ap (λ x. x.ended) p.1) (ap (λ x. x.follower.subscriber) p.1) h
@@ -100,4 +102,38 @@ offered plan s t None j k p h = same_answered j k (ap (λ x. x.ended) p.0) (ap (
 offered plan s t (Some offer) j k p h = considered plan offer.0 offer.1 s t j k p h
 
 pub attended_answered : (plan : SubscribePlan) (s t : Seen) (j k : Joined) → Attends plan s j k t → (IsTrue j.ended → HasAnswered j.follower.subscriber) → IsTrue k.ended → HasAnswered k.follower.subscriber
-attended_answered plan s t j k p h = offered plan s t p.0 (with_device j (setup_taken j.duty.device)) k p.2 h
+attended_answered plan s t j k p h = offered plan s p.2 p.0 (with_device j (setup_taken j.duty.device)) k p.3 h
+
+-- ---- turns
+
+turned_within : (plan : SubscribePlan) (s t : Seen) (m : Meeting) (rebuilt : ℕ) (j k : Joined) → Passes s m rebuilt j k t ⊎ Resumes s m rebuilt j k t ⊎ Renews plan s m rebuilt j k t → IsWithinTurn s t
+turned_within plan s t m rebuilt j k (inl p) = record { turns = ap (λ x. x.turns) p.seen; attended = ap (λ x. x.attended) p.seen }
+turned_within plan s t m rebuilt j k (inr (inl p)) = record { turns = ap (λ x. x.turns) p.seen; attended = ap (λ x. x.attended) p.seen }
+turned_within plan s t m rebuilt j k (inr (inr p)) = record { turns = ap (λ x. x.turns) p.seen; attended = ap (λ x. x.attended) p.seen }
+
+considered_within : (plan : SubscribePlan) (from : SocketAddr) (f : Setup) (s t : Seen) (j k : Joined) → Considers plan s from f j k t → IsWithinTurn s t
+considered_within plan from f s t j k (inl p) = record { turns = ap (λ x. x.turns) p.2; attended = ap (λ x. x.attended) p.2 }
+considered_within plan from f s t j k (inr p) = turned_within plan s t p.0 p.2.0 j k p.2.2
+
+offered_within : (plan : SubscribePlan) (s t : Seen) (offer : Offer) (j k : Joined) → ConsidersOffer plan s offer j k t → IsWithinTurn s t
+offered_within plan s t None j k p = record { turns = ap (λ x. x.turns) p.1; attended = ap (λ x. x.attended) p.1 }
+offered_within plan s t (Some offer) j k p = considered_within plan offer.0 offer.1 s t j k p
+
+-- a turn begins, and what came of SETUPs in it is attended
+pub turn_attended : (plan : SubscribePlan) (r s a t : Seen) (now : ℕ) (j k : Joined) → r.turns ≡ r.attended → s ≡ looking r now → IsWithinTurn s a → Attends plan a j k t → t.turns ≡ t.attended
+turn_attended plan r s a t now j k before looks within p =
+    let u = p.2 in
+    let so = offered_within plan a u p.0 (with_device j (setup_taken j.duty.device)) k p.3 in
+    ap (λ x. x.turns) p.4 ∙ so.turns ∙ within.turns ∙ ap (λ x. x.turns) looks
+    ∙ ap (λ (n : ℕ). (n + 1) % 2 ^ 64) (before ∙ sym (ap (λ x. x.attended) looks) ∙ sym within.attended ∙ sym so.attended) ∙ sym (ap (λ x. x.attended) p.4)
+
+-- before that it is one turn ahead
+pub turn_ahead : (r s a : Seen) (now : ℕ) → r.turns ≡ r.attended → s ≡ looking r now → IsWithinTurn s a → AttendsEach a
+turn_ahead r s a now before looks within =
+    within.turns ∙ ap (λ x. x.turns) looks ∙ ap (λ (n : ℕ). (n + 1) % 2 ^ 64) (before ∙ sym (ap (λ x. x.attended) looks) ∙ sym within.attended)
+
+pub within_on : (s t u : Seen) → IsWithinTurn s t → IsWithinTurn t u → IsWithinTurn s u
+within_on s t u a b = record { turns = b.turns ∙ a.turns; attended = b.attended ∙ a.attended }
+
+pub within_told : (s t : Seen) → t ≡ record s { told = t.told; written = t.written } → IsWithinTurn s t
+within_told s t same = record { turns = ap (λ x. x.turns) same; attended = ap (λ x. x.attended) same }

@@ -11,9 +11,10 @@ use Rattle.receiver.specs.Subscribing.{Subscribing}
 use Rattle.subscriber.proofs.Leaving.{fault_unpolled, none_given}
 use Rattle.subscriber.proofs.Lived.{all_polled, delivered_lives, given_on, lives_on, polled_given, spelled_on}
 use Rattle.subscriber.proofs.Told.{none_told, none_told_behind, told_behind, told_first}
+use Rattle.subscription.specs.declared.images.Images.{Images}
 use Rattle.subscriber.specs.Breaking.{BreaksActs, BreaksLife, BreaksLives, StopsAt, WritesTold, is_ticked, told_in}
 use Rattle.subscriber.specs.Deliveries.{BreaksOff, Ends, FailsBehind, Stops}
-use Rattle.subscriber.specs.Living.{IsNumbered, Life, WritesLife, given_through}
+use Rattle.subscriber.specs.Living.{IsLossFrom, IsNumbered, Life, WritesLife, given_through}
 use Rattle.subscriber.specs.declared.delivery.fault.DeliveryFault.{DeliveryFault}
 use Rattle.subscriber.specs.declared.delivery.fault.DeliveryFault.TheVariants as faults
 use Rattle.subscriber.specs.declared.ended.Subscribed.{Subscribed}
@@ -68,8 +69,8 @@ broken_off form most s t a b h =
     }
 
 stopped : (form : Form) (most : ℕ) (fault : DeliveryFault) (s t : Subscribing) (a b : Option (List ℕ)) → Stops form most fault s a t b → BreaksActs form s a t b
-stopped form most faults.Output s t a b (inl h) = broken_off form most s t a b h
-stopped form most faults.Output s t a b (inr (number, h)) =
+stopped form most (faults.Output code) s t a b (inl h) = broken_off form most s t a b h
+stopped form most (faults.Output code) s t a b (inr (number, h)) =
     let polls = delivered_lives form most s t a b number h in
     acts_kept form s t t a b polls.0 h.messages polls.1 (inl refl) polls.2 h.written
 stopped form most (faults.Message error) s t a b (messages, middle, few, polled, refused, written) =
@@ -118,12 +119,12 @@ told_behind_life form older xs ys a b c h w =
         )
 
 -- a fault in a cycle
-pub life_broken : (plan : SubscribePlan) (a b c : Option (List ℕ)) (count number : ℕ) (s t : Subscribing) → WritesLife plan a count number s b → BreaksActs plan.end.form s b t c → BreaksLife plan a t c
+pub life_broken : (plan : SubscribePlan) (a b c : Option (List ℕ)) (count : ℕ) (number : Images) (s t : Subscribing) → WritesLife plan a count number s b → BreaksActs plan.end.form s b t c → BreaksLife plan a t c
 life_broken plan a b c count number s t h w = record {
   newest = record h.newest { acts = h.newest.acts ++ w.acts };
   older = h.older;
   last = w.last;
-  is = record { opens = h.is.opens; first = h.is.first; met = h.is.met; lived = lives_on h.is.first s w.last h.newest.acts w.acts h.is.lived w.lived };
+  is = record { opens = h.is.opens; first = h.is.first; met = h.is.met; lived = lives_on h.is.first s w.last h.newest.acts w.acts h.is.lived w.lived; lacks = subst (IsLossFrom w.last) (sym h.unlost) tt };
   stops = w.stops;
   numbered = numbered h.older h.numbered;
   lives = h.lives;
@@ -135,7 +136,7 @@ life_broken plan a b c count number s t h w = record {
     numbered (m ∷ ms) n = n
 
 -- a fault behind one, by which the subscriber stayed as it was
-pub life_kept : (plan : SubscribePlan) (a b : Option (List ℕ)) (count number : ℕ) (s t : Subscribing) → t ≡ s → WritesLife plan a count number s b → BreaksLife plan a t b
+pub life_kept : (plan : SubscribePlan) (a b : Option (List ℕ)) (count : ℕ) (number : Images) (s t : Subscribing) → t ≡ s → WritesLife plan a count number s b → BreaksLife plan a t b
 life_kept plan a b count number s t same h =
     life_broken plan a b b count number s t h (acts_kept plan.end.form s s t b b [] [] refl (inl same) refl (Appends-nil b))
 

@@ -2,9 +2,10 @@
 use Rattle.std.proofs.Common.{◌≡◌, ◌≤◌, ◌-◌, ◌^◌, ℕ, Bool, IsTrue, subst, Option, None, Some, true, false, inl, inr, refl, arith, lit≤}
 use Rattle.options.specs.declared.ends.plans.SubscribePlan.{SubscribePlan}
 use Rattle.subscriber.specs.Answering.{ahead_of}
-use Rattle.subscriber.specs.Leavings.{HasEnough, IsQuietEnding}
+use Rattle.subscription.specs.Watches.{Seen}
+use Rattle.subscriber.specs.Leavings.{HasEnough, IsEnding, IsQuietEnding}
 use Rattle.subscriber.specs.Standing.{HasAll, HasAllUpTo}
-use Rattle.subscriber.specs.declared.ended.Ending.TheVariants.{Whole, Short}
+use Rattle.subscriber.specs.declared.ended.Ending.TheVariants.{Whole, Short, Lost}
 use Rattle.subscriber.specs.declared.standing.Stand.{Stand}
 
 -- an end at which both stand
@@ -46,6 +47,17 @@ never_whole plan once h = cc
 
 never_short : (plan : SubscribePlan) → plan.once ≡ false → IsQuietEnding plan Short → ⊥
 never_short plan once h = cc
+
+-- one that has lost an image is never whole, and another never lost
+lost_never_whole : (plan : SubscribePlan) (written : ℕ) (s : Seen) (x : Stand) → IsEnding plan written s x true (Some Whole) → ⊥
+lost_never_whole plan written s x h = let not = h.0 in cc
+
+never_lost : (plan : SubscribePlan) (written : ℕ) (s : Seen) (x : Stand) → IsEnding plan written s x false (Some Lost) → ⊥
+never_lost plan written s x h = let not = h.0 in cc
+
+-- without an image nothing is lost
+none_lost : (plan : SubscribePlan) → IsQuietEnding plan Lost → ⊥
+none_lost plan h = h
 
 -- 200 ms
 ahead : ahead_of 1000000000 ≡ 1200000000

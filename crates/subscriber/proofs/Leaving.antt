@@ -23,6 +23,7 @@ use Rattle.subscriber.proofs.Lived.{all_heard, all_in, follows_on, heard_on, lif
 use Rattle.subscription.proofs.Parties.{subscribers_cycle}
 use Rattle.subscription.specs.Followers.{FollowerHears, FollowerTicks, HasNoted}
 use Rattle.subscription.specs.declared.follower.Follower.{Follower}
+use Rattle.subscription.specs.declared.images.Images.{Images}
 use Rattle.subscriber.specs.Leavings.{AreUnpolled, KeepsConsumers, ListensOn, LivesUnpolled, StandsStill}
 use Rattle.subscriber.specs.Living.{Follows, WritesActs, WritesLife, WritesLives}
 use Rattle.subscriber.specs.declared.ended.Subscribed.{Subscribed}
@@ -181,13 +182,13 @@ none_written plan b count s t l = record {
   written = subst (λ xs. Appends b b (spelling plan.end.form xs)) (sym (none_given l.acts l.unpolled)) (Appends-nil b);
 }
 
-pub left_life : (plan : SubscribePlan) (a b : Option (List ℕ)) (count number : ℕ) (s t : Subscribing) → WritesLife plan a count number s b → LivesUnpolled s t → WritesLife plan a count number t b
+pub left_life : (plan : SubscribePlan) (a b : Option (List ℕ)) (count : ℕ) (number : Images) (s t : Subscribing) → WritesLife plan a count number s b → LivesUnpolled s t → WritesLife plan a count number t b
 left_life plan a b count number s t h l = life_on plan a b b count count number s t h (none_written plan b count s t l)
 
-pub listened : (plan : SubscribePlan) (a b : Option (List ℕ)) (count number : ℕ) (f g : Follower) → Follows plan a count number f b → ListensOn f g → Follows plan a count number g b
+pub listened : (plan : SubscribePlan) (a b : Option (List ℕ)) (count : ℕ) (number : Images) (f g : Follower) → Follows plan a count number f b → ListensOn f g → Follows plan a count number g b
 unfolding none_written
 listened plan a b count number f g h l = follows_on plan a b b count count number f g h (record { acts = none_written plan b count f.subscriber g.subscriber l.lives; notes = l.notes })
 
-pub all_written : (plan : SubscribePlan) (a b : Option (List ℕ)) (number : ℕ) (t : Subscribing) (result : Result Subscribed SubscribeFault) → IfOk result (λ s. WritesLife plan a s.messages number t b) → IfOk result (λ s. WritesLives plan a s.messages b)
+pub all_written : (plan : SubscribePlan) (a b : Option (List ℕ)) (number : Images) (t : Subscribing) (result : Result Subscribed SubscribeFault) → IfOk result (λ s. WritesLife plan a s.messages number t b) → IfOk result (λ s. WritesLives plan a s.messages b)
 all_written plan a b number t (Ok s) h = life_ended plan a b s.messages number t h
 all_written plan a b number t (Err fault) h = h

@@ -1,5 +1,7 @@
 -- What a subscriber lives through in a cycle, and from image to image.
-use Rattle.std.proofs.Common.{◌≡◌, ◌⊎◌, ℕ, ℤ, ◌+◌, None, Some, List, [], ◌∷◌, ◌++◌, map, length, Option, inl, inr, refl, sym, ap, ◌∙◌, subst, arith, append_assoc, append-nil, length-append}
+use Rattle.std.proofs.Common.{◌≡◌, ◌⊎◌, ℕ, ℤ, Bool, true, false, if◌then◌else◌, ◌+◌, None, Some, List, [], ◌∷◌, ◌++◌, map, length, Option, inl, inr, refl, sym, ap, ◌∙◌, subst, arith, true≢false, append_assoc, append-nil, length-append}
+use Rattle.std.specs.Prelude.{nat_lt}
+use Rattle.std.proofs.lemmas.Bool.{ltb-false, ltb-true}
 use Rattle.std.specs.Io.KnownBytes.{Appends}
 use Rattle.std.specs.declared.net.SocketAddr.{SocketAddr}
 use Rattle.std.proofs.KnownBytes.{Appends-nil, Appends-trans}
@@ -15,10 +17,17 @@ use Rattle.agents.specs.Parties.{ReceiverHears}
 use Rattle.receiver.specs.Subscribing.{Subscribing}
 use Rattle.receiver.specs.Lives.{Act, Gives, GivesNone, Hears, Lives, Ticks, given_in, heard_in}
 use Rattle.subscription.specs.Calls.{IsJoined, IsMeeting}
+use Rattle.subscriber.specs.Endings.{EndsSo}
+use Rattle.subscriber.specs.declared.ended.Ending.{Ending}
+use Rattle.subscriber.specs.declared.ended.Ending.TheVariants.{Lost, Short, Whole}
 use Rattle.subscriber.specs.Deliveries.{Delivers, PollsAll, PollsNone, WritesAndNotes, WritesFirst}
-use Rattle.subscriber.specs.Living.{Follows, IsNumbered, Life, LivesOn, WritesActs, WritesLife, WritesLives, given_through}
-use Rattle.subscriber.specs.Turning.{Attends, Considers, ConsidersOffer, IsRenewed, Passes, Renews, Resumes, next, with_device}
-use Rattle.subscription.specs.Offers.{Offer, SubscriberDevice, setup_taken}
+use Rattle.subscriber.specs.Living.{AreLives, AreUnlost, Follows, IsLossFrom, IsLossTo, IsNumbered, Life, LosesNothing, LivesOn, WritesActs, WritesLife, WritesLives, given_through, missing_through}
+use Rattle.subscriber.specs.Turning.{Attends, Considers, ConsidersOffer, IsLoss, Passes, Renews, Replaces, Resumes, with_device}
+use Rattle.subscription.specs.Images.{has_lost, missing_with, next}
+use Rattle.subscription.specs.declared.images.Images.{Images}
+use Rattle.subscription.specs.declared.images.Loss.{Loss}
+use Rattle.peer.specs.Ties.{Offer}
+use Rattle.subscription.specs.Offers.{SubscriberDevice, setup_taken}
 use Rattle.subscription.proofs.Ends.{ends_on, greatest_end}
 use Rattle.subscription.specs.Followers.{HasNoted, IsGreatestEnd, NotesEnds}
 use Rattle.subscription.specs.declared.follower.Follower.{Follower}
@@ -30,8 +39,8 @@ use Rattle.subscription.specs.declared.meeting.Meeting.{Meeting}
 -- ---- lives one behind the other
 
 pub lives_on : (s m t : Subscribing) (xs ys : List Act) → Lives s xs m → Lives m ys t → Lives s (xs ++ ys) t
-lives_on s m t [] ys first then = subst (λ z. Lives z ys t) first then
-lives_on s m t (x ∷ xs) ys first then = (first.0, first.1, lives_on first.0 m t xs ys first.2 then)
+lives_on s m t [] ys first later = subst (λ z. Lives z ys t) first later
+lives_on s m t (x ∷ xs) ys first later = (first.0, first.1, lives_on first.0 m t xs ys first.2 later)
 
 pub given_on : (xs ys : List Act) → given_in (xs ++ ys) ≡ given_in xs ++ given_in ys
 given_on [] ys = refl
@@ -125,13 +134,15 @@ pub spelled_on : (form : Form) (xs ys : List (List ℕ)) → spelling form (xs +
 spelled_on form xs ys = flat_map-append (spelled form) xs ys
 
 -- the first image
-pub joined_life : (plan : SubscribePlan) (s : Seen) (j : Joined) (before : Option (List ℕ)) → IsJoined plan s j → Follows plan before 0 j.number j.follower before
+pub joined_life : (plan : SubscribePlan) (s : Seen) (j : Joined) (before : Option (List ℕ)) → IsJoined plan s j → Follows plan before 0 j.images j.follower before
 joined_life plan s j before h = record {
   life = record {
-    newest = record { setup = setup_of h.meeting.setup; opening = h.meeting.opening; number = 0; moment = s.moment; acts = [] };
+    newest = record { setup = setup_of h.meeting.setup; opening = h.meeting.opening; number = 0; moment = s.moment; acts = []; loss = None };
     older = [];
-    is = record { opens = h.opens; first = j.follower.subscriber; met = h.joined.met; lived = refl };
-    number_is = sym h.joined.number;
+    is = record { opens = h.opens; first = j.follower.subscriber; met = h.joined.met; lived = refl; lacks = tt };
+    number_is = sym (ap (λ i. i.number) h.joined.images);
+    missing_is = ap (λ i. i.missing) h.joined.images;
+    unlost = refl;
     numbered = refl;
     lives = tt;
     counted = refl;
@@ -143,7 +154,7 @@ joined_life plan s j before h = record {
 }
 
 -- it lived on
-pub life_on : (plan : SubscribePlan) (a b c : Option (List ℕ)) (count more number : ℕ) (s t : Subscribing) → WritesLife plan a count number s b → WritesActs plan.end.form count s b more t c → WritesLife plan a more number t c
+pub life_on : (plan : SubscribePlan) (a b c : Option (List ℕ)) (count more : ℕ) (number : Images) (s t : Subscribing) → WritesLife plan a count number s b → WritesActs plan.end.form count s b more t c → WritesLife plan a more number t c
 life_on plan a b c count more number s t h w =
     let l : Life = record h.newest { acts = h.newest.acts ++ w.acts } in
     let given : given_through (l ∷ h.older) ≡ given_through (h.newest ∷ h.older) ++ given_in w.acts =
@@ -151,8 +162,10 @@ life_on plan a b c count more number s t h w =
     record {
       newest = l;
       older = h.older;
-      is = record { opens = h.is.opens; first = h.is.first; met = h.is.met; lived = lives_on h.is.first s t h.newest.acts w.acts h.is.lived w.lived };
+      is = record { opens = h.is.opens; first = h.is.first; met = h.is.met; lived = lives_on h.is.first s t h.newest.acts w.acts h.is.lived w.lived; lacks = subst (IsLossFrom t) (sym h.unlost) tt };
       number_is = h.number_is;
+      missing_is = h.missing_is;
+      unlost = h.unlost;
       numbered = numbered h.older h.numbered;
       lives = h.lives;
       counted = let n = h.counted in let m = w.counted in let k : length (given_through (l ∷ h.older)) ≡ length (given_through (h.newest ∷ h.older)) + length (given_in w.acts) = ap length given ∙ length-append (given_through (h.newest ∷ h.older)) (given_in w.acts) in omega (arith, n, m, k);
@@ -163,7 +176,7 @@ life_on plan a b c count more number s t h w =
     numbered [] n = n
     numbered (m ∷ ms) n = n
 
-pub follows_on : (plan : SubscribePlan) (a b c : Option (List ℕ)) (count more number : ℕ) (f g : Follower) → Follows plan a count number f b → LivesOn plan.end.form count f b more g c → Follows plan a more number g c
+pub follows_on : (plan : SubscribePlan) (a b c : Option (List ℕ)) (count more : ℕ) (number : Images) (f g : Follower) → Follows plan a count number f b → LivesOn plan.end.form count f b more g c → Follows plan a more number g c
 unfolding life_on
 follows_on plan a b c count more number f g h w = record {
   life = life_on plan a b c count more number f.subscriber g.subscriber h.life w.acts;
@@ -175,20 +188,41 @@ follows_on plan a b c count more number f g h w = record {
       (ends_on f.session f.stream (heard_in h.life.newest.acts) (heard_in w.acts.acts) None f.end g.end h.notes w.notes.notes)));
 }
 
+-- what is missing behind an image
+lost_from : (s : Seen) (m : Meeting) (j : Joined) (loss : Option Loss) → IsLoss s m j loss → IsLossFrom j.follower.subscriber loss
+lost_from s m j loss (inl (left, (place, stands, is))) = subst (IsLossFrom j.follower.subscriber) (sym is) (by_order (nat_lt place m.opening.position) refl)
+  where
+    by_order : (b : Bool) → nat_lt place m.opening.position ≡ b → IsLossFrom j.follower.subscriber (if b then Some (record { from = place; to = m.opening.position }) else None)
+    by_order true less = (stands, ltb-true place m.opening.position less)
+    by_order false more = tt
+lost_from s m j loss (inr (stays, is)) = subst (IsLossFrom j.follower.subscriber) (sym is) tt
+
+lost_to : (s : Seen) (m : Meeting) (j : Joined) (loss : Option Loss) → IsLoss s m j loss → IsLossTo loss m.opening.position
+lost_to s m j loss (inl (left, (place, stands, is))) = subst (λ x. IsLossTo x m.opening.position) (sym is) (by_order (nat_lt place m.opening.position))
+  where
+    by_order : (b : Bool) → IsLossTo (if b then Some (record { from = place; to = m.opening.position }) else None) m.opening.position
+    by_order true = refl
+    by_order false = tt
+lost_to s m j loss (inr (stays, is)) = subst (λ x. IsLossTo x m.opening.position) (sym is) tt
+
 -- a SETUP opened another image in its place
-renewed : (plan : SubscribePlan) (from : SocketAddr) (f : Setup) (moment : ℕ) (m : Meeting) (a b : Option (List ℕ)) (count : ℕ) (j k : Joined) → IsMeeting plan from f m → IsRenewed plan moment m j k → Follows plan a count j.number j.follower b → Follows plan a count k.number k.follower b
-renewed plan from f moment m a b count j k meeting r follows =
+renewed : (plan : SubscribePlan) (from : SocketAddr) (f : Setup) (s : Seen) (m : Meeting) (a b : Option (List ℕ)) (count : ℕ) (j k : Joined) → IsMeeting plan from f m → Replaces plan s m j k → Follows plan a count j.images j.follower b → Follows plan a count k.images k.follower b
+renewed plan from f s m a b count j k meeting x follows =
     let h = follows.life in
-    let l : Life = record { setup = setup_of m.setup; opening = m.opening; number = next j.number; moment = moment; acts = [] } in
-    let given : given_through (l ∷ h.newest ∷ h.older) ≡ given_through (h.newest ∷ h.older) = append-nil (given_through (h.newest ∷ h.older)) in
+    let r = x.renewed in
+    let last : Life = record h.newest { loss = x.loss } in
+    let l : Life = record { setup = setup_of m.setup; opening = m.opening; number = next j.images.number; moment = s.moment; acts = []; loss = None } in
+    let given : given_through (l ∷ last ∷ h.older) ≡ given_through (h.newest ∷ h.older) = append-nil (given_through (h.newest ∷ h.older)) in
     record {
       life = record {
         newest = l;
-        older = h.newest ∷ h.older;
-        is = record { opens = meeting.opens; first = k.follower.subscriber; met = r.met; lived = refl };
-        number_is = sym r.number;
-        numbered = ap next (sym h.number_is);
-        lives = (j.follower.subscriber, h.is, h.numbered, h.lives);
+        older = last ∷ h.older;
+        is = record { opens = meeting.opens; first = k.follower.subscriber; met = r.met; lived = refl; lacks = tt };
+        number_is = sym (ap (λ i. i.number) r.images);
+        missing_is = ap (λ i. i.missing) r.images ∙ ap (λ n. missing_with n x.loss) h.missing_is;
+        unlost = refl;
+        numbered = (ap next (sym h.number_is), lost_to s m j x.loss x.is);
+        lives = (j.follower.subscriber, record { opens = h.is.opens; first = h.is.first; met = h.is.met; lived = h.is.lived; lacks = lost_from s m j x.loss x.is }, numbered_on h.older h.numbered, h.lives);
         counted = h.counted ∙ sym (ap length given);
         written = subst (λ xs. Appends a b (spelling plan.end.form xs)) (sym given) h.written;
       };
@@ -196,39 +230,43 @@ renewed plan from f moment m a b count j k meeting r follows =
       stream = r.fresh.own_stream;
       notes = r.fresh.untold;
     }
+  where
+    numbered_on : (older : List Life) → IsNumbered follows.life.newest older → IsNumbered (record follows.life.newest { loss = x.loss }) older
+    numbered_on [] n = n
+    numbered_on (m ∷ ms) n = n
 
 -- the image is the same
-pub same_life : (plan : SubscribePlan) (a b : Option (List ℕ)) (count : ℕ) (j k : Joined) → k.number ≡ j.number → k.follower ≡ j.follower → Follows plan a count j.number j.follower b → Follows plan a count k.number k.follower b
-same_life plan a b count j k number same h = subst (λ n. Follows plan a count n k.follower b) (sym number) (subst (λ x. Follows plan a count j.number x b) (sym same) h)
+pub same_life : (plan : SubscribePlan) (a b : Option (List ℕ)) (count : ℕ) (j k : Joined) → k.images ≡ j.images → k.follower ≡ j.follower → Follows plan a count j.images j.follower b → Follows plan a count k.images k.follower b
+same_life plan a b count j k number same h = subst (λ n. Follows plan a count n k.follower b) (sym number) (subst (λ x. Follows plan a count j.images x b) (sym same) h)
 
-kept_life : (plan : SubscribePlan) (a b : Option (List ℕ)) (count : ℕ) (j k : Joined) → k ≡ j → Follows plan a count j.number j.follower b → Follows plan a count k.number k.follower b
-kept_life plan a b count j k kept h = same_life plan a b count j k (ap (λ x. x.number) kept) (ap (λ x. x.follower) kept) h
+kept_life : (plan : SubscribePlan) (a b : Option (List ℕ)) (count : ℕ) (j k : Joined) → k ≡ j → Follows plan a count j.images j.follower b → Follows plan a count k.images k.follower b
+kept_life plan a b count j k kept h = same_life plan a b count j k (ap (λ x. x.images) kept) (ap (λ x. x.follower) kept) h
 
-turned_life : (plan : SubscribePlan) (from : SocketAddr) (f : Setup) (s t : Seen) (m : Meeting) (a b : Option (List ℕ)) (count rebuilt : ℕ) (j k : Joined) → IsMeeting plan from f m → Passes s m j k t ⊎ Resumes s m rebuilt j k t ⊎ Renews plan s m rebuilt j k t → Follows plan a count j.number j.follower b → Follows plan a count k.number k.follower b
-turned_life plan from f s t m a b count rebuilt j k meeting (inl p) h = same_life plan a b count j k (ap (λ x. x.number) p.warns.kept) (ap (λ x. x.follower) p.warns.kept) h
-turned_life plan from f s t m a b count rebuilt j k meeting (inr (inl p)) h = same_life plan a b count j k (ap (λ x. x.number) p.tied) (ap (λ x. x.follower) p.tied) h
-turned_life plan from f s t m a b count rebuilt j k meeting (inr (inr p)) h = renewed plan from f s.moment m a b count j k meeting p.renewed h
+turned_life : (plan : SubscribePlan) (from : SocketAddr) (f : Setup) (s t : Seen) (m : Meeting) (a b : Option (List ℕ)) (count rebuilt : ℕ) (j k : Joined) → IsMeeting plan from f m → Passes s m rebuilt j k t ⊎ Resumes s m rebuilt j k t ⊎ Renews plan s m rebuilt j k t → Follows plan a count j.images j.follower b → Follows plan a count k.images k.follower b
+turned_life plan from f s t m a b count rebuilt j k meeting (inl p) h = same_life plan a b count j k (ap (λ x. x.images) p.warns.kept) (ap (λ x. x.follower) p.warns.kept) h
+turned_life plan from f s t m a b count rebuilt j k meeting (inr (inl p)) h = same_life plan a b count j k (ap (λ x. x.images) p.tied) (ap (λ x. x.follower) p.tied) h
+turned_life plan from f s t m a b count rebuilt j k meeting (inr (inr p)) h = renewed plan from f s m a b count j k meeting p.replaced h
 
-considered_life : (plan : SubscribePlan) (from : SocketAddr) (f : Setup) (s t : Seen) (a b : Option (List ℕ)) (count : ℕ) (j k : Joined) → Considers plan s from f j k t → Follows plan a count j.number j.follower b → Follows plan a count k.number k.follower b
+considered_life : (plan : SubscribePlan) (from : SocketAddr) (f : Setup) (s t : Seen) (a b : Option (List ℕ)) (count : ℕ) (j k : Joined) → Considers plan s from f j k t → Follows plan a count j.images j.follower b → Follows plan a count k.images k.follower b
 considered_life plan from f s t a b count j k (inl p) h = kept_life plan a b count j k p.1 h
 considered_life plan from f s t a b count j k (inr p) h = turned_life plan from f s t p.0 a b count p.2.0 j k p.1 p.2.2 h
 
-offered_life : (plan : SubscribePlan) (s t : Seen) (offer : Offer) (a b : Option (List ℕ)) (count : ℕ) (j k : Joined) → ConsidersOffer plan s offer j k t → Follows plan a count j.number j.follower b → Follows plan a count k.number k.follower b
+offered_life : (plan : SubscribePlan) (s t : Seen) (offer : Offer) (a b : Option (List ℕ)) (count : ℕ) (j k : Joined) → ConsidersOffer plan s offer j k t → Follows plan a count j.images j.follower b → Follows plan a count k.images k.follower b
 offered_life plan s t None a b count j k p h = kept_life plan a b count j k p.0 h
 offered_life plan s t (Some offer) a b count j k p h = considered_life plan offer.0 offer.1 s t a b count j k p h
 
 -- whatever came of the SETUP that came in a cycle
-pub attended_life : (plan : SubscribePlan) (s t : Seen) (a b : Option (List ℕ)) (count : ℕ) (j k : Joined) → Attends plan s j k t → Follows plan a count j.number j.follower b → Follows plan a count k.number k.follower b
-attended_life plan s t a b count j k p h = offered_life plan s t p.0 a b count (with_device j (setup_taken j.duty.device)) k p.2 h
+pub attended_life : (plan : SubscribePlan) (s t : Seen) (a b : Option (List ℕ)) (count : ℕ) (j k : Joined) → Attends plan s j k t → Follows plan a count j.images j.follower b → Follows plan a count k.images k.follower b
+attended_life plan s t a b count j k p h = offered_life plan s p.2 p.0 a b count (with_device j (setup_taken j.duty.device)) k p.3 h
 
 -- what was new of its status messages was told
-pub told_life : (plan : SubscribePlan) (a b : Option (List ℕ)) (count : ℕ) (j k : Joined) (d : SubscriberDevice) → k ≡ with_device j d → Follows plan a count j.number j.follower b → Follows plan a count k.number k.follower b
-told_life plan a b count j k d told h = same_life plan a b count j k (ap (λ x. x.number) told) (ap (λ x. x.follower) told) h
+pub told_life : (plan : SubscribePlan) (a b : Option (List ℕ)) (count : ℕ) (j k : Joined) (d : SubscriberDevice) → k ≡ with_device j d → Follows plan a count j.images j.follower b → Follows plan a count k.images k.follower b
+told_life plan a b count j k d told h = same_life plan a b count j k (ap (λ x. x.images) told) (ap (λ x. x.follower) told) h
 
 -- ---- to the end
 
 -- the end that it knows is the greatest that the datagrams tell which its newest image was handed
-pub told_end : (plan : SubscribePlan) (a b : Option (List ℕ)) (count number : ℕ) (f : Follower) → (h : Follows plan a count number f b) → IsGreatestEnd h.life.newest.opening.session plan.end.stream (heard_in h.life.newest.acts) f.end
+pub told_end : (plan : SubscribePlan) (a b : Option (List ℕ)) (count : ℕ) (number : Images) (f : Follower) → (h : Follows plan a count number f b) → IsGreatestEnd h.life.newest.opening.session plan.end.stream (heard_in h.life.newest.acts) f.end
 told_end plan a b count number f h =
     greatest_end _ _ _ _
     (subst (λ (n : ℤ). NotesEnds n plan.end.stream (heard_in h.life.newest.acts) None f.end) h.session
@@ -237,5 +275,24 @@ told_end plan a b count number f h =
 pub none_lived : (plan : SubscribePlan) (a : Option (List ℕ)) → WritesLives plan a 0 a
 none_lived plan a = record { images = []; lives = tt; counted = refl; written = Appends-nil a }
 
-pub life_ended : (plan : SubscribePlan) (a b : Option (List ℕ)) (count number : ℕ) (t : Subscribing) → WritesLife plan a count number t b → WritesLives plan a count b
+pub life_ended : (plan : SubscribePlan) (a b : Option (List ℕ)) (count : ℕ) (number : Images) (t : Subscribing) → WritesLife plan a count number t b → WritesLives plan a count b
 life_ended plan a b count number t h = record { images = h.newest ∷ h.older; lives = (t, h.is, h.numbered, h.lives); counted = h.counted; written = h.written }
+
+-- where nothing is missing in all, nothing is behind any image
+pub lose_nothing : LosesNothing
+lose_nothing plan [] lives none = tt
+lose_nothing plan (l ∷ older) (t, is, numbered, lives) none = (by_loss l.loss is.lacks none, lose_nothing plan older lives (let all = none in omega (arith, all)))
+  where
+    by_loss : (loss : Option Loss) → IsLossFrom t loss → missing_with (missing_through older) loss ≡ 0 → loss ≡ None
+    by_loss None lacks zero = refl
+    by_loss (Some loss) lacks zero = absurd (let less = lacks.1 in omega (arith, less, zero))
+
+unlost_so : (lost : Bool) (i : Images) → has_lost lost i ≡ false → i.missing ≡ 0
+unlost_so true i none = absurd (true≢false none)
+unlost_so false i none = let few = ltb-false 0 i.missing none in omega (arith, few)
+
+-- one that ends whole has lost none
+pub whole_unlost : (plan : SubscribePlan) (a b : Option (List ℕ)) (count : ℕ) (images : Images) (f : Follower) → (h : Follows plan a count images f b) → (s : Seen) (lost : Bool) (how : Ending) → EndsSo plan count s f.subscriber f.end (has_lost lost images) how → how ≡ Whole → AreUnlost h.life.older
+whole_unlost plan a b count images f h s lost Whole ends whole = lose_nothing plan h.life.older h.life.lives (sym h.life.missing_is ∙ unlost_so lost images ends.ending.0)
+whole_unlost plan a b count images f h s lost Short ends whole = absurd (let is = whole in cc)
+whole_unlost plan a b count images f h s lost Lost ends whole = absurd (let is = whole in cc)

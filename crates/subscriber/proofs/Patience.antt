@@ -28,7 +28,7 @@ same_fault a b is = cc
 
 pub patient : (form : Form) (most now : ℕ) (tells still : Type 0) (f : DeliveryFault) (s : Subscribing) (before : Option (List ℕ)) (d : Device) (t : Subscribing) (after : Option (List ℕ)) (e : Device)
     → d.failures ≡ 0 → e.failures ≡ 0 → Ends form most now tells still f s before d t after e → of_delivery f ≢ faults.Failed errors.Device
-patient form most now tells still deliveries.Output s before d t after e x y h = λ is. absurd (cc)
+patient form most now tells still (deliveries.Output code) s before d t after e x y h = λ is. absurd (cc)
 patient form most now tells still (deliveries.Message error) s before d t after e x y h = λ is. absurd (cc)
 patient form most now tells still (deliveries.Failed why) s before d t after e x y (inl h) = λ is. absurd h.0
 patient form most now tells still (deliveries.Failed why) s before d t after e x y (inr h) =

@@ -43,7 +43,7 @@ step_more form s t u a b c number false e w none = absurd (cc)
 
 -- a step that failed
 pub step_failed : (form : Form) (most : ℕ) (s t u : Subscribing) (a b c : Option (List ℕ)) (number : ℕ) (fault : DeliveryFault) → number < most → Written form s a number t b → StopsAtOne form fault t b u c → Stops form most fault s a u c
-step_failed form most s t u a b c number faults.Output low w (message, one, part) =
+step_failed form most s t u a b c number (faults.Output code) low w (message, one, part) =
     inl (record { messages = w.messages; middle = t; last = message; between = b; polled = w.polled; one = one; few = omega (arith, w.counted, low); written = w.written; part = part })
 step_failed form most s t u a b c number (faults.Message error) low w (refused, same) =
     (w.messages, t, omega (arith, w.counted, low), w.polled, refused, subst (λ x. Appends a x (spelling form w.messages)) (sym same) w.written)

@@ -62,7 +62,7 @@ PollsRefused s error t = SubscriberBecomes s t (λ r q. Polls r (Err (Unassemble
 
 -- why a poll with its writing failed: the message that it gave is written in part, perhaps none of it; or none was given
 abbrev pub StopsAtOne : Form → DeliveryFault → Subscribing → Option (List ℕ) → Subscribing → Option (List ℕ) → Type 0
-StopsAtOne form faults.Output s before t after = (message : List ℕ) × PollsOne s message t × AppendsPart before after (spelled form message)
+StopsAtOne form (faults.Output number) s before t after = (message : List ℕ) × PollsOne s message t × AppendsPart before after (spelled form message)
 StopsAtOne form (faults.Message error) s before t after = PollsRefused s error t × (after ≡ before)
 StopsAtOne form (faults.Failed error) s before t after = ⊥
 
@@ -81,7 +81,7 @@ pub record BreaksOff (form : Form) (most : ℕ) (s : Subscribing) (before : Opti
 -- why it ended before anything was heard: the output failed within a message, or at the flush, when all that was polled was written; or
 -- behind some messages, which are written, a frame was refused
 abbrev pub Stops : Form → ℕ → DeliveryFault → Subscribing → Option (List ℕ) → Subscribing → Option (List ℕ) → Type 0
-Stops form most faults.Output s before t after = BreaksOff form most s before t after ⊎ ((number : ℕ) × Delivers form most s before number t after)
+Stops form most (faults.Output code) s before t after = BreaksOff form most s before t after ⊎ ((number : ℕ) × Delivers form most s before number t after)
 Stops form most (faults.Message error) s before t after =
     (messages : List (List ℕ)) × (middle : Subscribing) × (length messages < most) × PollsAll s messages middle × PollsRefused middle error t × Appends before after (spelling form messages)
 Stops form most (faults.Failed error) s before t after = ⊥

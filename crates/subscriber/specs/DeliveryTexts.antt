@@ -5,6 +5,6 @@ use Rattle.subscriber.specs.declared.delivery.fault.DeliveryFault.{DeliveryFault
 use Rattle.subscriber.specs.declared.delivery.fault.DeliveryFault.TheVariants.{Output, Message, Failed}
 
 abbrev pub text_of : DeliveryFault → List ℕ
-text_of Output = codes "output"
+text_of (Output number) = codes "output"
 text_of (Message error) = codes "message"
 text_of (Failed error) = devices.text_of error

@@ -1,5 +1,5 @@
 -- When a subscriber has heard its session, why it ends, what it lives through then, and why it can't begin.
-use Rattle.std.specs.Prelude.{◌≡◌, ◌⊎◌, ◌≤◌, ◌+◌, ⊤, ℕ, List, [], ◌∷◌, true, false, IsTrue, Option, None, Some}
+use Rattle.std.specs.Prelude.{◌≡◌, ◌⊎◌, ◌≤◌, ◌+◌, ⊤, ℕ, List, [], ◌∷◌, Bool, true, false, IsTrue, Option, None, Some, if◌then◌else◌}
 use Rattle.peer.specs.declared.fault.BindError.{BindError}
 use Rattle.peer.specs.declared.fault.BindError.TheVariants as binds
 use Rattle.options.specs.declared.ends.plans.SubscribePlan.{SubscribePlan}
@@ -11,12 +11,12 @@ use Rattle.subscription.specs.declared.follower.Follower.{Follower}
 use Rattle.subscription.specs.Watches.{IsQuiet, Seen, hearing, working}
 use Rattle.subscriber.specs.Standing.{HasAll}
 use Rattle.subscriber.specs.declared.fault.SubscribeFault.{SubscribeFault}
-use Rattle.subscriber.specs.declared.fault.SubscribeFault.TheVariants.{Taken, NotHere, Failed}
+use Rattle.subscriber.specs.declared.fault.SubscribeFault.TheVariants.{Taken, NotHere, NoSocket, NoThread, Failed}
 use Rattle.endpoint.specs.declared.device_error.DeviceError.TheVariants.{Device, Memory}
 use Rattle.std.specs.declared.net.SocketAddr.{SocketAddr}
 use Rattle.subscriber.specs.declared.standing.Stand.{Stand}
 use Rattle.subscriber.specs.declared.ended.Ending.{Ending}
-use Rattle.subscriber.specs.declared.ended.Ending.TheVariants.{Whole, Short}
+use Rattle.subscriber.specs.declared.ended.Ending.TheVariants.{Whole, Short, Lost}
 
 -- frames of the session were counted before a cycle and behind it; where that is another number, one came at the moment
 pub record NotesHeard (before after : ℕ) (old new : Seen) : Type 0 where
@@ -36,6 +36,7 @@ HasEnough plan written x = (plan.messages ≤ written) ⊎ (IsTrue plan.once × 
 abbrev pub IsQuietEnding : SubscribePlan → Ending → Type 0
 IsQuietEnding plan Whole = plan.once ≡ false
 IsQuietEnding plan Short = IsTrue plan.once
+IsQuietEnding plan Lost = ⊥
 
 -- it isn't done yet, but quiet
 pub record IsGivenUp (plan : SubscribePlan) (written : ℕ) (s : Seen) (x : Stand) (how : Ending) : Type 0 where
@@ -43,11 +44,20 @@ pub record IsGivenUp (plan : SubscribePlan) (written : ℕ) (s : Seen) (x : Stan
   pub quiet : IsQuiet plan s
   pub ending : IsQuietEnding plan how
 
--- how it ends behind so many messages, at the watch's moment, where it stands so
-abbrev pub IsEnding : SubscribePlan → ℕ → Seen → Stand → Option Ending → Type 0
-IsEnding plan written s x (Some Whole) = HasEnough plan written x ⊎ IsGivenUp plan written s x Whole
-IsEnding plan written s x (Some Short) = IsGivenUp plan written s x Short
-IsEnding plan written s x None = (¬ HasEnough plan written x) × (¬ IsQuiet plan s)
+-- it has enough, or is quiet and wasn't to end with the stream
+abbrev pub IsEnough : SubscribePlan → ℕ → Seen → Stand → Type 0
+IsEnough plan written s x = HasEnough plan written x ⊎ IsGivenUp plan written s x Whole
+
+-- then it is whole where it lost no image
+abbrev pub enough_ending : Bool → Ending
+enough_ending lost = if lost then Lost else Whole
+
+-- how it ends behind so many messages, at the watch's moment, where it stands so, and whether it has lost an image
+abbrev pub IsEnding : SubscribePlan → ℕ → Seen → Stand → Bool → Option Ending → Type 0
+IsEnding plan written s x lost (Some Whole) = (lost ≡ false) × IsEnough plan written s x
+IsEnding plan written s x lost (Some Short) = IsGivenUp plan written s x Short
+IsEnding plan written s x lost (Some Lost) = (lost ≡ true) × IsEnough plan written s x
+IsEnding plan written s x lost None = (¬ HasEnough plan written x) × (¬ IsQuiet plan s)
 
 -- datagrams that it hears and moments that it is told, and no poll
 abbrev pub AreUnpolled : List Act → Type 0
@@ -90,10 +100,11 @@ pub record LeavesFrom (plan : SubscribePlan) (s : Seen) (x : Stand) (silent tell
 
 -- why there is no second thread: the clock can't be read, the system refused it, or memory was refused
 abbrev pub IsStartFault : SubscribeFault → Type 0
-IsStartFault fault = (fault ≡ Failed Device) ⊎ (fault ≡ Failed Memory)
+IsStartFault fault = (fault ≡ NoThread) ⊎ ((fault ≡ Failed Device) ⊎ (fault ≡ Failed Memory))
 
 -- why there is no listener at this address
 abbrev pub of_bind : SocketAddr → BindError → SubscribeFault
 of_bind address binds.Taken = Taken address
 of_bind address binds.NotHere = NotHere address
-of_bind address (binds.Failed error) = Failed error
+of_bind address (binds.Refused number) = NoSocket number
+of_bind address binds.Memory = Failed Memory

@@ -7,6 +7,7 @@ pub mod Leavings
 pub mod Answering
 pub mod Writings
 pub mod Living
+pub mod Losing
 pub mod Breaking
 pub mod Endings
 pub mod Telling

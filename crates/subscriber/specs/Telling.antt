@@ -9,6 +9,8 @@ use Rattle.subscription.specs.Texts.{counters_line}
 use Rattle.subscription.specs.Watches.{Seen}
 use Rattle.subscription.specs.declared.joined.Joined.{Joined}
 use Rattle.subscription.specs.declared.telling.Counts.{Counts}
+use Rattle.subscription.specs.declared.telling.Totals.{Totals}
+use Rattle.subscriber.specs.Standing.{StandsHere}
 
 -- what it has counted behind so many messages, of which so many are new; in all where it has counted before an image and with one
 pub record AreCounts (j : Joined) (s : Seen) (written more : ℕ) (c : Counts) : Type 0 where
@@ -24,10 +26,22 @@ abbrev pub TellsLine : Option Positions → ℤ → Counts → Option (List ℕ)
 TellsLine None session c before after = after ≡ before
 TellsLine (Some p) session c before after = Appends before after (counters_line session p c)
 
--- where its image stands, and what it has counted
-pub record TellsCounters (j : Joined) (s : Seen) (written : ℕ) (tells : Option Positions → Counts → Type 0) : Type 0 where
+-- where its image stands, and what it has counted behind so many messages, of which so many are new
+pub record TellsNow (j : Joined) (s : Seen) (written more : ℕ) (tells : Option Positions → Counts → Type 0) : Type 0 where
   pub positions : Option Positions
   pub stands : (r : Receiver) → RepresentsSubscriber j.follower.subscriber r → TellsPositions r positions
   pub counts : Counts
-  pub counted : AreCounts j s written (written - s.written) counts
+  pub counted : AreCounts j s written more counts
   pub told : tells positions counts
+
+-- those that came since the counters were told last are new
+abbrev pub TellsCounters : Joined → Seen → ℕ → (Option Positions → Counts → Type 0) → Type 0
+TellsCounters j s written tells = TellsNow j s written (written - s.written) tells
+
+-- what it has done in all, in so many messages, since a moment
+pub record AreTotals (j : Joined) (s : Seen) (messages opened : ℕ) (t : Totals) : Type 0 where
+  pub count : t.pace.count ≡ messages
+  pub time : t.pace.nanoseconds ≡ s.moment - opened
+  pub session : t.session ≡ j.opening.session
+  pub bytes : (place : ℕ) × StandsHere j.follower.subscriber place × (t.bytes ≡ place - j.opening.position)
+  pub naks : t.naks ≡ j.duty.device.naks

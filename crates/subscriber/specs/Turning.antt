@@ -2,9 +2,11 @@
 -- Where all of its stream is written up to the told end, the next publisher's takes the place: one of another session, or one that
 -- another sent than the peer; of its own a SETUP makes nothing. Before that, while its session isn't silent it makes nothing of any.
 -- Of a silent session a SETUP of the same shape that isn't behind what was rebuilt is the session's again: the image goes on,
--- tied to who sent it. Any other that would open an image for the plan takes the place. What takes the place opens a new image,
--- under the next number and so under a receiver id of its own.
-use Rattle.std.specs.Prelude.{◌≡◌, ◌≢◌, ◌⊎◌, ◌↔◌, ◌≤◌, ◌+◌, ◌%◌, ◌^◌, ◌++◌, [], ◌∷◌, ℕ, false, IsTrue, None, Some}
+-- tied to who sent it. Any other that would open an image for the plan takes the place. Of a session that is heard, of which what
+-- the image lacks doesn't come, its own SETUP from its peer takes the place, if it lies above what is rebuilt: what is between the
+-- consumer and that is missing. What takes the place opens a new image, under the next number and so under a receiver id of its own.
+use Rattle.std.specs.Prelude.{◌≡◌, ◌≢◌, ◌⊎◌, ◌↔◌, ◌≤◌, ◌<◌, ◌++◌, [], ◌∷◌, ℕ, ℤ, List, false, IsTrue, Option, None, Some}
+use Rattle.std.specs.Io.KnownBytes.{Appends}
 use Rattle.std.specs.declared.net.SocketAddr.{SocketAddr}
 use Rattle.frames.specs.Frames.{setup_of}
 use Rattle.frames.specs.declared.frame.Setup.{Setup}
@@ -13,10 +15,14 @@ use Rattle.subscription.specs.Followers.{IsFresh}
 use Rattle.subscription.specs.Hearings.{turned_to}
 use Rattle.subscription.specs.Meetings.{HasMet, OpensNothing}
 use Rattle.subscription.specs.Calls.{IsMeeting}
-use Rattle.subscription.specs.Offers.{IsOffered, Offer, SubscriberDevice, setup_taken, tied_anew}
+use Rattle.peer.specs.Ties.{Offer}
+use Rattle.subscription.specs.Offers.{IsOffered, SubscriberDevice, setup_taken, tied_anew}
 use Rattle.subscription.specs.Unheards.{IsUnnamed}
-use Rattle.subscription.specs.Watches.{IsSilent, Seen, hearing}
-use Rattle.subscriber.specs.Standing.{RebuiltTo}
+use Rattle.subscription.specs.Watches.{IsBehind, IsSilent, Seen, attending, hearing, keeping}
+use Rattle.subscription.specs.Images.{loss_between, next, next_images}
+use Rattle.subscription.specs.Texts.{missing_line}
+use Rattle.subscription.specs.declared.images.Loss.{Loss}
+use Rattle.subscriber.specs.Standing.{RebuiltTo, StandsHere}
 use Rattle.subscription.specs.declared.joined.Joined.{Joined}
 use Rattle.subscription.specs.declared.opening.Opening.{Opening}
 use Rattle.subscription.specs.declared.meeting.Meeting.{Meeting}
@@ -29,10 +35,6 @@ pub record GoesOn (was : Opening) (rebuilt : ℕ) (o : Opening) : Type 0 where
 
 abbrev pub with_device : Joined → SubscriberDevice → Joined
 with_device j d = record j { duty = record (j.duty) { device = d } }
-
--- the image with the next number
-abbrev pub next : ℕ → ℕ
-next number = (number + 1) % 2 ^ 64
 
 -- a SETUP of the image's session, which another sent than its peer
 pub record IsAnother (m : Meeting) (j : Joined) : Type 0 where
@@ -55,55 +57,86 @@ pub record Warns (m : Meeting) (old new : Joined) : Type 0 where
 abbrev pub IsNext : Meeting → Joined → Type 0
 IsNext m j = (m.opening.session ≢ j.opening.session) ⊎ (m.from ≢ j.duty.device.inner.inner.inner.peer)
 
--- an image whose stream has ended gives way to the next publisher's, and one that hasn't ended while its session is silent
-abbrev pub GivesWay : Seen → Meeting → Joined → Type 0
-GivesWay s m j = (IsTrue j.ended × IsNext m j) ⊎ ((¬ IsTrue j.ended) × IsSilent s)
+-- the image's own, from its peer, above what is rebuilt
+pub record IsAhead (m : Meeting) (rebuilt : ℕ) (j : Joined) : Type 0 where
+  pub peer : ¬ IsNext m j
+  pub own : GoesOn j.opening rebuilt m.opening
+  pub ahead : rebuilt < m.opening.position
+
+-- an image whose stream hasn't ended lacks what doesn't come
+pub record IsLeft (s : Seen) (j : Joined) : Type 0 where
+  pub going : ¬ IsTrue j.ended
+  pub behind : IsBehind s
+
+-- an image whose stream has ended gives way to the next publisher's, and one that hasn't ended while its session is silent, or
+-- where what it lacks doesn't come, to its own
+abbrev pub GivesWay : Seen → Meeting → ℕ → Joined → Type 0
+GivesWay s m rebuilt j = (IsTrue j.ended × IsNext m j) ⊎ ((¬ IsTrue j.ended) × (IsSilent s ⊎ (IsBehind s × IsAhead m rebuilt j)))
+
+-- what is missing behind an image that gives way: where what it lacks didn't come, all between its consumer and the SETUP
+abbrev pub IsLoss : Seen → Meeting → Joined → Option Loss → Type 0
+IsLoss s m j loss =
+    (IsLeft s j × ((place : ℕ) × StandsHere j.follower.subscriber place × (loss ≡ loss_between place m.opening.position)))
+    ⊎ ((¬ IsLeft s j) × (loss ≡ None))
+
+-- that is told, if anything is missing
+abbrev pub TellsLoss : ℤ → Option Loss → Option (List ℕ) → Option (List ℕ) → Type 0
+TellsLoss session None before after = after ≡ before
+TellsLoss session (Some loss) before after = Appends before after (missing_line session loss)
 
 -- the image is kept, and this is its peer
 abbrev pub IsTiedTo : SocketAddr → Joined → Joined → Type 0
 IsTiedTo from old new = new ≡ with_device old (tied_anew old.duty.device from)
 
--- a SETUP has opened a new image, whose peer is the one that sent it
-pub record IsRenewed (plan : SubscribePlan) (moment : ℕ) (m : Meeting) (old new : Joined) : Type 0 where
-  pub number : new.number ≡ next old.number
-  pub met : HasMet plan (next old.number) (setup_of m.setup) moment new.follower.subscriber
+-- a SETUP has opened a new image, whose peer is the one that sent it, and before which this is missing
+pub record IsRenewed (plan : SubscribePlan) (moment : ℕ) (m : Meeting) (loss : Option Loss) (old new : Joined) : Type 0 where
+  pub images : new.images ≡ next_images old.images loss
+  pub met : HasMet plan (next old.images.number) (setup_of m.setup) moment new.follower.subscriber
   pub fresh : IsFresh new.follower m.opening.session plan.end.stream
   pub opening : new.opening ≡ m.opening
   pub device : new.duty ≡ record (old.duty) { device = turned_to (tied_anew old.duty.device m.from) m.opening.session }
+  pub lost : new.lost ≡ false
   pub silent : new.silent ≡ false
   pub warned : new.warned ≡ false
   pub ended : new.ended ≡ false
   pub unheard : new.unheard ≡ []
 
+-- and what is missing is what was between them
+pub record Replaces (plan : SubscribePlan) (s : Seen) (m : Meeting) (old new : Joined) : Type 0 where
+  pub loss : Option Loss
+  pub is : IsLoss s m old loss
+  pub renewed : IsRenewed plan s.moment m loss old new
+
 -- the image doesn't give way: nothing is made of it, but that another sender or session is noted
-pub record Passes (s : Seen) (m : Meeting) (old new : Joined) (t : Seen) : Type 0 where
-  pub stays : ¬ GivesWay s m old
+pub record Passes (s : Seen) (m : Meeting) (rebuilt : ℕ) (old new : Joined) (t : Seen) : Type 0 where
+  pub stays : ¬ GivesWay s m rebuilt old
   pub warns : Warns m old new
   pub seen : t ≡ s
 
--- it is the session's own again, whose stream hasn't ended, where the image is rebuilt up to here
-pub record IsAgain (m : Meeting) (rebuilt : ℕ) (j : Joined) : Type 0 where
+-- it is the own again of a session that was silent, whose stream hasn't ended, where the image is rebuilt up to here
+pub record IsAgain (s : Seen) (m : Meeting) (rebuilt : ℕ) (j : Joined) : Type 0 where
   pub going : ¬ IsTrue j.ended
+  pub silent : IsSilent s
   pub own : GoesOn j.opening rebuilt m.opening
 
 -- the image would give way, and goes on
 pub record Resumes (s : Seen) (m : Meeting) (rebuilt : ℕ) (old new : Joined) (t : Seen) : Type 0 where
-  pub way : GivesWay s m old
-  pub again : IsAgain m rebuilt old
+  pub way : GivesWay s m rebuilt old
+  pub again : IsAgain s m rebuilt old
   pub tied : IsTiedTo m.from old new
   pub seen : t ≡ s
 
 -- the image gives way
 pub record Renews (plan : SubscribePlan) (s : Seen) (m : Meeting) (rebuilt : ℕ) (old new : Joined) (t : Seen) : Type 0 where
-  pub way : GivesWay s m old
-  pub other : ¬ IsAgain m rebuilt old
-  pub renewed : IsRenewed plan s.moment m old new
-  pub seen : t ≡ hearing s
+  pub way : GivesWay s m rebuilt old
+  pub other : ¬ IsAgain s m rebuilt old
+  pub replaced : Replaces plan s m old new
+  pub seen : t ≡ keeping (hearing s)
 
 -- what is made of a SETUP that would open an image
 abbrev pub Turns : SubscribePlan → Seen → Meeting → Joined → Joined → Seen → Type 0
 Turns plan s m old new t =
-    (rebuilt : ℕ) × RebuiltTo old.follower.subscriber rebuilt × (Passes s m old new t ⊎ Resumes s m rebuilt old new t ⊎ Renews plan s m rebuilt old new t)
+    (rebuilt : ℕ) × RebuiltTo old.follower.subscriber rebuilt × (Passes s m rebuilt old new t ⊎ Resumes s m rebuilt old new t ⊎ Renews plan s m rebuilt old new t)
 
 -- what is made of any SETUP
 abbrev pub Considers : SubscribePlan → Seen → SocketAddr → Setup → Joined → Joined → Seen → Type 0
@@ -117,4 +150,5 @@ ConsidersOffer plan s (Some offer) old new t = Considers plan s offer.0 offer.1 
 
 abbrev pub Attends : SubscribePlan → Seen → Joined → Joined → Seen → Type 0
 Attends plan s old new t =
-    (offer : Offer) × IsOffered old.duty.device.notes.setup old.duty.device.inner.inner.inner offer × ConsidersOffer plan s offer (with_device old (setup_taken old.duty.device)) new t
+    (offer : Offer) × IsOffered old.duty.device.notes.setup old.duty.device.inner.inner.inner offer
+    × (u : Seen) × ConsidersOffer plan s offer (with_device old (setup_taken old.duty.device)) new u × (t ≡ attending u)

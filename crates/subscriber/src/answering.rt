@@ -6,6 +6,7 @@ ghost use Rattle.subscriber.specs.Answering.{AnswersEnd, TellsPlace};
 ghost use Rattle.subscriber.specs.Leavings.{ListensOn, LivesUnpolled, NotesHeard};
 ghost use Rattle.subscriber.specs.Standing.{HasAll};
 ghost use Rattle.subscription.specs.Texts.{ended_line};
+ghost use Rattle.subscription.specs.Watches.{IsWithinTurn};
 
 use crate::fault::SubscribeFault;
 use crate::standing::{Stand, has_all, stand_of};
@@ -19,6 +20,7 @@ use subscription::{Joined, Watch, tell_ended};
 pub(crate) fn note_heard(joined: &Joined, watch: &mut Watch, before: u64)
     ensures heard { NotesHeard before joined.now.duty.device.notes.frames watch.old watch.new }
     ensures moment { watch.new.moment ≡ watch.old.moment }
+    ensures turn { IsWithinTurn watch.old watch.new }
 {
     if joined.duty.device().notes().frames != before {
         watch.hear();
@@ -63,11 +65,12 @@ pub(crate) fn answer_end<E: Write>(
 ) -> Result<Stand, SubscribeFault>
     requires { joined.old.duty.mtu ≡ REPLY }
     ensures size { joined.new.duty.mtu ≡ joined.old.duty.mtu }
-    ensures number { joined.new.number ≡ joined.old.number }
+    ensures images { joined.new.images ≡ joined.old.images }
     ensures unpolled { LivesUnpolled joined.old.follower.subscriber joined.new.follower.subscriber }
     ensures listens { OnOk result (ListensOn joined.old.follower joined.new.follower) }
     ensures answers { IfOk result (AnswersEnd watch.old.moment joined.old joined.new) }
     ensures heard { OnOk result (NotesHeard joined.old.duty.device.notes.frames joined.new.duty.device.notes.frames watch.old watch.new) }
+    ensures turn { IsWithinTurn watch.old watch.new }
 {
     let stand = stand_of(joined);
     let before = joined.ended;

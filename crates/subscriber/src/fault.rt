@@ -1,5 +1,5 @@
 ghost use Rattle.std.specs.Prelude.{◌≡◌, Some};
-ghost use Rattle.subscriber.specs.Texts.{of_delivery, text_of};
+ghost use Rattle.subscriber.specs.Texts.{number_of, of_delivery, text_of};
 ghost use Rattle.endpoint.specs.declared.device_error.DeviceError.TheVariants.{Device, Memory};
 ghost use Rattle.subscriber.specs.declared.fault.SubscribeFault.TheVariants.{Failed};
 
@@ -17,12 +17,16 @@ pub enum SubscribeFault {
     Taken(SocketAddr),
     /// This machine doesn't have the address.
     NotHere(SocketAddr),
-    /// The output failed. What was polled last may be lost; no status message went out for it.
-    Output,
+    /// The output failed. What was polled last may be lost; no status message went out for it. With the system's number, where
+    /// it gave one.
+    Output(Option<i32>),
     /// A message was refused, and is lost.
     Message,
-    /// `Device`: the socket can't be bound or have a second handle, all its calls failed for 5 seconds, the clock can't be
-    /// read, or the system refused a thread. `Memory`: memory was refused.
+    /// The system refuses the socket, or a second handle of it; with the system's number, where it gave one.
+    NoSocket(Option<i32>),
+    /// The system gives no thread.
+    NoThread,
+    /// `Device`: all calls of the socket failed for 5 seconds, or the clock can't be read. `Memory`: memory was refused.
     Failed(DeviceError),
 }
 
@@ -35,8 +39,10 @@ impl fmt::Display for SubscribeFault {
             SubscribeFault::NotHere(address) => {
                 write!(f, "{address} isn't an address of this machine")
             }
-            SubscribeFault::Output => write!(f, "output"),
+            SubscribeFault::Output(_) => write!(f, "output"),
             SubscribeFault::Message => write!(f, "message"),
+            SubscribeFault::NoSocket(_) => write!(f, "device"),
+            SubscribeFault::NoThread => write!(f, "device: the system gives no thread"),
             SubscribeFault::Failed(error) => write!(f, "{error}"),
         }
     }
@@ -44,12 +50,24 @@ impl fmt::Display for SubscribeFault {
 
 impl Error for SubscribeFault {}
 
+impl SubscribeFault {
+    /// The system's number of what failed, if it gave one.
+    pub fn number(&self) -> Option<i32>
+        ensures { result ≡ number_of self.now }
+    {
+        match *self {
+            SubscribeFault::Output(number) | SubscribeFault::NoSocket(number) => number,
+            _ => None,
+        }
+    }
+}
+
 impl From<DeliveryFault> for SubscribeFault {
     ghost from_gives = { λ from fault. fault ≡ of_delivery from };
 
     fn from(fault: DeliveryFault) -> SubscribeFault {
         match fault {
-            DeliveryFault::Output => SubscribeFault::Output,
+            DeliveryFault::Output(number) => SubscribeFault::Output(number),
             DeliveryFault::Message(_) => SubscribeFault::Message,
             DeliveryFault::Failed(error) => SubscribeFault::Failed(error),
         }

@@ -6,16 +6,17 @@ ghost use Rattle.endpoint.specs.declared.device_error.DeviceError.TheVariants.{D
 ghost use Rattle.subscriber.specs.Breaking.{BreaksActs, BreaksLife};
 ghost use Rattle.subscriber.specs.Answering.{BidsFarewell, IsTicked, NotesSilence};
 ghost use Rattle.subscriber.specs.Endings.{EndsSo};
-ghost use Rattle.subscriber.specs.Leavings.{HasEnough, IsEnding, IsQuietEnding, IsSettled, LeavesFrom, LivesUnpolled, NotesHeard, NotesWork, StandsStill};
+ghost use Rattle.subscriber.specs.Leavings.{HasEnough, IsEnding, IsQuietEnding, IsSettled, enough_ending, LeavesFrom, LivesUnpolled, NotesHeard, NotesWork, StandsStill};
 ghost use Rattle.subscriber.specs.Standing.{StandsHere, Stands};
 ghost use Rattle.subscriber.specs.declared.standing.Stand.{Stand as Standing};
-ghost use Rattle.subscription.specs.Watches.{IsBroken, TellsWhereDue};
+ghost use Rattle.subscription.specs.Watches.{AttendsEach, IsBroken, IsWithinTurn, TellsWhereDue};
 ghost use Rattle.subscriber.specs.declared.fault.SubscribeFault.TheVariants.{Failed};
 ghost use Rattle.subscriber.specs.Living.{Follows, LivesOn};
-ghost use Rattle.subscriber.specs.Telling.{AreCounts, TellsCounters, TellsLine};
+ghost use Rattle.subscriber.specs.Telling.{AreCounts, TellsCounters, TellsLine, TellsNow};
 ghost use Rattle.subscriber.specs.Texts.{silence_line};
 ghost use Rattle.subscriber.specs.Turning.{with_device};
 ghost use Rattle.subscriber.specs.Writings.{Writes};
+ghost use Rattle.subscription.specs.Images.{has_lost};
 ghost use Rattle.subscription.specs.Sendings.{news_taken};
 
 use crate::answering::{answer_end, note_heard, tell_place};
@@ -23,6 +24,7 @@ use crate::delivery::cycle;
 use crate::delivery::polling::CYCLE_MESSAGES;
 use crate::ended::Ending;
 use crate::fault::SubscribeFault;
+use crate::losing::{ask_anew, note_kept, tell_loss};
 use crate::repeating::Slot;
 use crate::standing::{Stand, has_all, stand_of};
 use crate::turning::attend;
@@ -40,8 +42,8 @@ use subscription::{Counts, Joined, Watch, tell_again, tell_counters, tell_silent
 const FAREWELL: u64 = 1_000_000_000;
 
 /// A cycle: messages are written, at most so many as are still wanted, and then the device is heard and answered. The answer
-/// is how many were written in all, and whether there was work: messages to write, or an image that got further. Heartbeats
-/// and answers to them are none, so that the thread rests between them.
+/// is how many were written in all, and whether there was work: messages to write, an image that got further, or datagrams of
+/// strangers. Heartbeats and answers to them are none, so that the thread rests between them.
 fn cycle_once<W: Write>(
     plan: &SubscribePlan,
     joined: &mut Joined,
@@ -62,9 +64,11 @@ fn cycle_once<W: Write>(
     // Last it was told the moment.
     ensures ticked { IfOk result (λ _. IsTicked watch.old.moment joined.new.follower.subscriber) }
     ensures moment { watch.new.moment ≡ watch.old.moment }
+    ensures turn { IsWithinTurn watch.old watch.new }
     ensures same { joined.new ≡ record joined.old { follower = joined.new.follower; duty = joined.new.duty } }
 {
     let before = joined.duty.device().notes().frames;
+    let passed = tied_of(joined.duty.device()).strangers();
     let stood = joined.follower.subscriber.positions();
     let most = (plan.messages - written).min(CYCLE_MESSAGES as u64) as usize;
     let done = cycle(
@@ -77,8 +81,9 @@ fn cycle_once<W: Write>(
     )?;
     note_heard(joined, watch, before);
     let all = written + done.messages as u64;
-    let worked = done.messages > 0 || joined.follower.subscriber.positions() != stood;
-    Ok((all, worked))
+    let moved = joined.follower.subscriber.positions() != stood;
+    let stirred = tied_of(joined.duty.device()).strangers() != passed;
+    Ok((all, (done.messages > 0) | moved | stirred))
 }
 
 /// Notes whether a call of the socket worked in a cycle, before which so many had. The fault comes where none has for 5
@@ -86,6 +91,7 @@ fn cycle_once<W: Write>(
 fn check_works(joined: &Joined, watch: &mut Watch, before: u64) -> Result<(), DeviceError>
     ensures noted { NotesWork before joined.now.duty.device.inner.inner.worked watch.old watch.new }
     ensures moment { watch.new.moment ≡ watch.old.moment }
+    ensures turn { IsWithinTurn watch.old watch.new }
     ensures works { OnOk result (¬ IsBroken watch.new) }
     ensures broken { IfErr result (λ fault. (fault ≡ Device) × IsBroken watch.new) }
 {
@@ -113,17 +119,33 @@ pub(crate) fn quiet_ending(plan: &SubscribePlan) -> Ending
     }
 }
 
+/// How one ends that has enough: whole, but where an image was lost.
+fn enough_ending(lost: bool) -> Ending
+    ensures { result ≡ enough_ending lost }
+{
+    if lost { Ending::Lost } else { Ending::Whole }
+}
+
 /// How the subscriber ends at the moment, behind so many messages, if it does.
-fn ending_of(plan: &SubscribePlan, watch: &Watch, written: u64, stand: &Stand) -> Option<Ending>
-    ensures { IsEnding plan.now written watch.now stand.now result }
+fn ending_of(
+    plan: &SubscribePlan,
+    watch: &Watch,
+    written: u64,
+    stand: &Stand,
+    lost: bool,
+) -> Option<Ending>
+    ensures { IsEnding plan.now written watch.now stand.now lost result }
 {
     if is_done(plan, written, stand) {
-        return Some(Ending::Whole);
+        return Some(enough_ending(lost));
     }
-    if watch.is_quiet(plan) {
-        return Some(quiet_ending(plan));
+    if !watch.is_quiet(plan) {
+        return None;
     }
-    None
+    match quiet_ending(plan) {
+        Ending::Whole => Some(enough_ending(lost)),
+        Ending::Short | Ending::Lost => Some(Ending::Short),
+    }
 }
 
 /// Tells once that the session is silent, and once that it goes on; of a stream that has ended neither.
@@ -176,6 +198,40 @@ fn counts_of(joined: &Joined, watch: &Watch, written: u64, since: u64) -> Counts
     }
 }
 
+/// Tells the counters behind so many messages, of which so many came since they were told last; without an image nothing.
+fn tell_now<E: Write>(
+    joined: &Joined,
+    errors: &mut E,
+    watch: &Watch,
+    written: u64,
+    since: u64,
+) -> io::Result<()>
+    ensures { TellsNow joined.now watch.now written since (λ p c. OnOk result (TellsLine p joined.now.opening.session c (E.contents errors.old) (E.contents errors.new))) }
+{
+    let counts = counts_of(joined, watch, written, since);
+    match joined.follower.subscriber.positions() {
+        None => Ok(()),
+        Some(positions) => tell_counters(errors, joined.opening.session, &positions, &counts),
+    }
+}
+
+/// Tells the counters at the end, behind so many messages, where they are asked for.
+pub(crate) fn tell_last<E: Write>(
+    plan: &SubscribePlan,
+    joined: &Joined,
+    errors: &mut E,
+    watch: &Watch,
+    written: u64,
+) -> io::Result<()>
+    ensures asked { IsTrue plan.now.end.counters → TellsCounters joined.now watch.now written (λ p c. OnOk result (TellsLine p joined.now.opening.session c (E.contents errors.old) (E.contents errors.new))) }
+    ensures quiet { plan.now.end.counters ≡ false → OnOk result (E.contents errors.new ≡ E.contents errors.old) }
+{
+    if !plan.end.counters {
+        return Ok(());
+    }
+    tell_now(joined, errors, watch, written, watch.since(written))
+}
+
 /// Tells the counters, once a second.
 fn tell<E: Write>(
     plan: &SubscribePlan,
@@ -190,11 +246,7 @@ fn tell<E: Write>(
     let Some(since) = watch.tells(plan, written) else {
         return Ok(());
     };
-    let counts = counts_of(joined, watch, written, since);
-    match joined.follower.subscriber.positions() {
-        None => Ok(()),
-        Some(positions) => tell_counters(errors, joined.opening.session, &positions, &counts),
-    }
+    tell_now(joined, errors, watch, written, since)
 }
 
 /// Tells the thread that repeats what is new of the status messages that the device was given.
@@ -220,30 +272,37 @@ pub(crate) fn follow<R: Wait + Clock, W: Write, E: Write>(
     slot: &Slot,
 ) -> Result<(u64, Ending), SubscribeFault>
     requires size { joined.old.duty.mtu ≡ REPLY }
-    requires begun { Follows plan.now (W.contents output.old) 0 joined.old.number joined.old.follower (W.contents output.old) }
+    requires begun { Follows plan.now (W.contents output.old) 0 joined.old.images joined.old.follower (W.contents output.old) }
     requires going { joined.old.ended ≡ false }
     ensures size { joined.new.duty.mtu ≡ REPLY }
     ensures few { IfOk result (λ r. r.0 ≤ plan.now.messages) }
-    ensures ended { IfOk result (λ r. EndsSo plan.now r.0 watch.new joined.new.follower.subscriber joined.new.follower.end r.1) }
+    ensures ended { IfOk result (λ r. EndsSo plan.now r.0 watch.new joined.new.follower.subscriber joined.new.follower.end (has_lost joined.new.lost joined.new.images) r.1) }
     ensures writes { IfOk result (λ r. Writes plan.now.end.form 0 (W.contents output.old) r.0 (W.contents output.new)) }
+    // In each turn, but in the last one, what came of SETUPs was attended.
+    ensures attended { IfOk result (λ _. AttendsEach watch.new) }
     // What its images gave, each in its turn.
-    ensures lives { IfOk result (λ r. Follows plan.now (W.contents output.old) r.0 joined.new.number joined.new.follower (W.contents output.new)) }
+    ensures lives { IfOk result (λ r. Follows plan.now (W.contents output.old) r.0 joined.new.images joined.new.follower (W.contents output.new)) }
     ensures broken { OnErr result (BreaksLife plan.now (W.contents output.old) joined.new.follower.subscriber (W.contents output.new)) }
 {
     let mut written: u64 = 0;
     let mut idle = IdleStrategy::new();
+    watch.begin();
     for _ in rt.forever() {
         watch.see(rt)?;
         let worked = joined.duty.device().inner().inner().worked();
+        let rebuilt = joined.rebuilt();
         let (all, busy) = cycle_once(plan, joined, output, watch, written)?;
         written = all;
         check_works(joined, watch, worked)?;
+        note_kept(joined, watch, rebuilt);
         let stand = answer_end(joined, errors, watch)?;
         let _ = tell_silence(joined, errors, watch);
+        let _ = tell_loss(joined, errors, watch);
         let _ = tell(plan, joined, errors, watch, written);
-        if let Some(ending) = ending_of(plan, watch, written, &stand) {
+        if let Some(ending) = ending_of(plan, watch, written, &stand, joined.has_lost()) {
             return Ok((written, ending));
         }
+        ask_anew(plan, joined, watch);
         attend(alloc, plan, joined, errors, watch)?;
         tell_news(rt, joined, slot);
         idle.after(rt, busy);
@@ -261,7 +320,7 @@ fn bid_farewell<R: Wait + Clock>(
     requires { joined.old.duty.mtu ≡ REPLY }
     ensures unpolled { LivesUnpolled joined.old.follower.subscriber joined.new.follower.subscriber }
     ensures still { StandsStill joined.old.follower.subscriber joined.new.follower.subscriber }
-    ensures number { joined.new.number ≡ joined.old.number }
+    ensures images { joined.new.images ≡ joined.old.images }
     ensures farewell { OnOk result (BidsFarewell joined.old.follower.subscriber watch.old.moment joined.new.follower.subscriber watch.new.moment) }
 {
     watch.see(rt)?;
@@ -296,7 +355,7 @@ pub(crate) fn leave<R: Wait + Clock>(
     requires { joined.old.duty.mtu ≡ REPLY }
     ensures unpolled { LivesUnpolled joined.old.follower.subscriber joined.new.follower.subscriber }
     ensures still { StandsStill joined.old.follower.subscriber joined.new.follower.subscriber }
-    ensures number { joined.new.number ≡ joined.old.number }
+    ensures images { joined.new.images ≡ joined.old.images }
     ensures leaves { (x : Standing) × Stands joined.old.follower.subscriber joined.old.follower.end x × LeavesFrom plan.now watch.old x (joined.new ≡ joined.old) (OnOk result (BidsFarewell joined.old.follower.subscriber watch.old.moment joined.new.follower.subscriber watch.new.moment)) }
 {
     if is_settled(plan, watch, &stand_of(joined)) {

@@ -16,6 +16,13 @@
 //! and in all as `HasEnded` says: one that had no image has written nothing, and was quiet. Why one ends short is a line of exact
 //! text (`tell_short`).
 //!
+//! Where the last frame that was heard of a session begins above what its image has rebuilt, something is lacking; where nothing
+//! that is lacking has come for ten seconds, and the session was heard in each of them, the image is lost (`note_kept`,
+//! `tell_loss`). Its peer is asked for a SETUP under the next image's id, at each frame (`ask_anew`), and the peer's own SETUP, if
+//! it lies above what is rebuilt, takes the place (`GivesWay`). What is missing is told, and is what lies between where the old
+//! image's consumer stood and where the new one joined (`IsLoss`); the images' lives keep it. A subscriber ends whole only where
+//! no image before its last one was lost (`AreUnlost`), and this one wasn't told as lost. Which frames were heard isn't said.
+//!
 //! A cycle that succeeds has polled up to 256 messages and as many as were asked for, all that were there if they are
 //! fewer, and a writer that tells what it holds has grown by exactly these, in order, each spelled by its form; then
 //! the duty's cycle began (`cycle`, by `WritesFirst`). Where the output failed or the assembler refused a frame,
@@ -40,6 +47,7 @@ mod delivery;
 mod ended;
 mod fault;
 mod following;
+mod losing;
 mod repeating;
 mod standing;
 mod subscribing;

@@ -87,7 +87,7 @@ fn shared_slot(alloc: Global) -> Result<(Arc<Slot, Global>, Arc<Slot, Global>), 
     Ok((ours, theirs))
 }
 
-/// Starts the thread. The fault is `Memory`, or `Device` where the system refused the thread.
+/// Starts the thread. The fault is `Memory`, or `NoThread`.
 fn started<R: Threads + Wait + Clock + Copy + Send + 'static>(
     rt: &R,
     alloc: Global,
@@ -100,13 +100,13 @@ fn started<R: Threads + Wait + Clock + Copy + Send + 'static>(
     let there = *rt;
     match thread::spawn(rt, move || repeat_all(&there, &theirs, &began, repeater)) {
         Ok(handle) => Ok(Repeating { slot, handle }),
-        Err(_) => Err(SubscribeFault::Failed(DeviceError::Device)),
+        Err(_) => Err(SubscribeFault::NoThread),
     }
 }
 
 impl Repeating {
-    /// Starts the thread, which gives the repeater its turns. The fault is `Device` where the clock can't be read or the
-    /// system refused the thread, or `Memory`.
+    /// Starts the thread, which gives the repeater its turns. The fault is `Device` where the clock can't be read,
+    /// `NoThread`, or `Memory`.
     pub(crate) fn start<R: Threads + Wait + Clock + Copy + Send + 'static>(
         rt: &R,
         alloc: Global,

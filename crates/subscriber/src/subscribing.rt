@@ -1,26 +1,28 @@
 //! A subscriber from its begin to its end.
 
-ghost use Rattle.std.specs.Prelude.{◌≡◌, ◌≤◌, ◌/◌, false, IfErr, IfOk, IsTrue, OnErr, OnOk};
+ghost use Rattle.std.specs.Prelude.{◌≡◌, ◌≤◌, ◌/◌, ℤ, Option, false, IfErr, IfOk, IsTrue, OnErr, OnOk};
 ghost use Rattle.std.specs.Io.KnownBytes.{Appends};
+ghost use Rattle.peer.specs.StatusSockets.{unused};
 ghost use Rattle.peer.specs.declared.fault.BindError.{BindError};
 ghost use Rattle.subscriber.specs.Breaking.{BreaksLife, BreaksLives};
 ghost use Rattle.subscriber.specs.Endings.{EndsWithImage, HasEnded};
 ghost use Rattle.subscriber.specs.Leavings.{of_bind};
 ghost use Rattle.subscriber.specs.Reasons.{IsUnfinished, TellsUnfinished};
-ghost use Rattle.subscription.specs.Texts.{nobody_line, unfinished_line};
+ghost use Rattle.subscriber.specs.Telling.{AreTotals};
+ghost use Rattle.subscription.specs.Texts.{nobody_line, not_whole_line, unfinished_line};
 ghost use Rattle.subscriber.specs.Living.{Follows, WritesLife, WritesLives};
 ghost use Rattle.subscriber.specs.Writings.{Writes};
-ghost use Rattle.subscriber.specs.declared.ended.Ending.TheVariants.{Short, Whole};
+ghost use Rattle.subscriber.specs.declared.ended.Ending.TheVariants.{Lost, Short, Whole};
 
 use crate::ended::{Ending, Subscribed};
 use crate::fault::SubscribeFault;
-use crate::following::{follow, leave, quiet_ending, strangers};
+use crate::following::{follow, leave, quiet_ending, strangers, tell_last};
 use crate::repeating::{Repeating, Slot};
 use agents::REPLY;
 use endpoint::{Binding, DeviceError};
 use frames::FaultCounts;
 use options::SubscribePlan;
-use peer::{BindError, Listener};
+use peer::{BindError, Listener, StatusSocket};
 use std::alloc::Global;
 use std::io;
 use std::io::Write;
@@ -29,9 +31,10 @@ use std::sync::Wait;
 use std::thread::Threads;
 use std::time::{Clock, Instant};
 use subscription::{
-    Joined, StatusRepeater, Unfinished, Watch, listen, tell_joined, tell_nobody, tell_refused,
-    tell_unfinished, tied_of,
+    Joined, StatusRepeater, Totals, Unfinished, Watch, listen, tell_joined, tell_nobody,
+    tell_not_whole, tell_refused, tell_totals, tell_unfinished, tied_of,
 };
+use text::Pace;
 
 /// Why there is no listener at this address.
 fn fault_of(address: SocketAddr, error: BindError) -> SubscribeFault
@@ -40,7 +43,8 @@ fn fault_of(address: SocketAddr, error: BindError) -> SubscribeFault
     match error {
         BindError::Taken => SubscribeFault::Taken(address),
         BindError::NotHere => SubscribeFault::NotHere(address),
-        BindError::Failed(error) => SubscribeFault::Failed(error),
+        BindError::Refused(number) => SubscribeFault::NoSocket(number),
+        BindError::Memory => SubscribeFault::Failed(DeviceError::Memory),
     }
 }
 
@@ -54,10 +58,21 @@ fn bind<R: Net>(rt: &R, alloc: Global, binding: &Binding) -> Result<Listener, Su
     }
 }
 
+/// A second handle of its socket.
+fn second_handle(listener: &Listener) -> Result<StatusSocket, SubscribeFault>
+    ensures same { IfOk result (λ s. s ≡ unused) }
+    ensures refused { IfErr result (λ fault. (number : Option ℤ) × (fault ≡ SubscribeFault.NoSocket number)) }
+{
+    match listener.status_socket() {
+        Ok(socket) => Ok(socket),
+        Err(error) => Err(SubscribeFault::NoSocket(error.raw_os_error())),
+    }
+}
+
 /// Nanoseconds in a second.
 const SECOND: u64 = 1_000_000_000;
 
-/// Tells why a subscriber with an image ends short, where it does.
+/// Tells why a subscriber with an image ends short, or what it lost, where it does.
 fn tell_short<E: Write>(
     plan: &SubscribePlan,
     joined: &Joined,
@@ -65,11 +80,13 @@ fn tell_short<E: Write>(
     errors: &mut E,
 ) -> io::Result<()>
     ensures short { ending ≡ Short → TellsUnfinished joined.now (λ left. OnOk result (Appends (E.contents errors.old) (E.contents errors.new) (unfinished_line (plan.now.quiet / 1000000000) left))) }
+    ensures lost { ending ≡ Lost → OnOk result (Appends (E.contents errors.old) (E.contents errors.new) (not_whole_line joined.now.images.missing)) }
     ensures whole { ending ≡ Whole → OnOk result (E.contents errors.new ≡ E.contents errors.old) }
 {
     match ending {
         Ending::Whole => Ok(()),
         Ending::Short => tell_unfinished(errors, plan.quiet / SECOND, &unfinished(joined)),
+        Ending::Lost => tell_not_whole(errors, joined.images.missing),
     }
 }
 
@@ -96,6 +113,21 @@ fn tell_nobody_there<E: Write>(plan: &SubscribePlan, errors: &mut E) -> io::Resu
     tell_nobody(errors, plan.quiet / SECOND)
 }
 
+/// What it has done, in so many messages, since the first image was opened at a moment.
+fn totals_of(joined: &Joined, watch: &Watch, messages: u64, opened: u64) -> Totals
+    ensures { AreTotals joined.now watch.now messages opened result }
+{
+    Totals {
+        pace: Pace {
+            count: messages,
+            nanoseconds: watch.moment().saturating_sub(opened),
+        },
+        session: joined.opening.session,
+        bytes: joined.place().saturating_sub(joined.opening.position),
+        naks: joined.duty.device().naks(),
+    }
+}
+
 /// Follows the image to the end, and leaves it. What is heard then belongs to the image's life. Nothing is repeated any more
 /// once all is written.
 fn follow_all<R: Wait + Clock, W: Write, E: Write>(
@@ -109,16 +141,17 @@ fn follow_all<R: Wait + Clock, W: Write, E: Write>(
     slot: &Slot,
 ) -> Result<Subscribed, SubscribeFault>
     requires size { joined.old.duty.mtu ≡ REPLY }
-    requires begun { Follows plan.now (W.contents output.old) 0 joined.old.number joined.old.follower (W.contents output.old) }
+    requires begun { Follows plan.now (W.contents output.old) 0 joined.old.images joined.old.follower (W.contents output.old) }
     requires going { joined.old.ended ≡ false }
     ensures few { IfOk result (λ s. s.messages ≤ plan.now.messages) }
     ensures short { IfOk result (λ s. s.ending ≡ Short → IsTrue plan.now.once) }
     ensures writes { IfOk result (λ s. Writes plan.now.end.form 0 (W.contents output.old) s.messages (W.contents output.new)) }
-    ensures lives { IfOk result (λ s. WritesLife plan.now (W.contents output.old) s.messages joined.new.number joined.new.follower.subscriber (W.contents output.new)) }
+    ensures lives { IfOk result (λ s. WritesLife plan.now (W.contents output.old) s.messages joined.new.images joined.new.follower.subscriber (W.contents output.new)) }
     ensures ended { IfOk result (λ s. EndsWithImage plan.now (W.contents output.old) s (W.contents output.new)) }
     ensures broken { OnErr result (BreaksLife plan.now (W.contents output.old) joined.new.follower.subscriber (W.contents output.new)) }
 {
     let _ = tell_joined(errors, joined.opening.session, joined.place());
+    let opened = watch.moment();
     let followed = follow(rt, alloc, plan, joined, output, errors, watch, slot);
     slot.end(rt);
     let _ = tell_refused(
@@ -127,7 +160,9 @@ fn follow_all<R: Wait + Clock, W: Write, E: Write>(
         strangers(joined, watch),
     );
     let (messages, ending) = followed?;
+    let _ = tell_last(plan, joined, errors, watch, messages);
     let _ = tell_short(plan, joined, ending, errors);
+    let _ = tell_totals(errors, &totals_of(joined, watch, messages, opened));
     let _ = leave(rt, plan, joined, watch);
     Ok(Subscribed { messages, ending })
 }
@@ -171,10 +206,11 @@ fn listen_and_follow<R: Wait + Clock, W: Write, E: Write>(
 /// It ends whole behind as many messages as are wanted. One that is to end with the stream ends whole where the publisher told
 /// the stream's end and all before that is written and flushed, and short where it was quiet before: no DATA frame, padding or
 /// heartbeat of its session came from its peer for as long as the plan says, or before it had an image no datagram that the
-/// plan takes. One that isn't ends whole where it was quiet.
+/// plan takes. One that isn't ends whole where it was quiet. Where an image was lost, it ends as one that has lost something in
+/// place of whole.
 ///
-/// What is joined, silent, heard again and closed, another sender of a session that isn't silent, and the counters are lines of
-/// `errors`, and at the end what was refused, where anything was.
+/// What is joined, silent, heard again, lost and closed, what is missing then, another sender of a session that isn't silent, and
+/// the counters are lines of `errors`, and at the end what was refused, where anything was.
 ///
 /// The fault says why (`SubscribeFault`). Behind one the output may end within a message, of which no status message has told.
 #[tactic(auto, using(crate::proofs::Breaking::before_image))]
@@ -195,7 +231,8 @@ pub fn subscribe<R: Threads + Wait + Clock + Net + Copy + Send + 'static, W: Wri
     ensures few { IfOk result (λ s. s.messages ≤ plan.now.messages) }
     // Only one that was to end with the stream ends short.
     ensures short { IfOk result (λ s. s.ending ≡ Short → IsTrue plan.now.once) }
-    // It was quiet before any image, and wrote nothing, or it ended where its last image stood then.
+    // It was quiet before any image, and wrote nothing, or it ended where its last image stood then; whole, only where no image
+    // before that was lost.
     ensures ended { IfOk result (λ s. HasEnded plan.now (W.contents output.old) s (W.contents output.new)) }
 {
     let Ok(began) = Instant::now(rt) else {
@@ -203,7 +240,7 @@ pub fn subscribe<R: Threads + Wait + Clock + Net + Copy + Send + 'static, W: Wri
     };
     let mut watch = Watch::new(began);
     let listener = bind(rt, alloc, binding)?;
-    let repeater = StatusRepeater::new(listener.status_socket()?);
+    let repeater = StatusRepeater::new(second_handle(&listener)?);
     let repeating = Repeating::start(rt, alloc, repeater)?;
     let slot = repeating.slot();
     let done = listen_and_follow(rt, alloc, plan, listener, output, errors, &mut watch, slot);

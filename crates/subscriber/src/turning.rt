@@ -6,7 +6,7 @@ ghost use Rattle.frames.specs.Frames.{setup_of};
 ghost use Rattle.subscription.specs.Hearings.{turned_to};
 ghost use Rattle.subscription.specs.Offers.{tied_anew};
 ghost use Rattle.subscription.specs.Texts.{another_line, unheard_line};
-ghost use Rattle.subscriber.specs.Turning.{Attends, Considers, GivesWay, GoesOn, IsAgain, IsAnother, IsNext, IsRenewed, IsTiedTo, IsUnheard, Turns, Warns};
+ghost use Rattle.subscriber.specs.Turning.{Attends, Considers, GivesWay, GoesOn, IsAgain, IsAhead, IsAnother, IsLoss, IsNext, IsRenewed, IsTiedTo, IsUnheard, Replaces, TellsLoss, Turns, Warns};
 
 use crate::fault::SubscribeFault;
 use agents::Duty;
@@ -17,8 +17,9 @@ use std::io;
 use std::io::Write;
 use std::net::SocketAddr;
 use subscription::{
-    Follower, Joined, Meeting, Opening, SubscriberDevice, Unheard, Watch, meeting_of, offered,
-    opened, tell_another, tell_closed, tell_joined, tell_unheard, tie, tied_of,
+    Follower, Joined, Loss, Meeting, Opening, SubscriberDevice, Unheard, Watch, loss_between,
+    meeting_of, offered, opened, tell_another, tell_closed, tell_joined, tell_missing,
+    tell_unheard, tie, tied_of,
 };
 
 /// Whether a SETUP is the session's own, so that an image goes on that is rebuilt up to here.
@@ -74,14 +75,24 @@ fn is_next(joined: &Joined, meeting: &Meeting) -> bool
         || meeting.from != tied_of(joined.duty.device()).peer()
 }
 
-/// Whether an image gives way: its stream has ended and the SETUP is the next publisher's, or hasn't, and its session is silent.
-fn gives_way(joined: &Joined, meeting: &Meeting, watch: &Watch) -> bool
-    ensures { IsTrue result ↔ GivesWay watch.now meeting.now joined.now }
+/// Whether a SETUP is the image's own, from its peer, and lies above what is rebuilt.
+fn is_ahead(joined: &Joined, meeting: &Meeting, rebuilt: u64) -> bool
+    ensures { IsTrue result ↔ IsAhead meeting.now rebuilt joined.now }
+{
+    !is_next(joined, meeting)
+        && goes_on(&joined.opening, rebuilt, &meeting.opening)
+        && rebuilt < meeting.opening.position
+}
+
+/// Whether an image gives way: its stream has ended and the SETUP is the next publisher's, or hasn't, and its session is silent,
+/// or what it lacks doesn't come and the SETUP is its own.
+fn gives_way(joined: &Joined, meeting: &Meeting, watch: &Watch, rebuilt: u64) -> bool
+    ensures { IsTrue result ↔ GivesWay watch.now meeting.now rebuilt joined.now }
 {
     if joined.ended {
         return is_next(joined, meeting);
     }
-    watch.is_silent()
+    watch.is_silent() || (watch.is_behind() && is_ahead(joined, meeting, rebuilt))
 }
 
 /// Makes this the peer.
@@ -101,35 +112,47 @@ fn turn(duty: &mut Duty<SubscriberDevice>, from: SocketAddr, session: i32)
     device.turn_to(session);
 }
 
-/// Whether a SETUP is the session's own again, whose stream hasn't ended, where the image is rebuilt up to here.
-fn is_again(joined: &Joined, meeting: &Meeting, rebuilt: u64) -> bool
-    ensures { IsTrue result ↔ IsAgain meeting.now rebuilt joined.now }
+/// Whether a SETUP is the session's own again, which was silent, and whose stream hasn't ended, where the image is rebuilt up to here.
+fn is_again(joined: &Joined, meeting: &Meeting, watch: &Watch, rebuilt: u64) -> bool
+    ensures { IsTrue result ↔ IsAgain watch.now meeting.now rebuilt joined.now }
 {
-    !joined.ended && goes_on(&joined.opening, rebuilt, &meeting.opening)
+    !joined.ended && watch.is_silent() && goes_on(&joined.opening, rebuilt, &meeting.opening)
 }
 
-/// Opens a new image in the place of one.
+/// What is missing behind an image that gives way: where what it lacks didn't come, all between its consumer and the SETUP.
+fn loss_of(joined: &Joined, meeting: &Meeting, watch: &Watch) -> Option<Loss>
+    ensures { IsLoss watch.now meeting.now joined.now result }
+{
+    if joined.ended || !watch.is_behind() {
+        return None;
+    }
+    loss_between(joined.place(), meeting.opening.position)
+}
+
+/// Opens a new image in the place of one, behind which this is missing.
 fn renew(
     alloc: Global,
     plan: &SubscribePlan,
     joined: &mut Joined,
     meeting: &Meeting,
+    loss: Option<Loss>,
     now: u64,
 ) -> Result<(), SubscribeFault>
-    ensures renewed { OnOk result (IsRenewed plan.now now meeting.now joined.old joined.new) }
+    ensures renewed { OnOk result (IsRenewed plan.now now meeting.now loss joined.old joined.new) }
     ensures kept { OnErr result (joined.new.follower.subscriber ≡ joined.old.follower.subscriber) }
     ensures size { joined.new.duty.mtu ≡ joined.old.duty.mtu }
 {
-    let number = joined.number.wrapping_add(1);
-    let subscriber = opened(alloc, plan, number, &meeting.setup, now)?;
+    let images = joined.images.next(loss);
+    let subscriber = opened(alloc, plan, images.number, &meeting.setup, now)?;
     joined.follower = Follower {
         subscriber,
         session: meeting.opening.session,
         stream: plan.end.stream,
         end: None,
     };
-    joined.number = number;
+    joined.images = images;
     joined.opening = meeting.opening;
+    joined.lost = false;
     joined.silent = false;
     joined.warned = false;
     joined.ended = false;
@@ -138,23 +161,35 @@ fn renew(
     Ok(())
 }
 
-/// Closes an image, and opens the one that a SETUP opens in its place.
+/// Tells what is missing between an image and the next one, if anything is.
+fn tell_loss<E: Write>(errors: &mut E, session: i32, loss: Option<Loss>) -> io::Result<()>
+    ensures { OnOk result (TellsLoss session loss (E.contents errors.old) (E.contents errors.new)) }
+{
+    match loss {
+        None => Ok(()),
+        Some(loss) => tell_missing(errors, session, &loss),
+    }
+}
+
+/// Closes an image, and opens the one that a SETUP opens in its place. What is missing between them is told.
 fn replace<E: Write>(
     alloc: Global,
     plan: &SubscribePlan,
     joined: &mut Joined,
     meeting: &Meeting,
     errors: &mut E,
-    now: u64,
+    watch: &Watch,
 ) -> Result<(), SubscribeFault>
-    ensures renewed { OnOk result (IsRenewed plan.now now meeting.now joined.old joined.new) }
+    ensures renewed { OnOk result (Replaces plan.now watch.now meeting.now joined.old joined.new) }
     ensures kept { OnErr result (joined.new.follower.subscriber ≡ joined.old.follower.subscriber) }
     ensures size { joined.new.duty.mtu ≡ joined.old.duty.mtu }
 {
     let refused = joined.follower.subscriber.refused();
     let _ = tell_closed(errors, joined.opening.session, joined.place(), refused);
-    renew(alloc, plan, joined, meeting, now)?;
+    let loss = loss_of(joined, meeting, watch);
+    renew(alloc, plan, joined, meeting, loss, watch.moment())?;
     let _ = tell_joined(errors, joined.opening.session, joined.place());
+    let _ = tell_loss(errors, joined.opening.session, loss);
     Ok(())
 }
 
@@ -172,16 +207,17 @@ fn turns<E: Write>(
     ensures size { joined.new.duty.mtu ≡ joined.old.duty.mtu }
 {
     let rebuilt = joined.rebuilt();
-    if !gives_way(joined, meeting, watch) {
+    if !gives_way(joined, meeting, watch, rebuilt) {
         let _ = warn(joined, meeting, errors);
         return Ok(());
     }
-    if is_again(joined, meeting, rebuilt) {
+    if is_again(joined, meeting, watch, rebuilt) {
         tie_again(joined, meeting.from);
         return Ok(());
     }
-    replace(alloc, plan, joined, meeting, errors, watch.moment())?;
+    replace(alloc, plan, joined, meeting, errors, watch)?;
     watch.hear();
+    watch.keep();
     Ok(())
 }
 
@@ -208,7 +244,8 @@ fn consider<E: Write>(
 ///
 /// Of a stream that has ended, and is written up to its end, the next publisher's SETUP takes the place at once, and of its own
 /// nothing is made. Else, while the session isn't silent, nothing is, but that another sender of it is told once, and each other
-/// session. Of a silent session a SETUP of the same shape that isn't behind what was rebuilt ties the device to who sent it,
+/// session; where what the image lacks doesn't come, its own SETUP from its peer, if it lies above what is rebuilt, opens a new
+/// image in its place. Of a silent session a SETUP of the same shape that isn't behind what was rebuilt ties the device to who sent it,
 /// and the image goes on. Any other one that the plan takes closes the image, and opens a new one under another receiver id; it
 /// is told where. The fault is that memory was refused; then nothing was opened.
 pub(crate) fn attend<E: Write>(
@@ -222,8 +259,9 @@ pub(crate) fn attend<E: Write>(
     ensures kept { OnErr result (joined.new.follower.subscriber ≡ joined.old.follower.subscriber) }
     ensures size { joined.new.duty.mtu ≡ joined.old.duty.mtu }
 {
-    match offered(joined.duty.device_mut()) {
-        None => Ok(()),
-        Some(offer) => consider(alloc, plan, joined, offer, errors, watch),
+    if let Some(offer) = offered(joined.duty.device_mut()) {
+        consider(alloc, plan, joined, offer, errors, watch)?;
     }
+    watch.attend();
+    Ok(())
 }

@@ -10,7 +10,7 @@ use Rattle.theory.specs.Wire.{Setup, Wire}
 use Rattle.frames.specs.Fronts.{FrontSpells}
 use Rattle.peer.specs.Farewells.{EndsAt}
 use Rattle.subscription.specs.Followers.{IsGreatestEnd, NotesDatagramsEnd, NotesEnd, NotesEndIn, NotesEnds, TellsEnd, with_end}
-use Rattle.subscription.specs.Meetings.{TellsSetup, setup_told}
+use Rattle.peer.specs.Setups.{TellsSetup, setup_told}
 
 same_pos : (a b : ℕ) → pos a ≡ pos b → a ≡ b
 same_pos a b e = grind (arith, e)

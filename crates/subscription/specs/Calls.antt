@@ -8,10 +8,12 @@ use Rattle.frames.specs.declared.frame.Setup.{Setup}
 use Rattle.loss_injector.specs.Losing.{begun}
 use Rattle.options.specs.declared.ends.plans.SubscribePlan.{SubscribePlan}
 use Rattle.peer.specs.Patience.{patient}
+use Rattle.peer.specs.Setups.{TellsSetup}
 use Rattle.peer.specs.Ties.{Came, Listening, asking, tied_to}
 use Rattle.subscription.specs.Followers.{IsFresh}
+use Rattle.subscription.specs.Images.{first_image}
 use Rattle.subscription.specs.Hearings.{following}
-use Rattle.subscription.specs.Meetings.{HasMet, Opens, OpensNothing, TakesSession, TellsHeader, TellsSetup, id_of}
+use Rattle.subscription.specs.Meetings.{HasMet, Opens, OpensNothing, TakesSession, TellsHeader, id_of}
 use Rattle.subscription.specs.Watches.{Seen, called, hearing, with_stranger}
 use Rattle.subscription.specs.declared.joined.Joined.{Joined}
 use Rattle.subscription.specs.declared.listening.Call.{Call}
@@ -88,10 +90,11 @@ Heeds plan (Some came) old found new = HeedsCall plan came old found new
 -- a subscriber with its first image, tied to the one whose SETUP opened it
 pub record IsJoinedBy (plan : SubscribePlan) (moment : ℕ) (m : Meeting) (socket : Listening) (j : Joined) : Type 0 where
   pub opening : j.opening ≡ m.opening
-  pub number : j.number ≡ 0
+  pub images : j.images ≡ first_image
   pub met : HasMet plan 0 (setup_of m.setup) moment j.follower.subscriber
   pub fresh : IsFresh j.follower m.opening.session plan.end.stream
   pub duty : j.duty ≡ record { device = following (begun (patient (tied_to socket m.from)) plan.end.rates plan.end.seed) m.opening.session plan.end.stream; mtu = 40 }
+  pub lost : j.lost ≡ false
   pub silent : j.silent ≡ false
   pub warned : j.warned ≡ false
   pub ended : j.ended ≡ false

@@ -4,7 +4,7 @@ use Rattle.theory.specs.Placed.{Among}
 use Rattle.theory.specs.Wire.{Setup}
 use Rattle.agents.specs.Parties.{ReceiverHears, ReceiverTicks}
 use Rattle.peer.specs.Farewells.{EndsAt}
-use Rattle.subscription.specs.Meetings.{TellsSetup}
+use Rattle.peer.specs.Setups.{TellsSetup}
 use Rattle.subscription.specs.declared.follower.Follower.{Follower}
 
 -- a datagram tells this end of a session's stream

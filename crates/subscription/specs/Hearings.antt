@@ -2,9 +2,11 @@
 use Rattle.std.specs.Prelude.{◌≡◌, ◌+◌, ◌%◌, ◌^◌, ℕ, ℤ, Bool, false, ◌&&◌, nat_eq, List, length, take, Option, None, Some, option_map, if◌then◌else◌}
 use Rattle.std.specs.Ordering.{int_eq}
 use Rattle.theory.specs.Wire.{Header, Setup}
-use Rattle.frames.specs.Frames.{setup_of}
+use Rattle.frames.specs.Frames.{header_of, setup_of}
+use Rattle.frames.specs.declared.frame.Header.{Header as Heard}
 use Rattle.endpoint.specs.Devices.{counted}
-use Rattle.subscription.specs.Meetings.{TellsHeader, TellsSetup}
+use Rattle.peer.specs.Setups.{TellsSetup}
+use Rattle.subscription.specs.Meetings.{TellsHeader}
 use Rattle.subscription.specs.declared.followed.Noted.{Noted}
 use Rattle.subscription.specs.declared.followed.Noted.TheVariants.{Nothing, Given, Cleared}
 use Rattle.subscription.specs.declared.followed.Notes.{Notes}
@@ -22,7 +24,7 @@ pub record Following (D : Type 0) : Type 0 where
 
 -- nothing was heard yet
 abbrev pub unheard : Notes
-unheard = record { frames = 0; setup = None }
+unheard = record { frames = 0; last = None; setup = None }
 
 -- nothing was heard of this session yet, nor sent
 abbrev pub following : {D : Type 0} → D → ℤ → ℤ → Following D
@@ -34,7 +36,7 @@ clearing f = record f { noted = Cleared }
 
 -- it turns to another session, of which it has heard nothing, and for which it was given nothing
 abbrev pub turned_to : {D : Type 0} → Following D → ℤ → Following D
-turned_to f session = record f { session = session; notes = record (f.notes) { setup = None }; noted = Cleared }
+turned_to f session = record f { session = session; notes = record (f.notes) { last = None; setup = None }; noted = Cleared }
 
 -- a header of the session's stream
 abbrev pub is_own : ℤ → ℤ → Option Header → Bool
@@ -45,6 +47,10 @@ is_own session stream (Some h) = int_eq h.session session && int_eq h.stream str
 abbrev pub frames_after : Bool → ℕ → ℕ
 frames_after own frames = if own then (frames + 1) % 2 ^ 64 else frames
 
+-- the last of them
+abbrev pub last_after : Bool → Option Heard → Option Heard → Option Heard
+last_after own header last = if own then header else last
+
 -- the later one
 abbrev pub latest : Option Setup → Option Setup → Option Setup
 latest before None = before
@@ -52,12 +58,13 @@ latest before (Some f) = Some f
 
 -- what a datagram tells of the session's stream
 pub record NotesDatagram (session stream : ℤ) (bytes : List ℕ) (old new : Notes) : Type 0 where
-  pub header : Option Header
-  pub tells_header : TellsHeader bytes header
+  pub header : Option Heard
+  pub tells_header : TellsHeader bytes (option_map header_of header)
   pub found : Option Setup
   pub tells_setup : TellsSetup bytes found
   -- a frame of the stream in front counts
-  pub frames : new.frames ≡ frames_after (is_own session stream header) old.frames
+  pub frames : new.frames ≡ frames_after (is_own session stream (option_map header_of header)) old.frames
+  pub last : new.last ≡ last_after (is_own session stream (option_map header_of header)) header old.last
   pub setup : option_map setup_of new.setup ≡ latest (option_map setup_of old.setup) found
 
 -- of a datagram that was found what it tells is noted

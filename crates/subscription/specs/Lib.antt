@@ -1,6 +1,7 @@
 pub mod Windows
 pub mod Meetings
 pub mod Hearings
+pub mod Images
 pub mod Watches
 pub mod Places
 pub mod Offers

@@ -15,15 +15,6 @@ use Rattle.subscription.specs.declared.opening.Opening.{Opening}
 
 -- ---- what a datagram says
 
--- the SETUP that a frame is
-abbrev pub setup_told : Wire → Option Setup
-setup_told (DATA h flags payload) = None
-setup_told (PAD h n) = None
-setup_told (HEARTBEAT h) = None
-setup_told (NAK f) = None
-setup_told (SM asks f) = None
-setup_told (SETUP f) = Some f
-
 -- the header of a DATA frame, a padding or a heartbeat
 abbrev pub header_told : Wire → Option Header
 header_told (DATA h flags payload) = Some h
@@ -32,11 +23,6 @@ header_told (HEARTBEAT h) = Some h
 header_told (NAK f) = None
 header_told (SM asks f) = None
 header_told (SETUP f) = None
-
--- the SETUP that a datagram of one frame is; other bytes are none
-pub record TellsSetup (bytes : List ℕ) (found : Option Setup) : Type 0 where
-  pub frame : (w : Wire) → FrontSpells bytes w (length bytes) → found ≡ setup_told w
-  pub others : ((w : Wire) → FrontSpells bytes w (length bytes) → ⊥) → found ≡ None
 
 -- the header of the frame at a datagram's front
 pub record TellsHeader (bytes : List ℕ) (found : Option Header) : Type 0 where

@@ -1,7 +1,11 @@
 -- Where an image stands.
-use Rattle.std.specs.Prelude.{◌≡◌, ℕ, Option, None, Some}
+use Rattle.std.specs.Prelude.{◌≡◌, ℕ, ℤ, pos, negsuc, nat_lt, Bool, false, Option, None, Some}
 use Rattle.theory.specs.Consumer.{least_of}
+use Rattle.theory.specs.Control.{named_by}
+use Rattle.theory.specs.Position.{Geometry}
 use Rattle.theory.specs.Units.{IsContiguous}
+use Rattle.frames.specs.Frames.{header_of}
+use Rattle.frames.specs.declared.frame.Header.{Header}
 use Rattle.receiver.specs.Receiving.{Opened}
 
 -- where the consumer of an image stands, the least one; 0 without an image
@@ -13,3 +17,13 @@ StandsAt (Some o) at = at ≡ least_of o.image.consumers
 abbrev pub IsRebuiltTo : Option Opened → ℕ → Type 0
 IsRebuiltTo None at = at ≡ 0
 IsRebuiltTo (Some o) at = IsContiguous o.image.stored o.image.join at
+
+-- a position lies above this one
+abbrev pub lies_above : ℤ → ℕ → Bool
+lies_above (pos p) rebuilt = nat_lt rebuilt p
+lies_above (negsuc n) rebuilt = false
+
+-- of a stream of this shape a frame was heard last that begins above what is rebuilt: something before it is lacking
+abbrev pub lacks : Geometry → Option Header → ℕ → Bool
+lacks g None rebuilt = false
+lacks g (Some h) rebuilt = lies_above (named_by g (header_of h)) rebuilt

@@ -8,7 +8,10 @@ use Rattle.frames.specs.declared.fault_counts.FaultCounts.{FaultCounts}
 use Rattle.receiver.specs.declared.positions.Positions.{Positions}
 use Rattle.peer.specs.Texts.{joined}
 use Rattle.subscription.specs.Watches.{Seen}
+use Rattle.subscription.specs.declared.images.Loss.{Loss}
+use Rattle.text.specs.Paces.{pace_text}
 use Rattle.subscription.specs.declared.telling.Counts.{Counts}
+use Rattle.subscription.specs.declared.telling.Totals.{Totals}
 use Rattle.subscription.specs.declared.telling.Unfinished.{Unfinished}
 
 abbrev pub joined_line : ℤ → ℕ → List ℕ
@@ -19,6 +22,18 @@ silent_line session position = joined (codes "silent: session " ∷ signed_decim
 
 abbrev pub again_line : ℤ → ℕ → List ℕ
 again_line session position = joined (codes "session " ∷ signed_decimal session ∷ codes " goes on at position " ∷ decimal position ∷ (10 ∷ []) ∷ [])
+
+abbrev pub lost_line : ℤ → ℕ → List ℕ
+lost_line session position = joined (codes "lost: session " ∷ signed_decimal session ∷ codes " can't be followed from position " ∷ decimal position ∷ (10 ∷ []) ∷ [])
+
+abbrev pub loss_text : Loss → List ℕ
+loss_text loss = joined (codes "from position " ∷ decimal loss.from ∷ codes " to " ∷ decimal loss.to ∷ [])
+
+abbrev pub session_text : ℤ → List ℕ
+session_text session = joined (codes "session " ∷ signed_decimal session ∷ [])
+
+abbrev pub missing_line : ℤ → Loss → List ℕ
+missing_line session loss = joined (codes "missing: " ∷ session_text session ∷ codes " " ∷ loss_text loss ∷ (10 ∷ []) ∷ [])
 
 abbrev pub closed_line : ℤ → ℕ → FaultCounts → List ℕ
 closed_line session position refused = joined (
@@ -58,6 +73,9 @@ nothing_heard_text from seconds = joined (codes "nothing was heard from " ∷ so
 abbrev pub unfinished_line : ℕ → Unfinished → List ℕ
 unfinished_line seconds left = joined (codes "gave up: " ∷ nothing_heard_text left.from seconds ∷ codes "; " ∷ unfinished_text left ∷ (10 ∷ []) ∷ [])
 
+abbrev pub not_whole_line : ℕ → List ℕ
+not_whole_line bytes = joined (codes "not whole: an image was lost, " ∷ decimal bytes ∷ (codes " bytes are known to be missing" ++ 10 ∷ []) ∷ [])
+
 -- ---- counters
 
 abbrev pub written_text : Counts → List ℕ
@@ -95,3 +113,12 @@ pub record IsClean (refused : FaultCounts) (strangers : ℕ) : Type 0 where
 
 abbrev pub refused_line : FaultCounts → ℕ → List ℕ
 refused_line refused strangers = joined (codes "refused" ∷ counts_text refused.counts ∷ codes " strangers " ∷ decimal strangers ∷ (10 ∷ []) ∷ [])
+
+-- what it has done in all
+abbrev pub totals_text : Totals → List ℕ
+totals_text t = joined (
+    codes "wrote " ∷ decimal t.pace.count ∷ codes " messages, " ∷ decimal t.bytes ∷ codes " bytes of session " ∷ signed_decimal t.session
+    ∷ codes ", " ∷ pace_text t.pace ∷ codes "; " ∷ decimal t.naks ∷ codes " NAKs sent" ∷ [])
+
+abbrev pub totals_line : Totals → List ℕ
+totals_line t = totals_text t ++ 10 ∷ []

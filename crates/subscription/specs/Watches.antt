@@ -1,5 +1,5 @@
 -- What a subscriber has seen of the time, and what comes of it.
-use Rattle.std.specs.Prelude.{◌≡◌, Result, Ok, Err, ◌+◌, ◌-◌, ◌≤◌, ℕ, nat_lt, Bool, IsTrue, min, if◌then◌else◌}
+use Rattle.std.specs.Prelude.{◌≡◌, Result, Ok, Err, ◌+◌, ◌-◌, ◌%◌, ◌^◌, ◌≤◌, ◌<◌, ℕ, nat_lt, Bool, IsTrue, min, if◌then◌else◌}
 use Rattle.endpoint.specs.Devices.{counted}
 use Rattle.endpoint.specs.declared.datagrams.DeviceFailed.{DeviceFailed}
 use Rattle.options.specs.declared.ends.plans.SubscribePlan.{SubscribePlan}
@@ -10,6 +10,8 @@ pub record Seen : Type 0 where
   pub moment : ℕ
   -- when what it waits for came last
   pub heard : ℕ
+  -- when nothing was lacking last, something that was lacking came last, or it was heard again behind a second or more
+  pub kept : ℕ
   -- when a call of its socket worked last
   pub worked : ℕ
   -- when it told its counters last
@@ -22,10 +24,14 @@ pub record Seen : Type 0 where
   pub calls : ℕ
   -- how many calls of its socket failed before an image
   pub lost : ℕ
+  -- how often it has looked at the clock since the first image's turns began, and how often what came of SETUPs was attended
+  -- since; modulo 2 ^ 64
+  pub turns : ℕ
+  pub attended : ℕ
 
 -- it has seen its begin
 abbrev pub begun : Seen
-begun = record { moment = 0; heard = 0; worked = 0; told = 0; written = 0; strangers = 0; calls = 0; lost = 0 }
+begun = record { moment = 0; heard = 0; kept = 0; worked = 0; told = 0; written = 0; strangers = 0; calls = 0; lost = 0; turns = 0; attended = 0 }
 
 -- a second or more in which it didn't look at the clock is no silence of others, and no failing of its socket: it heard nobody
 -- then and called nothing, and couldn't have. So what was earlier counts as later by that time
@@ -34,11 +40,32 @@ later_by s now earlier = if nat_lt (now - s.moment) 1000000000 then earlier else
 
 -- it looks at the clock
 abbrev pub looking : Seen → ℕ → Seen
-looking s now = record s { moment = now; heard = later_by s now s.heard; worked = later_by s now s.worked }
+looking s now = record s { moment = now; heard = later_by s now s.heard; kept = later_by s now s.kept; worked = later_by s now s.worked; turns = (s.turns + 1) % 2 ^ 64 }
 
--- what it waits for came at the moment
+-- what it waits for came at the moment; a second or more without it doesn't count as time in which something is lacking
 abbrev pub hearing : Seen → Seen
-hearing s = record s { heard = s.moment }
+hearing s = record s { heard = s.moment; kept = if nat_lt (s.moment - s.heard) 1000000000 then s.kept else s.moment }
+
+-- nothing is lacking at the moment, or something that was lacking came at it
+abbrev pub keeping : Seen → Seen
+keeping s = record s { kept = s.moment }
+
+-- an image is there, and its turns begin
+abbrev pub beginning : Seen → Seen
+beginning s = record s { kept = s.moment; turns = 0; attended = 0 }
+
+-- in a turn
+abbrev pub attending : Seen → Seen
+attending s = record s { attended = (s.attended + 1) % 2 ^ 64 }
+
+-- in each turn but the last one
+abbrev pub AttendsEach : Seen → Type 0
+AttendsEach s = s.turns ≡ (s.attended + 1) % 2 ^ 64
+
+-- no turn begins, and nothing is attended
+pub record IsWithinTurn (s t : Seen) : Type 0 where
+  pub turns : t.turns ≡ s.turns
+  pub attended : t.attended ≡ s.attended
 
 -- what came at the moment calls for a SETUP
 abbrev pub called : Seen → Seen
@@ -72,6 +99,15 @@ IsQuiet plan s = plan.quiet ≤ silence_of s
 -- so long that another publisher may take the place
 abbrev pub IsSilent : Seen → Type 0
 IsSilent s = 10000000000 ≤ silence_of s
+
+-- for ten seconds nothing that is lacking has come, in which what it waits for was heard each second
+pub record IsBehind (s : Seen) : Type 0 where
+  pub long : 10000000000 ≤ s.moment - s.kept
+  pub heard : s.moment - s.heard < 1000000000
+
+-- it came at the moment
+abbrev pub IsHearing : Seen → Type 0
+IsHearing s = s.heard ≡ s.moment
 
 -- no call of its socket has worked for so long that it's given up
 abbrev pub IsBroken : Seen → Type 0

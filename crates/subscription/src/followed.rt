@@ -1,30 +1,71 @@
 //! A device that notes what it hears of a session.
 
-ghost use Rattle.std.specs.Prelude.{◌≡◌, IfOk, OnErr, option_map};
+ghost use Rattle.std.specs.Prelude.{◌≡◌, IfOk, IfSome, OnErr, option_map};
+ghost use Rattle.theory.specs.Wire.{IsHeader};
 ghost use Rattle.endpoint.specs.Calls.{Receives, Sends};
 ghost use Rattle.endpoint.specs.Devices.{NeverFall};
-ghost use Rattle.frames.specs.Frames.{header_of};
+ghost use Rattle.frames.specs.Frames.{header_of, setup_of};
 ghost use Rattle.std.specs.Borrow.{Lends, sem};
-ghost use Rattle.subscription.specs.Hearings.{HearsFound, NotesDatagram, after_sending, clearing, following, frames_after, is_own, noted_after, turned_to};
+ghost use Rattle.subscription.specs.Hearings.{HearsFound, NotesDatagram, after_sending, clearing, following, frames_after, is_own, last_after, latest, noted_after, turned_to};
 ghost use Rattle.subscription.specs.Sendings.{news_of, news_taken};
 ghost use Rattle.subscription.specs.contracts.followed.Followed.{the_row};
 
-use crate::invitation::{header_in, setup_in};
+use crate::invitation::header_in;
 use endpoint::{Datagrams, DeviceFailed};
 use frames::{Header, Setup};
 use loss_injector::Lossy;
-use peer::{PatientDevice, STATUS_BYTES, TiedDevice};
+use peer::{PatientDevice, STATUS_BYTES, TiedDevice, setup_in};
 use std::marker::Model;
 use std::net::SocketAddr;
 
 /// The bytes of a negative acknowledgement: no other frame that a receiver sends has so many.
 const NAK_BYTES: usize = 28;
 
+/// The header of a DATA frame, a padding or a heartbeat that was heard.
+#[derive(Clone, Copy, Debug, PartialEq, Eq)]
+pub struct HeardFrame {
+    header: Header,
+}
+
+impl Model for HeardFrame {
+    ghost use Rattle.theory.specs.Wire.{IsHeader};
+    ghost use Rattle.frames.specs.Frames.{header_of};
+    ghost use Rattle.frames.specs.declared.frame.Header.{Header as Heard};
+
+    ghost Value = { Heard };
+
+    ghost view = { λ f. f.header };
+
+    ghost invariant = { λ f. IsHeader (header_of f.header) };
+
+    ghost inverse = { λ h. record { header = h } };
+}
+
+impl HeardFrame {
+    /// A frame with this header.
+    fn new(header: Header) -> HeardFrame
+        requires { IsHeader (header_of header) }
+        ensures { result ≡ header }
+    {
+        HeardFrame { header }
+    }
+
+    /// Its header.
+    pub fn header(&self) -> Header
+        ensures same { result ≡ self.now }
+        ensures legal { IsHeader (header_of result) }
+    {
+        self.header
+    }
+}
+
 /// What was heard of a session.
 #[derive(Clone, Copy, Debug, PartialEq, Eq)]
 pub struct Notes {
     /// How many datagrams began with a DATA frame, a padding or a heartbeat of its stream, modulo 2^64.
     pub frames: u64,
+    /// The last of these frames.
+    pub last: Option<HeardFrame>,
     /// The last SETUP, of any session, until it is taken.
     pub setup: Option<Setup>,
 }
@@ -129,12 +170,29 @@ fn noted_after(before: Noted, datagram: &[u8]) -> Noted
 }
 
 impl Notes {
-    /// Notes whose stream the frame at a datagram's front is of.
+    /// Notes a frame of the stream, at a datagram's front.
     fn note_header(&mut self, session: i32, stream: i32, header: Option<Header>)
-        ensures { self.new ≡ record self.old { frames = frames_after (is_own session stream (option_map header_of header)) self.old.frames } }
+        requires { IfSome header (λ h. IsHeader (header_of h)) }
+        ensures frames { self.new.frames ≡ frames_after (is_own session stream (option_map header_of header)) self.old.frames }
+        ensures last { self.new.last ≡ last_after (is_own session stream (option_map header_of header)) header self.old.last }
+        ensures same { self.new ≡ record self.old { frames = self.new.frames; last = self.new.last } }
     {
-        if is_own(session, stream, header) {
-            self.frames = self.frames.wrapping_add(1);
+        if !is_own(session, stream, header) {
+            return;
+        }
+        self.frames = self.frames.wrapping_add(1);
+        if let Some(header) = header {
+            self.last = Some(HeardFrame::new(header));
+        }
+    }
+
+    /// Notes a SETUP, if one came.
+    fn note_setup(&mut self, found: Option<Setup>)
+        ensures last { option_map setup_of self.new.setup ≡ latest (option_map setup_of self.old.setup) (option_map setup_of found) }
+        ensures same { self.new ≡ record self.old { setup = self.new.setup } }
+    {
+        if let Some(setup) = found {
+            self.setup = Some(setup);
         }
     }
 
@@ -142,10 +200,9 @@ impl Notes {
     fn note(&mut self, session: i32, stream: i32, datagram: &[u8])
         ensures { NotesDatagram session stream datagram.now self.old self.new }
     {
-        self.note_header(session, stream, header_in(datagram));
-        if let Some(setup) = setup_in(datagram) {
-            self.setup = Some(setup);
-        }
+        let header = header_in(datagram);
+        self.note_header(session, stream, header);
+        self.note_setup(setup_in(datagram));
     }
 }
 
@@ -160,6 +217,7 @@ impl<D> Followed<D> {
             stream,
             notes: Notes {
                 frames: 0,
+                last: None,
                 setup: None,
             },
             naks: 0,
@@ -216,6 +274,7 @@ impl<D> Followed<D> {
         ensures { self.new ≡ turned_to self.old session }
     {
         self.session = session;
+        self.notes.last = None;
         self.notes.setup = None;
         self.clear();
     }

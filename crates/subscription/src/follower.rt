@@ -4,10 +4,9 @@ ghost use Rattle.std.specs.Prelude.{◌≡◌, OnErr, OnOk, ⊤};
 ghost use Rattle.frames.specs.Frames.{setup_of};
 ghost use Rattle.subscription.specs.Followers.{FollowerHears, FollowerTicks, NotesDatagramsEnd, NotesEnd, NotesGreatestEnds, with_end};
 
-use crate::invitation::setup_in;
 use agents::Party;
 use frames::{Frame, Outbox, Setup};
-use peer::end_told;
+use peer::{end_told, setup_in};
 use receiver::Subscriber;
 use std::alloc::AllocError;
 

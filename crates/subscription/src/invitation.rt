@@ -4,7 +4,7 @@ ghost use Rattle.std.specs.Prelude.{◌≡◌, ◌↔◌, None, option_map, IfNo
 ghost use Rattle.frames.specs.Frames.{header_of, setup_of, wire};
 ghost use Rattle.theory.specs.Wire.{IsFrame, IsHeader, SETUP, spelling};
 ghost use Rattle.receiver.specs.Representing.{Represents};
-ghost use Rattle.subscription.specs.Meetings.{Admits, HasMet, IsOngoing, Opens, OpensNothing, TakesSession, TellsHeader, TellsSetup, bytes_of, header_told, id_of, invited, setup_told, window_in};
+ghost use Rattle.subscription.specs.Meetings.{Admits, HasMet, IsOngoing, Opens, OpensNothing, TakesSession, TellsHeader, bytes_of, header_told, id_of, invited, window_in};
 
 use crate::opening::Opening;
 use crate::window::window_of;
@@ -19,32 +19,6 @@ pub const GREATEST_MESSAGE: usize = 2_097_152;
 
 /// The bytes of a SETUP.
 const SETUP_BYTES: usize = 40;
-
-/// The SETUP that a frame is.
-fn setup_told(frame: &Frame<'_>) -> Option<Setup>
-    ensures { option_map setup_of result ≡ setup_told (wire frame.now) }
-{
-    match *frame {
-        Frame::Setup(setup) => Some(setup),
-        _ => None,
-    }
-}
-
-/// The SETUP that a datagram is.
-pub fn setup_in(datagram: &[u8]) -> Option<Setup>
-    ensures { TellsSetup datagram.now (option_map setup_of result) }
-{
-    match read_frame(datagram) {
-        Ok((frame, size)) => {
-            if size == datagram.len() {
-                setup_told(&frame)
-            } else {
-                None
-            }
-        }
-        Err(_) => None,
-    }
-}
 
 /// The header of a DATA frame, a padding or a heartbeat.
 fn header_told(frame: &Frame<'_>) -> Option<Header>

@@ -1,19 +1,21 @@
 //! A subscriber with an image.
 
-ghost use Rattle.std.specs.Prelude.{◌≡◌, ◌↔◌, IsTrue, None, option_map};
-ghost use Rattle.frames.specs.Frames.{setup_of};
+ghost use Rattle.std.specs.Prelude.{◌≡◌};
+ghost use Rattle.theory.specs.Wire.{SM};
+ghost use Rattle.frames.specs.Frames.{status_of};
 ghost use Rattle.receiver.specs.Receiving.{Receiver};
 ghost use Rattle.receiver.specs.Subscribing.{RepresentsSubscriber};
-ghost use Rattle.subscription.specs.Places.{IsRebuiltTo, StandsAt};
-ghost use Rattle.subscription.specs.Offers.{IsIn, IsOffered, setup_taken, tied_anew};
+ghost use Rattle.subscription.specs.Images.{has_lost};
+ghost use Rattle.subscription.specs.Places.{IsRebuiltTo, StandsAt, lacks, lies_above};
+ghost use Rattle.subscription.specs.Offers.{IsOffered, asked_by, offer_taken, setup_taken, tied_anew};
 
 use crate::followed::Followed;
 use crate::follower::Follower;
-use crate::invitation::setup_in;
+use crate::images::Images;
 use crate::opening::Opening;
 use crate::unheard::Unheard;
 use agents::Duty;
-use frames::Setup;
+use frames::{Setup, Status};
 use loss_injector::Lossy;
 use peer::{PatientDevice, TiedDevice};
 use std::net::SocketAddr;
@@ -26,10 +28,11 @@ pub type SubscriberDevice = Followed<Lossy<PatientDevice<TiedDevice>>>;
 pub struct Joined {
     /// What opened the image.
     pub opening: Opening,
-    /// The number of the image, from 0.
-    pub number: u64,
+    pub images: Images,
     pub follower: Follower,
     pub duty: Duty<SubscriberDevice>,
+    /// Whether it was told that the image is lost.
+    pub lost: bool,
     /// Whether its session's silence was told.
     pub silent: bool,
     /// Whether another sender of its session was told.
@@ -60,6 +63,38 @@ impl Joined {
             Some(positions) => positions.rebuilt,
         }
     }
+
+    /// Whether an image of its run was lost.
+    pub fn has_lost(&self) -> bool
+        ensures { result ≡ has_lost self.now.lost self.now.images }
+    {
+        self.lost || self.images.missing > 0
+    }
+
+    /// Whether the last frame that was heard of its session begins above this position, up to which its image is rebuilt.
+    pub fn lacks(&self, rebuilt: u64) -> bool
+        ensures { result ≡ lacks self.now.opening.geometry self.now.duty.device.notes.last rebuilt }
+    {
+        let Some(frame) = self.duty.device().notes().last else {
+            return false;
+        };
+        let header = frame.header();
+        let offset = header.term_offset.cast_signed();
+        lies_above(
+            self.opening.geometry.position(header.term_id, offset),
+            rebuilt,
+        )
+    }
+}
+
+/// Whether a position lies above what is rebuilt.
+fn lies_above(position: i64, rebuilt: u64) -> bool
+    ensures { result ≡ lies_above position rebuilt }
+{
+    match u64::try_from(position) {
+        Ok(position) => rebuilt < position,
+        Err(_) => false,
+    }
 }
 
 /// The device that is tied to the peer.
@@ -80,26 +115,34 @@ pub fn tie(device: &mut SubscriberDevice, peer: SocketAddr)
     tied.tie(peer);
 }
 
-/// The SETUP in what came last, and who sent it.
-fn setup_that_came(tied: &TiedDevice) -> Option<(SocketAddr, Setup)>
-    ensures { IsIn tied.now.socket.came result }
+/// Asks the peer for a SETUP, with this status message.
+pub fn ask_peer(device: &mut SubscriberDevice, status: Status)
+    ensures { device.new ≡ asked_by device.old (SM 128 (status_of status)) }
 {
-    match tied.last() {
-        None => None,
-        Some((from, datagram)) => match setup_in(datagram) {
-            None => None,
-            Some(setup) => Some((from, setup)),
-        },
-    }
+    let lossy = device.inner_mut();
+    let patient = lossy.inner_mut();
+    let tied = patient.inner_mut();
+    tied.ask(status);
 }
 
-/// Takes the SETUP that came in the last cycle, with who sent it: the peer's, if one did, else the one that came last.
+/// Takes the first SETUP that is kept of others than the peer.
+fn take_offer(device: &mut SubscriberDevice) -> Option<(SocketAddr, Setup)>
+    ensures offered { result ≡ device.old.inner.inner.inner.offer }
+    ensures taken { device.new ≡ offer_taken device.old }
+{
+    let lossy = device.inner_mut();
+    let patient = lossy.inner_mut();
+    let tied = patient.inner_mut();
+    tied.take_offer()
+}
+
+/// Takes a SETUP that came, with who sent it: the peer's last one, if one did since, else the first that is kept of others.
 pub fn offered(device: &mut SubscriberDevice) -> Option<(SocketAddr, Setup)>
     ensures offered { IsOffered device.old.notes.setup device.old.inner.inner.inner result }
     ensures taken { device.new ≡ setup_taken device.old }
 {
     match device.take_setup() {
         Some(setup) => Some((tied_of(device).peer(), setup)),
-        None => setup_that_came(tied_of(device)),
+        None => take_offer(device),
     }
 }

@@ -18,12 +18,14 @@
 //!
 //! Without an image a datagram is a SETUP that opens one, a frame whose sender is asked for a SETUP, or a stranger's, exactly;
 //! for each such frame its sender is asked once, with the frame's place, and nobody else is. Until a SETUP opens the first image
-//! nothing else happens (`listen`). When a subscriber is silent, quiet or broken is
-//! exact (`Watch`), and so is each line that it tells (`Texts`).
+//! nothing else happens (`listen`). When a subscriber is silent, quiet, behind or broken is
+//! exact (`Watch`), and so is each line that it tells (`Texts`). Something is lacking where the last frame that was heard begins
+//! above what is rebuilt (`Joined::lacks`), and what is missing behind a lost image is counted (`Images`).
 #![tactic(auto)]
 
 mod followed;
 mod follower;
+mod images;
 mod invitation;
 mod joined;
 mod listening;
@@ -35,19 +37,19 @@ mod unheard;
 mod watch;
 mod window;
 
-pub use followed::{Followed, News, Noted, Notes, SentStatus};
+pub use followed::{Followed, HeardFrame, News, Noted, Notes, SentStatus};
 pub use follower::{Follower, greatest_ends};
-pub use invitation::{
-    GREATEST_MESSAGE, header_in, id_of, opened, opening_of, setup_in, takes_session,
-};
-pub use joined::{Joined, SubscriberDevice, offered, tie, tied_of};
+pub use images::{Images, Loss, loss_between};
+pub use invitation::{GREATEST_MESSAGE, header_in, id_of, opened, opening_of, takes_session};
+pub use joined::{Joined, SubscriberDevice, ask_peer, offered, tie, tied_of};
 pub use listening::listen;
 pub use meeting::{Meeting, meeting_of};
 pub use opening::Opening;
 pub use repeater::{StatusRepeater, repeats_the_last};
 pub use telling::{
-    Counts, Unfinished, tell_again, tell_another, tell_closed, tell_counters, tell_ended,
-    tell_joined, tell_nobody, tell_refused, tell_silent, tell_unfinished, tell_unheard,
+    Counts, Totals, Unfinished, tell_again, tell_another, tell_closed, tell_counters, tell_ended,
+    tell_joined, tell_lost, tell_missing, tell_nobody, tell_not_whole, tell_refused, tell_silent,
+    tell_totals, tell_unfinished, tell_unheard,
 };
 pub use unheard::Unheard;
 pub use watch::Watch;

@@ -16,7 +16,8 @@ ghost use Rattle.subscription.specs.Watches.{IsQuiet, TellsWhereDue, after_call}
 
 use crate::followed::Followed;
 use crate::follower::Follower;
-use crate::invitation::{header_in, id_of, opened, setup_in, takes_session};
+use crate::images::Images;
+use crate::invitation::{header_in, id_of, opened, takes_session};
 use crate::joined::{Joined, SubscriberDevice};
 use crate::meeting::{Meeting, meeting_of};
 use crate::telling::{Counts, tell_waiting};
@@ -27,7 +28,7 @@ use endpoint::{DeviceError, DeviceFailed};
 use frames::{FaultCounts, Header, Status};
 use loss_injector::Lossy;
 use options::SubscribePlan;
-use peer::{Listener, PatientDevice, TiedDevice};
+use peer::{Listener, PatientDevice, TiedDevice, setup_in};
 use receiver::asking;
 use std::alloc::{AllocError, Global};
 use std::io;
@@ -150,7 +151,7 @@ fn join(
     };
     Ok(Joined {
         opening: meeting.opening,
-        number: 0,
+        images: Images::first(),
         follower: Follower {
             subscriber,
             session: meeting.opening.session,
@@ -158,6 +159,7 @@ fn join(
             end: None,
         },
         duty,
+        lost: false,
         silent: false,
         warned: false,
         ended: false,

@@ -1,14 +1,16 @@
 //! What a subscriber tells on its error output, a line each. An error is the output's.
 
-ghost use Rattle.std.specs.Prelude.{◌≡◌, OnOk, Some};
+ghost use Rattle.std.specs.Prelude.{◌≡◌, ◌≢◌, OnOk, Some};
 ghost use Rattle.std.specs.Io.KnownBytes.{Appends};
-ghost use Rattle.subscription.specs.Texts.{IsClean, again_line, another_line, closed_line, counters_line, current_text, ended_line, joined_line, losses_text, nobody_line, nowhere, places_text, nothing_heard_text, refused_line, sender_text, silent_line, told_end_text, unfinished_line, unfinished_text, unheard_line, waiting_line, written_text};
+ghost use Rattle.subscription.specs.Texts.{IsClean, again_line, another_line, closed_line, counters_line, current_text, ended_line, joined_line, losses_text, lost_line, missing_line, nobody_line, not_whole_line, nowhere, places_text, nothing_heard_text, refused_line, sender_text, session_text, silent_line, told_end_text, unfinished_line, unfinished_text, unheard_line, waiting_line, written_text, totals_line, totals_text};
 
+use crate::images::Loss;
 use frames::FaultCounts;
 use receiver::Positions;
 use std::io::Write;
 use std::net::SocketAddr;
 use std::{fmt, io};
+use text::Pace;
 
 /// An image was opened at a position.
 pub fn tell_joined<E: Write>(errors: &mut E, session: i32, position: u64) -> io::Result<()>
@@ -32,6 +34,46 @@ pub fn tell_again<E: Write>(errors: &mut E, session: i32, position: u64) -> io::
     ensures { OnOk result (Appends (E.contents errors.old) (E.contents errors.new) (again_line session position)) }
 {
     writeln!(errors, "session {session} goes on at position {position}")
+}
+
+/// Nothing that the image lacks has come for 10 seconds, and its session was heard.
+pub fn tell_lost<E: Write>(errors: &mut E, session: i32, position: u64) -> io::Result<()>
+    ensures { OnOk result (Appends (E.contents errors.old) (E.contents errors.new) (lost_line session position)) }
+{
+    writeln!(
+        errors,
+        "lost: session {session} can't be followed from position {position}"
+    )
+}
+
+/// A session.
+#[derive(Clone, Copy)]
+struct Session(i32);
+
+impl fmt::Display for Session {
+    ghost output = { λ session. Some (session_text session.0) };
+
+    fn fmt<W: fmt::Write>(&self, f: &mut fmt::Formatter<W>) -> fmt::Result {
+        write!(f, "session {}", self.0)
+    }
+}
+
+/// What is missing between an image that was lost and the next one.
+pub fn tell_missing<E: Write>(errors: &mut E, session: i32, loss: &Loss) -> io::Result<()>
+    ensures { OnOk result (Appends (E.contents errors.old) (E.contents errors.new) (missing_line session loss.now)) }
+{
+    let (session, loss) = (Session(session), *loss);
+    writeln!(errors, "missing: {session} {loss}")
+}
+
+/// A subscriber that has lost an image ends, and so many bytes lie between its images.
+pub fn tell_not_whole<E: Write>(errors: &mut E, bytes: u64) -> io::Result<()>
+    ensures { OnOk result (Appends (E.contents errors.old) (E.contents errors.new) (not_whole_line bytes)) }
+{
+    writeln!(
+        errors,
+        "not whole: an image was lost, {bytes} bytes are known to be missing"
+    )
 }
 
 /// The image was closed, since another one is opened; its receiver has refused so many datagrams.
@@ -282,6 +324,48 @@ pub fn tell_waiting<E: Write>(errors: &mut E, counts: &Counts) -> io::Result<()>
 {
     let (written, places, losses) = (Written(*counts), Places(NOWHERE), Losses(*counts));
     writeln!(errors, "session none {written} {places} {losses}")
+}
+
+/// What a subscriber has done at its end.
+#[derive(Clone, Copy)]
+pub struct Totals {
+    /// How many messages were written, and in what time from the first image on.
+    pub pace: Pace,
+    /// The session of the last image, and how many bytes of its stream were written, with headers and alignment.
+    pub session: i32,
+    pub bytes: u64,
+    /// How many negative acknowledgements were sent.
+    pub naks: u64,
+}
+
+impl fmt::Display for Totals {
+    ghost output = { λ totals. Some (totals_text totals) };
+
+    fn fmt<W: fmt::Write>(&self, f: &mut fmt::Formatter<W>) -> fmt::Result {
+        let Totals {
+            pace,
+            session,
+            bytes,
+            naks,
+        } = *self;
+        let messages = pace.count;
+        write!(
+            f,
+            "wrote {messages} messages, {bytes} bytes of session {session}, {pace}; {naks} NAKs sent"
+        )
+    }
+}
+
+/// What it has done, in all, where it was any message.
+pub fn tell_totals<E: Write>(errors: &mut E, totals: &Totals) -> io::Result<()>
+    ensures some { totals.now.pace.count ≢ 0 → OnOk result (Appends (E.contents errors.old) (E.contents errors.new) (totals_line totals.now)) }
+    ensures none { totals.now.pace.count ≡ 0 → OnOk result (E.contents errors.new ≡ E.contents errors.old) }
+{
+    if totals.pace.count == 0 {
+        return Ok(());
+    }
+    let totals = *totals;
+    writeln!(errors, "{totals}")
 }
 
 /// What an image's receiver has refused, and how many datagrams came from strangers, where there was any of these.

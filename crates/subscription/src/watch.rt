@@ -2,7 +2,7 @@
 
 ghost use Rattle.std.specs.Prelude.{◌≡◌, ◌≤◌, ◌-◌, ◌↔◌, is_some, IfErr, IfSome, IsSome, IsTrue, OnOk};
 ghost use Rattle.endpoint.specs.declared.device_error.DeviceError.TheVariants.{Device};
-ghost use Rattle.subscription.specs.Watches.{IsBroken, IsDue, IsQuiet, IsSilent, begun, called, hearing, later_by, looking, losing, told_if, with_stranger, working};
+ghost use Rattle.subscription.specs.Watches.{IsBehind, IsBroken, IsDue, IsHearing, IsQuiet, IsSilent, attending, beginning, begun, called, hearing, keeping, later_by, looking, losing, told_if, with_stranger, working};
 
 use agents::nanoseconds;
 use endpoint::DeviceError;
@@ -14,7 +14,7 @@ use std::time::{Clock, Instant};
 /// none in which the socket's calls failed.
 const SECOND: u64 = 1_000_000_000;
 
-/// Nanoseconds after which a session is silent.
+/// Nanoseconds after which a session is silent, and after which an image that lacks something is lost.
 const SILENCE: u64 = 10_000_000_000;
 
 /// Nanoseconds after which a socket is given up all of whose calls fail.
@@ -29,12 +29,15 @@ pub struct Watch {
     began: Instant,
     moment: u64,
     heard: u64,
+    kept: u64,
     worked: u64,
     told: u64,
     written: u64,
     strangers: u64,
     calls: u64,
     lost: u64,
+    turns: u64,
+    attended: u64,
 }
 
 impl Model for Watch {
@@ -42,7 +45,7 @@ impl Model for Watch {
 
     ghost Value = { Seen };
 
-    ghost view = { λ w. record { moment = w.moment; heard = w.heard; worked = w.worked; told = w.told; written = w.written; strangers = w.strangers; calls = w.calls; lost = w.lost } };
+    ghost view = { λ w. record { moment = w.moment; heard = w.heard; kept = w.kept; worked = w.worked; told = w.told; written = w.written; strangers = w.strangers; calls = w.calls; lost = w.lost; turns = w.turns; attended = w.attended } };
 }
 
 impl Watch {
@@ -53,13 +56,32 @@ impl Watch {
             began,
             moment: 0,
             heard: 0,
+            kept: 0,
             worked: 0,
             told: 0,
             written: 0,
             strangers: 0,
             calls: 0,
             lost: 0,
+            turns: 0,
+            attended: 0,
         }
+    }
+
+    /// An image is there at the moment, of which nothing is lacking. Its turns begin.
+    pub fn begin(&mut self)
+        ensures { self.new ≡ beginning self.old }
+    {
+        self.kept = self.moment;
+        self.turns = 0;
+        self.attended = 0;
+    }
+
+    /// What came of SETUPs in this turn was attended.
+    pub fn attend(&mut self)
+        ensures { self.new ≡ attending self.old }
+    {
+        self.attended = self.attended.wrapping_add(1);
     }
 
     /// Notes the moment, which never falls. A clock that can't be read is a device that failed.
@@ -73,8 +95,10 @@ impl Watch {
         };
         let now = nanoseconds(time).max(self.moment);
         self.heard = self.later_by(now, self.heard);
+        self.kept = self.later_by(now, self.kept);
         self.worked = self.later_by(now, self.worked);
         self.moment = now;
+        self.turns = self.turns.wrapping_add(1);
         Ok(())
     }
 
@@ -110,18 +134,28 @@ impl Watch {
         self.lost
     }
 
-    /// What it waits for came at the moment.
+    /// What it waits for came at the moment. Behind a second without it the time in which something is lacking begins anew.
     pub fn hear(&mut self)
         ensures { self.new ≡ hearing self.old }
     {
+        if self.moment.saturating_sub(self.heard) >= SECOND {
+            self.kept = self.moment;
+        }
         self.heard = self.moment;
+    }
+
+    /// Nothing is lacking at the moment, or something that was lacking came at it.
+    pub fn keep(&mut self)
+        ensures { self.new ≡ keeping self.old }
+    {
+        self.kept = self.moment;
     }
 
     /// A datagram that came at the moment, before an image, calls for a SETUP.
     pub(crate) fn call(&mut self)
         ensures { self.new ≡ called self.old }
     {
-        self.heard = self.moment;
+        self.hear();
         self.calls = self.calls.saturating_add(1);
     }
 
@@ -160,6 +194,21 @@ impl Watch {
         self.moment.saturating_sub(self.heard) >= SILENCE
     }
 
+    /// Whether nothing that is lacking has come for 10 seconds, in which what it waits for was heard each second.
+    pub fn is_behind(&self) -> bool
+        ensures { IsTrue result ↔ IsBehind self.now }
+    {
+        self.moment.saturating_sub(self.kept) >= SILENCE
+            && self.moment.saturating_sub(self.heard) < SECOND
+    }
+
+    /// Whether what it waits for came at the moment.
+    pub fn is_hearing(&self) -> bool
+        ensures { IsTrue result ↔ IsHearing self.now }
+    {
+        self.heard == self.moment
+    }
+
     /// The fault where every call of the socket has failed for 5 seconds.
     pub fn check_works(&self) -> Result<(), DeviceError>
         ensures works { OnOk result (¬ IsBroken self.now) }
@@ -169,6 +218,13 @@ impl Watch {
             return Err(DeviceError::Device);
         }
         Ok(())
+    }
+
+    /// How many of so many messages came since the counters were told last.
+    pub fn since(&self, written: u64) -> u64
+        ensures { result ≡ written - self.now.written }
+    {
+        written.saturating_sub(self.written)
     }
 
     /// Where the counters are to be told at the moment, behind so many messages: how many of these came since they were told
@@ -181,7 +237,7 @@ impl Watch {
         if !plan.end.counters || self.moment.saturating_sub(self.told) < SECOND {
             return None;
         }
-        let since = written.saturating_sub(self.written);
+        let since = self.since(written);
         self.told = self.moment;
         self.written = written;
         Some(since)

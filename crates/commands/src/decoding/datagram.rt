@@ -14,7 +14,7 @@ use std::alloc::Global;
 use std::io::Write;
 
 /// The most digits of a word: those of 65,536 bytes.
-const GREATEST_WORD: usize = 131_072;
+pub(crate) const GREATEST_WORD: usize = 131_072;
 
 /// Prints a line for each frame of the datagram that the word spells in hexadecimal, in order.
 ///
@@ -30,20 +30,34 @@ pub fn decode<W: Write>(alloc: Global, word: &str, output: &mut W) -> Result<(),
     ensures kept { IfErr result (λ fault. (fault ≡ DecodeError.Write)
         ⊎ Keeps (W.contents output.old) (W.contents output.new)) }
 {
-    let bytes = bytes_of(alloc, word)?;
-    let count = check_datagram(&bytes)?;
-    print_frames(&bytes, count, output)?;
+    decode_digits(alloc, word.as_bytes(), output)?;
     output.flush().map_err(|_| DecodeError::Write)
 }
 
-/// The bytes that the word spells, two hexadecimal digits a byte. The fault is `Hex` where it spells none, or want of
-/// memory, which is asked for only where its length can be right.
-fn bytes_of(alloc: Global, word: &str) -> Result<Vec<u8>, DecodeError>
-    ensures found { IfOk result (λ bytes. SpellsWord word.now bytes.items) }
-    ensures fault { IfErr result (λ fault. ((fault ≡ DecodeError.Memory) × (length word.now ≤ 131072) × (length word.now % 2 ≢ 1))
-        ⊎ ((fault ≡ DecodeError.Hex) × ((bytes : List ℕ) → SpellsWord word.now bytes → ⊥))) }
+/// The same of these digits, and without the flush.
+pub(crate) fn decode_digits<W: Write>(
+    alloc: Global,
+    digits: &[u8],
+    output: &mut W,
+) -> Result<(), DecodeError>
+    ensures done { OnOk result ((frames : List Wire) × SaysFrames digits.now frames
+        × Appends (W.contents output.old) (W.contents output.new) (frame_lines frames)) }
+    ensures fault { IfErr result (λ fault. Explains digits.now fault) }
+    ensures kept { IfErr result (λ fault. (fault ≡ DecodeError.Write)
+        ⊎ Keeps (W.contents output.old) (W.contents output.new)) }
 {
-    let digits = word.as_bytes();
+    let bytes = bytes_of(alloc, digits)?;
+    let count = check_datagram(&bytes)?;
+    print_frames(&bytes, count, output)
+}
+
+/// The bytes that the digits spell, two hexadecimal digits a byte. The fault is `Hex` where it spells none, or want of
+/// memory, which is asked for only where its length can be right.
+fn bytes_of(alloc: Global, digits: &[u8]) -> Result<Vec<u8>, DecodeError>
+    ensures found { IfOk result (λ bytes. SpellsWord digits.now bytes.items) }
+    ensures fault { IfErr result (λ fault. ((fault ≡ DecodeError.Memory) × (length digits.now ≤ 131072) × (length digits.now % 2 ≢ 1))
+        ⊎ ((fault ≡ DecodeError.Hex) × ((bytes : List ℕ) → SpellsWord digits.now bytes → ⊥))) }
+{
     if digits.len() > GREATEST_WORD {
         return Err(DecodeError::Hex);
     }

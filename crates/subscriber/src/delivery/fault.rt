@@ -11,8 +11,9 @@ use std::fmt;
 #[derive(Clone, Copy, Debug, PartialEq, Eq)]
 pub enum DeliveryFault {
     /// The output failed: the message that was polled last is written in part, or all are written and the flush failed. Nothing
-    /// was heard or sent in this cycle. The messages that this cycle polled may be lost.
-    Output,
+    /// was heard or sent in this cycle. The messages that this cycle polled may be lost. With the system's number, where it gave
+    /// one.
+    Output(Option<i32>),
     /// The assembler refused a frame, and a message is lost. Nothing was heard or sent in this cycle.
     Message(AssemblyError),
     /// The device failed, or memory was refused to a datagram, which is lost; both behind the writing. The next cycle may be
@@ -25,7 +26,7 @@ impl fmt::Display for DeliveryFault {
 
     fn fmt<W: fmt::Write>(&self, f: &mut fmt::Formatter<W>) -> fmt::Result {
         match *self {
-            DeliveryFault::Output => f.write_str("output"),
+            DeliveryFault::Output(_) => f.write_str("output"),
             DeliveryFault::Message(_) => f.write_str("message"),
             DeliveryFault::Failed(error) => f.write_str(error.text()),
         }

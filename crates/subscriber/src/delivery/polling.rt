@@ -4,7 +4,7 @@ ghost use Rattle.std.specs.Prelude.{◌≡◌, min, IfErr, IfOk};
 ghost use Rattle.subscriber.specs.Deliveries.{Delivers, Steps, Stops, StopsAtOne};
 
 use crate::delivery::fault::DeliveryFault;
-use messages::{Form, write_message};
+use messages::{Form, OutputFailed, write_message};
 use receiver::{PollError, Subscriber};
 use std::io::Write;
 
@@ -22,8 +22,9 @@ fn write_next<W: Write>(
 {
     match subscriber.poll() {
         Ok(Some(message)) => {
-            if write_message(form, message.bytes.as_slice(), output).is_err() {
-                return Err(DeliveryFault::Output);
+            let written = write_message(form, message.bytes.as_slice(), output);
+            if let Err(OutputFailed(number)) = written {
+                return Err(DeliveryFault::Output(number));
             }
             Ok(true)
         }
@@ -66,8 +67,8 @@ pub fn write_polled<W: Write>(
     ensures fault { IfErr result (λ f. Stops form (min 256 most) f subscriber.old (W.contents output.old) subscriber.new (W.contents output.new)) }
 {
     let count = write_each(form, most, subscriber, output)?;
-    if output.flush().is_err() {
-        return Err(DeliveryFault::Output);
+    if let Err(error) = output.flush() {
+        return Err(DeliveryFault::Output(error.raw_os_error()));
     }
     Ok(count)
 }

@@ -4,8 +4,8 @@ use Rattle.clap.specs.Words.{Text, fault_of}
 use Rattle.command_line.specs.Lines.{publish_app, subscribe_app}
 use Rattle.command_line.specs.Readers.{reader_of}
 use Rattle.commands.specs.Statuses.{IsStatusOf, RefusesPublish, RefusesSubscribe}
-use Rattle.subscriber.specs.declared.ended.Ending.TheVariants.{Short, Whole}
-use Rattle.commands.specs.Done.{HasPlanBy, PublishesBy, SubscribesBy}
+use Rattle.subscriber.specs.declared.ended.Ending.TheVariants.{Whole}
+use Rattle.commands.specs.Done.{HasPlanBy, PublishesBy, SubscribesBy, SubscribesShortBy}
 use Rattle.commands.proofs.Ended.{done_by, no_version, short_by}
 use Rattle.commands.proofs.LineStatuses.{by_reader, refused_by, texts_behind, version_status}
 use Rattle.commands.proofs.line.command.Goals as goal
@@ -78,7 +78,7 @@ returns-in-Subscribe g c =
       status = by_reader words _ c.subscribe_command-in-Subscribe.result is (subst (λ (ws : List Text). IsStatusOf (fault_of subscribe_app ws) c.subscribe_command-in-Subscribe.result) behind c.subscribe_command-in-Subscribe.ensures.status);
       refused = λ two. refused_by words _ is (subst (λ (ws : List Text). RefusesSubscribe ws) behind (c.subscribe_command-in-Subscribe.ensures.refused two));
       done = done_by words _ c.subscribe_command-in-Subscribe.result _ _ _ is (subst (λ (ws : List Text). fault_of subscribe_app ws ≡ [] → c.subscribe_command-in-Subscribe.result ≡ 0 → SubscribesBy ws (g.W.Write.contents c.args.output.now) (g.W.Write.contents c.subscribe_command-in-Subscribe.new.output) Whole) behind c.subscribe_command-in-Subscribe.ensures.done);
-      short = short_by words _ c.subscribe_command-in-Subscribe.result _ _ is (λ three. subst (λ (ws : List Text). SubscribesBy ws (g.W.Write.contents c.args.output.now) (g.W.Write.contents c.subscribe_command-in-Subscribe.new.output) Short) behind (c.subscribe_command-in-Subscribe.ensures.short three));
+      short = short_by words _ c.subscribe_command-in-Subscribe.result _ _ is (λ three. subst (λ (ws : List Text). SubscribesShortBy ws (g.W.Write.contents c.args.output.now) (g.W.Write.contents c.subscribe_command-in-Subscribe.new.output)) behind (c.subscribe_command-in-Subscribe.ensures.short three));
     }
 
 pub returns-in-Driver : goal.returns-in-Driver

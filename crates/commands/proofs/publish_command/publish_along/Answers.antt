@@ -5,5 +5,5 @@ use Rattle.commands.proofs.publish_command.publish_along.Goals as goal
 
 pub returns-in-Ok-clause-whole : goal.returns-in-Ok-clause-whole
 returns-in-Ok-clause-whole g c = λ is.
-    subst (λ (n : ℕ). PublishesAllAlong c.args.plan.now n (g.R.Read.remaining c.args.input)) (ap length c.deref.ensures.value ∙ c.in-Ok.ensures.many)
-    (published_whole c.publish_group-ended.result _ c.publish_group-ended.ensures (sym c.published.ensures.value ∙ is))
+    subst (λ (n : ℕ). PublishesAllAlong c.args.plan.now n (g.R.Read.remaining c.args.input)) (ap length c.deref-in-Ok.ensures.value ∙ c.in-Ok.ensures.many)
+    (published_whole c.publish_group-ended.result _ c.publish_group-ended.ensures.whole (sym c.published.ensures.value ∙ is))

@@ -1,6 +1,7 @@
-use Rattle.std.proofs.Common.{arith, inl, inr}
-use Rattle.subscriber.specs.declared.ended.Ending.TheVariants.{Short, Whole}
-use Rattle.commands.proofs.Ended.{none_held, none_short}
+use Rattle.std.proofs.Common.{⊎_elim, arith, inl, inr}
+use Rattle.subscriber.specs.declared.ended.Ending.TheVariants.{Lost, Short}
+use Rattle.commands.specs.Done.{IsSubscribedTold}
+use Rattle.commands.proofs.Ended.{none_held, none_short, told_short, told_whole}
 use Rattle.commands.proofs.LineStatuses.{refused_line, taken, untaken}
 use Rattle.commands.proofs.subscribe_command.subscribe_command.Goals as goal
 
@@ -17,10 +18,18 @@ pub returns-in-Err-clause-refused : goal.returns-in-Err-clause-refused
 returns-in-Err-clause-refused g c = λ two. inl (refused_line _ c.in-Err.fault c.line_status.result c.in-Err.ensures.fault c.line_status.ensures two)
 
 pub returns-in-Ok-clause-done : goal.returns-in-Ok-clause-done
-returns-in-Ok-clause-done g c = λ none is. (c.in-Ok.options, c.in-Ok.ensures.told, c.subscribe_told.ensures.ended Whole is)
+returns-in-Ok-clause-done g c = λ none is. (
+  c.in-Ok.options,
+  c.in-Ok.ensures.told,
+  told_whole (IsSubscribedTold c.in-Ok.options _ _) c.subscribe_told.result is (c.subscribe_told.ensures.ended (λ one. omega (arith, one, is)) (λ two. omega (arith, two, is))),
+)
 
 pub returns-in-Ok-clause-short : goal.returns-in-Ok-clause-short
-returns-in-Ok-clause-short g c = λ is. (c.in-Ok.options, c.in-Ok.ensures.told, c.subscribe_told.ensures.ended Short is)
+returns-in-Ok-clause-short g c = λ is.
+    ⊎_elim
+    (λ (short : IsSubscribedTold c.in-Ok.options _ _ Short). inl (c.in-Ok.options, c.in-Ok.ensures.told, short))
+    (λ (lost : IsSubscribedTold c.in-Ok.options _ _ Lost). inr (c.in-Ok.options, c.in-Ok.ensures.told, lost))
+    (told_short (IsSubscribedTold c.in-Ok.options _ _) c.subscribe_told.result is (c.subscribe_told.ensures.ended (λ one. omega (arith, one, is)) (λ two. omega (arith, two, is))))
 
 pub returns-in-Err-clause-done : goal.returns-in-Err-clause-done
 returns-in-Err-clause-done g c = λ none is. absurd (none_held _ c.in-Err.fault c.line_status.result c.in-Err.ensures.fault c.line_status.ensures none is)

@@ -1,5 +1,5 @@
 use Rattle.std.proofs.Common.{◌≡◌, ◌∙◌, ◌∷◌, ◌++◌, [], List, Bool, ap, arith, if◌then◌else◌, length, length-append}
-use Rattle.endpoint.specs.Udp.{Udp}
+use Rattle.peer.specs.Ties.{Tied}
 use Rattle.group_publisher.specs.Seeing.{ChannelWay}
 use Rattle.group_publisher.proofs.Along.{more_along, none, one_along}
 use Rattle.group_publisher.proofs.group_publisher.ways_along.Goals as goal
@@ -7,7 +7,7 @@ use Rattle.group_publisher.proofs.group_publisher.ways_along.Goals as goal
 pub loop-route-preserved : goal.loop-route-preserved
 loop-route-preserved g c =
     let plan = c.args.plan.now in let routes = c.args.routes.now in let i = c.loop-route.route-index in
-    let ways : List (ChannelWay Udp) = c.loop-route.ways.items in let way = c.way_over-way.result in
+    let ways : List (ChannelWay Tied) = c.loop-route.ways.items in let way = c.way_over-way.result in
     let pushed : c.push.new.self.items ≡ ways ++ way ∷ [] = c.push.ensures.items ∙ ap (λ (b : Bool). if b then ways ++ way ∷ [] else ways) c.if-is_err.ensures.negation in
     let number : length c.as_slice-number.result.now ≡ i = ap length c.as_slice-number.ensures.value ∙ c.loop-route.invariant.many in
     record {

@@ -1,8 +1,52 @@
+use Rattle.std.proofs.Common.{◌≡◌, ◌∙◌, zero, suc, IfSome, List, Option, ap, refl, subst}
+use Rattle.publisher.specs.Progress.{end_to_tell}
+use Rattle.publisher.specs.declared.judged.Judged.{Judged}
+use Rattle.group_publisher.specs.Judging.{HasToldAlong}
+use Rattle.group_publisher.specs.Seeing.{ChannelWay}
 use Rattle.group_publisher.proofs.Begun.{passes_on, sends_on}
+use Rattle.group_publisher.proofs.Ends.{ends}
 use Rattle.group_publisher.proofs.sender_thread.send_all.Goals as goal
 
+pub returns-in-Some-judged : goal.returns-in-Some-judged
+returns-in-Some-judged g c =
+    let plan = c.args.context.now.plan.now in let last = c.cycle.new.sender in let is = c.in-Some-judged.judged in
+    let shown : c.each-ways.result.now ≡ last.passes.duty.device.ways = c.each-ways.ensures ∙ ap (λ d. d.ways) c.device.ensures in
+    record {
+      count = c.loop.invariant.turns.0;
+      begun = c.loop.begun;
+      before = c.loop.sender;
+      turns = c.loop.invariant.turns.1;
+      now = c.in_ok-now.now;
+      cycles = c.in_ok-busy.ensures.cycles;
+      is = ends c.judge.new.progress c.each-ways.result.now last.passes.duty.device.ways plan.linger plan.wait c.in_ok-judged.judged is c.in_ok-judged.ensures.judges c.in-Some-judged.is shown;
+      why = subst (λ (ws : List (ChannelWay g.row.D.Denot)). HasToldAlong ws is) shown (subst (λ (o : Option Judged). IfSome o (HasToldAlong c.each-ways.result.now)) c.in-Some-judged.is c.in_ok-judged.ensures.told);
+    }
+
+pub loop-init : goal.loop-init
+loop-init g c = record { agent = c.requires.agent; passes = c.requires.passes; turns = (zero, (refl, refl)) }
+
 pub loop-preserved : goal.loop-preserved
-loop-preserved g c = (
-  sends_on _ _ _ _ _ c.cycle.ensures.agent c.begin_with_heard-begun.ensures.agent c.tell_end_where_due.ensures.agent,
-  passes_on _ _ _ _ _ _ _ c.cycle.ensures.passes c.begin_with_heard-begun.ensures.passes c.tell_end_where_due.ensures.passes,
-)
+loop-preserved g c =
+    let beginning = c.begin_with_heard-begun.new.sender in
+    record {
+      agent = sends_on _ _ _ _ _ c.cycle.ensures.agent c.begin_with_heard-begun.ensures.agent c.tell_end_where_due.ensures.agent;
+      passes = passes_on _ _ _ _ _ _ _ c.cycle.ensures.passes c.begin_with_heard-begun.ensures.passes c.tell_end_where_due.ensures.passes;
+      turns = (
+        suc c.loop.invariant.turns.0,
+        (
+          c.loop.begun,
+          c.loop.sender,
+          c.loop.invariant.turns.1,
+          record {
+            now = c.in_ok-now.now;
+            cycled = c.cycle.new.sender;
+            cycles = c.in_ok-busy.ensures.cycles;
+            beginning = beginning;
+            begins = c.begin_with_heard-begun.ensures.begins;
+            end = end_to_tell c.judge.new.progress c.end_unless_judged-end.result beginning.agent.core.handler.at c.in_ok-now.now;
+            told = c.tell_end_where_due.ensures.told;
+            agent = c.tell_end_where_due.ensures.agent;
+          },
+        ),
+      );
+    }

@@ -1,6 +1,12 @@
+use Rattle.std.proofs.Common.{ℕ}
 use Rattle.agents.specs.LogSenders.{SendsLog}
 use Rattle.publisher.specs.Openings.{ArePasses}
+use Rattle.group_publisher.specs.Turns.{TurnsMany}
 use Rattle.group_publisher.proofs.sender_thread.send_all.Given as goal
 
 abbrev pub invariant-loop : goal.invariant-loop
-invariant-loop g l = SendsLog l.context.state.now.log l.sender.agent × ArePasses l.context.state.now.log l.context.conductor.now l.sender.passes
+invariant-loop g l = record {
+  agent : SendsLog l.context.state.now.log l.sender.agent;
+  passes : ArePasses l.context.state.now.log l.context.conductor.now l.sender.passes;
+  turns : (count : ℕ) × TurnsMany l.context.plan.now count l.fn.sender l.begun l.sender;
+}

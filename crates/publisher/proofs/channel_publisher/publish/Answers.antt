@@ -1,11 +1,19 @@
 use Rattle.std.specs.Io.Buffered.{reader_remaining}
 use Rattle.messages.specs.Fused.{fused_remaining}
+use Rattle.publisher.specs.Ended.{reading_left}
 use Rattle.publisher.proofs.AllPublished.{all_published}
+use Rattle.publisher.proofs.Shorts.{says}
 use Rattle.publisher.proofs.channel_publisher.publish.Goals as goal
 
-pub returns : goal.returns
-returns g c = λ whole.
-    let parts = c.in_ok-parts.parts in let is = c.in_ok-parts.ensures in let left = c.in_ok-published.published in
-    let closed = c.ending_of-ending.ensures whole in
+pub returns-clause-whole : goal.returns-clause-whole
+returns-clause-whole g c = λ whole.
+    let parts = c.in_ok-parts.parts in let is = c.in_ok-parts.ensures.parts in let left = c.in_ok-published.published in
+    let closed = c.ending_of-ending.ensures.whole whole in
     all_published (reader_remaining (fused_remaining (g.I.Read.remaining))) c.args.plan.now parts.state.log parts.publisher _ _ left.input left.attendance left.ends c.in_ok-published.end is.log_is is.new c.in_ok-published.ensures.input
     (c.in_ok-published.ensures.whole closed.0) (c.in_ok-published.ensures.told closed.0) c.in_ok-input.ensures c.in_ok-published.ensures.leaves closed.1
+
+pub returns-clause-short : goal.returns-clause-short
+returns-clause-short g c = λ short.
+    let parts = c.in_ok-parts.parts in let left = c.in_ok-published.published in
+    says parts.state.log parts.passes c.args.plan.now c.args.route.now.peer parts.peer left.ending _ left.told _ (reading_left left.input) left.ends c.in_ok-parts.ensures.parts.log_is c.in_ok-parts.ensures.peer c.in_ok-published.ensures.short c.in_ok-published.ensures.no_other
+    c.ending_of-ending.ensures.kept c.tell_if_unclosed-why.ensures short

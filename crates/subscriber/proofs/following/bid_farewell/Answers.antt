@@ -41,6 +41,6 @@ pub loop-preserved : goal.loop-preserved
 loop-preserved g c = (
   c.tell_place.ensures.size ∙ c.loop.invariant.0,
   unpolled_on _ _ _ c.loop.invariant.1 c.tell_place.ensures.unpolled,
-  ap (λ (j : Joined). j.number) c.tell_place.ensures.same ∙ c.loop.invariant.2,
+  ap (λ (j : Joined). j.images) c.tell_place.ensures.same ∙ c.loop.invariant.2,
   omega (arith, c.loop.invariant.3, c.see-in-loop.ensures.later),
 )

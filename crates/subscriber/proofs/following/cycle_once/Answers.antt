@@ -11,23 +11,15 @@ returns-in_err-done-clause-patient g c =
     let p = err_from_is_err_and c.from_residual.result c.from_residual.ensures.1 in
     rw (p.1, p.2) (patient _ _ _ _ _ _ _ _ _ _ _ _ refl refl c.in_err-done.ensures.fault)
 
-pub returns-then-done-gt0-clause-lives : goal.returns-then-done-gt0-clause-lives
-returns-then-done-gt0-clause-lives g c = cycle_lives_on c.args.plan.now.end.form _ _ c.args.written (c.args.written + c.in_ok-done.done.messages) _ _ _ _ c.in_ok-done.done _ _ _ refl c.in_ok-done.ensures.done
-
-pub returns-else-done-gt0-clause-lives : goal.returns-else-done-gt0-clause-lives
-returns-else-done-gt0-clause-lives g c = cycle_lives_on c.args.plan.now.end.form _ _ c.args.written (c.args.written + c.in_ok-done.done.messages) _ _ _ _ c.in_ok-done.done _ _ _ refl c.in_ok-done.ensures.done
+pub returns-clause-lives : goal.returns-clause-lives
+returns-clause-lives g c = cycle_lives_on c.args.plan.now.end.form _ _ c.args.written (c.args.written + c.in_ok-done.done.messages) _ _ _ _ c.in_ok-done.done _ _ _ refl c.in_ok-done.ensures.done
 
 pub returns-in_err-done-clause-broken : goal.returns-in_err-done-clause-broken
 returns-in_err-done-clause-broken g c =
     let p = err_from_is_err_and c.from_residual.result c.from_residual.ensures.1 in
     rw p.1 (cycle_broken _ _ _ _ _ _ _ _ _ _ _ _ c.in_err-done.ensures.fault)
 
-pub returns-then-done-gt0-clause-ticked : goal.returns-then-done-gt0-clause-ticked
-returns-then-done-gt0-clause-ticked g c =
-    let w = c.in_ok-done.ensures.done.writes in
-    (w.cycle.middle, subst (λ (n : ℕ). ActsSo w.cycle.middle (Ticks n) c.cycle.new.follower.subscriber) c.moment.ensures w.cycle.ticked.becomes)
-
-pub returns-else-done-gt0-clause-ticked : goal.returns-else-done-gt0-clause-ticked
-returns-else-done-gt0-clause-ticked g c =
+pub returns-clause-ticked : goal.returns-clause-ticked
+returns-clause-ticked g c =
     let w = c.in_ok-done.ensures.done.writes in
     (w.cycle.middle, subst (λ (n : ℕ). ActsSo w.cycle.middle (Ticks n) c.cycle.new.follower.subscriber) c.moment.ensures w.cycle.ticked.becomes)

@@ -5,4 +5,4 @@ use Rattle.subscriber.specs.Writings.{Writes}
 use Rattle.subscriber.proofs.following.follow.Given as goal
 
 abbrev pub invariant-loop : goal.invariant-loop
-invariant-loop g l = (l.joined.duty.mtu ≡ 40) × (l.written ≤ l.plan.messages) × Writes l.plan.end.form 0 (g.W.Write.contents l.initial.output) l.written (g.W.Write.contents l.output) × Follows l.plan (g.W.Write.contents l.initial.output) l.written l.joined.number l.joined.follower (g.W.Write.contents l.output) × (IsTrue l.joined.ended → HasAnswered l.joined.follower.subscriber)
+invariant-loop g l = (l.joined.duty.mtu ≡ 40) × (l.written ≤ l.plan.messages) × Writes l.plan.end.form 0 (g.W.Write.contents l.initial.output) l.written (g.W.Write.contents l.output) × Follows l.plan (g.W.Write.contents l.initial.output) l.written l.joined.images l.joined.follower (g.W.Write.contents l.output) × (IsTrue l.joined.ended → HasAnswered l.joined.follower.subscriber) × (l.watch.turns ≡ l.watch.attended)

@@ -1,5 +1,5 @@
-use Rattle.std.proofs.Common.{ℕ, inl, inr, refl, subst}
-use Rattle.subscriber.specs.Turning.{IsRenewed}
+use Rattle.std.proofs.Common.{◌∙◌, ap, inl, inr, refl}
+use Rattle.subscription.specs.Watches.{keeping}
 use Rattle.subscriber.proofs.turning.turns.Goals as goal
 
 pub returns-then-not-gives_way-clause-turns : goal.returns-then-not-gives_way-clause-turns
@@ -32,7 +32,7 @@ returns-clause-turns g c = (
   inr (inr (record {
     way = c.gives_way.ensures.0 (let so = c.if-not-gives_way.false in cc);
     other = λ again. let so = c.is_again.ensures.1 again in let not = c.if-is_again.false in cc;
-    renewed = subst (λ (n : ℕ). IsRenewed c.args.plan.now n c.args.meeting.now c.args.joined.now c.replace.new.joined) c.moment.ensures c.in_ok-replace.ensures.renewed;
-    seen = c.hear.ensures;
+    replaced = c.in_ok-replace.ensures.renewed;
+    seen = c.keep.ensures ∙ ap keeping c.hear.ensures;
   })),
 )

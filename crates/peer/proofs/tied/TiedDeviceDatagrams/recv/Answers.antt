@@ -1,8 +1,16 @@
-use Rattle.std.proofs.Common.{arith, inr, ◌≢◌}
-use Rattle.std.proofs.lemmas.Grind.{common_steps}
+use Rattle.std.proofs.Common.{subst}
+use Rattle.peer.specs.Ties.{EndsSeeking}
+use Rattle.std.proofs.Common.{Ok, Bool}
+use Rattle.peer.proofs.Passing.{handed}
 use Rattle.peer.proofs.tied.TiedDeviceDatagrams.recv.Goals as goal
 
-pub returns-then-not-count-clause-takes : goal.returns-then-not-count-clause-takes
-returns-then-not-count-clause-takes c =
-    let other : c.in-Some.from ≢ c.args.self.now.peer = grind (arith, common_steps) in
-    inr (record { from = c.in-Some.from; bytes = c.in-Some.datagram.now; came = grind (arith, common_steps); other = other; is = grind (arith, common_steps) })
+pub returns-clause-takes : goal.returns-clause-takes
+returns-clause-takes c =
+    let s = c.in_ok-seek.ensures.seeks in
+    record {
+      count = s.count;
+      middle = s.middle;
+      passes = s.passes;
+      ends = handed s.middle c.seek.new.self c.settle.new.self c.hand_over.new.self c.hand_over.result c.hand_over.new.buffer
+          (subst (λ (b : Bool). EndsSeeking s.middle (Ok b) c.seek.new.self) c.if-not-branch.false s.ends) c.settle.ensures.settles c.settle.ensures.socket c.hand_over.ensures.hands;
+    }
