@@ -11,6 +11,8 @@ use std::alloc::{AllocError, Global};
 
 const PUBLISHERS: Number = Number {
     name: "publishers",
+    value: "N",
+    heading: None,
     least: 1,
     most: 8,
     otherwise: 1,
@@ -19,6 +21,8 @@ const PUBLISHERS: Number = Number {
 
 const LENGTH: Number = Number {
     name: "length",
+    value: "N",
+    heading: None,
     least: 16,
     most: 2_097_152,
     otherwise: 200,
@@ -27,6 +31,8 @@ const LENGTH: Number = Number {
 
 const TERM: Number = Number {
     name: "term",
+    value: "N",
+    heading: None,
     least: 65_536,
     most: 16_777_216,
     otherwise: 65_536,
@@ -35,6 +41,8 @@ const TERM: Number = Number {
 
 const MTU: Number = Number {
     name: "mtu",
+    value: "N",
+    heading: None,
     least: 256,
     most: 65_504,
     otherwise: 1408,
@@ -43,6 +51,8 @@ const MTU: Number = Number {
 
 const MESSAGES_IN_ALL: Number = Number {
     name: "messages",
+    value: "N",
+    heading: None,
     least: 1,
     most: 1_000_000_000,
     otherwise: 100_000,
@@ -51,6 +61,8 @@ const MESSAGES_IN_ALL: Number = Number {
 
 const RATE: Number = Number {
     name: "rate",
+    value: "N",
+    heading: None,
     least: 0,
     most: 1_000_000_000,
     otherwise: 0,

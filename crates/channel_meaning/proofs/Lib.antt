@@ -4,3 +4,9 @@ mod Both
 mod Committed
 mod Tallies
 mod Books
+mod Copies
+mod WorldRows
+mod SentRows
+mod LifeRows
+mod LawRows
+mod TallyRows

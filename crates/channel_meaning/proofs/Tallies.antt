@@ -8,12 +8,12 @@ use Rattle.run_parties.specs.Tallies.{Counted, IsTallyOf}
 use Rattle.channel_meaning.specs.Tallies.{TalliesAll}
 use Rattle.channel_meaning.proofs.Runs.{run_in}
 
-no_more : (before given behind : List (List ℕ)) → length (before ++ (given ++ behind)) ≤ length given → before ++ (given ++ behind) ≡ given
+pub no_more : (before given behind : List (List ℕ)) → length (before ++ (given ++ behind)) ≤ length given → before ++ (given ++ behind) ≡ given
 no_more [] given [] few = append-nil given
 no_more [] given (b ∷ bs) few = absurd (let n = length-append given (b ∷ bs) in omega arith)
 no_more (b ∷ bs) given behind few = absurd (let n = length-append bs (given ++ behind) in let m = length-append given behind in omega arith)
 
-no_message : (ms : List (List ℕ)) → length ms ≤ 0 → [] ≡ ms
+pub no_message : (ms : List (List ℕ)) → length ms ≤ 0 → [] ≡ ms
 no_message [] few = refl
 no_message (m ∷ ms) few = absurd (omega arith)
 

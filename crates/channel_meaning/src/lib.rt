@@ -11,12 +11,14 @@
 //!
 //! The log of a publisher that has ended whole is closed: what it has claimed is a stream, from the log's start to its tail, and
 //! the messages of that are those that were read (`publishes_all_of_it`); its sender has lived, and knew no frames but those. So
-//! what `subscribe` writes of what that sender gave out are runs of what the publisher read (`writes_all_of_it`). Premises are that
+//! what `subscribe` writes of what that sender gave out are runs of what the publisher read (`writes_all_of_it`). Where it had one
+//! image, which gave as many messages as were read, its output is a copy of the input (`copies_all_of_it`). Premises are that
 //! the stream's ids and bytes can be spelled, and that datagrams are such as were given out: that a device carries what it was
 //! given no law says.
 #![tactic(auto)]
 
 ghost use Rattle.channel_meaning.specs.Books.{PublishesAllOfIt, WritesAllOfIt};
+ghost use Rattle.channel_meaning.specs.Copies.{CopiesAllOfIt};
 ghost use Rattle.channel_meaning.specs.Streams.{PublishesItsStream, WritesWhatIsRead};
 ghost use Rattle.channel_meaning.specs.Tallies.{TalliesAll};
 
@@ -53,6 +55,15 @@ pub fn writes_all_of_it()
     // Laws that the proof cites.
     publishes_all_of_it();
     writes_what_is_read();
+}
+
+/// A law: where a publisher has ended whole, and one image of a subscriber of what its sender gave out has given as many messages as
+/// were read, the output is the spelling of the input's messages, and in the same form a copy of the input.
+pub fn copies_all_of_it()
+    ensures { CopiesAllOfIt }
+{
+    // A law that the proof cites.
+    writes_all_of_it();
 }
 
 /// A law: where a run's receiver was handed honest datagrams alone, its subscriber, if it has tallied as many messages as the stream

@@ -1,11 +1,12 @@
 -- What the calls of a sender make of its pass.
-use Rattle.std.specs.Prelude.{◌≡◌, ℕ, ℤ, ◌<◌, ◌≤◌, List, []}
+use Rattle.std.specs.Prelude.{◌≡◌, ℕ, suc, ℤ, ◌<◌, ◌≤◌, List, []}
 use Rattle.std.specs.Arc.{arc_value}
 use Rattle.position.specs.Openings.{IsStart}
 use Rattle.flow_control.specs.Stream.{flow_after, has_heard_of, reached_of, status_after, tick_after}
-use Rattle.sender.specs.Sending.{Cycles, HearsDatagram, Steps, at_moment, begun}
+use Rattle.sender.specs.Sending.{Cycles, HasLooked, HearsDatagram, Steps, at_moment, begun}
 use Rattle.sender.specs.declared.sender_core.SenderAnswer.{SenderAnswer}
 use Rattle.sender.specs.declared.sender_core.SenderEvent.{SenderEvent}
+use Rattle.shared_log.specs.Readers.{misses_of}
 use Rattle.shared_log.specs.Sourced.{Grows, StaysOn}
 use Rattle.claims.specs.declared.passes.reading.ReaderPass.{ReaderPass}
 use Rattle.cores.specs.Numbers.{group_of, of_answer}
@@ -39,15 +40,19 @@ pub record DeclinesSender (r : ReaderPass) (group : ℕ) (fault : Fault) (q : Re
 abbrev pub StaysOnLog : SenderValue → SenderValue → Type 0
 StaysOnLog p q = StaysOn (arc_value p.core.reads.log) p.core.reads.reader (arc_value q.core.reads.log) q.core.reads.reader
 
+-- between them it looked where it stood, loaded the word there once and found zero
+abbrev pub LooksOn : SenderValue → SenderValue → Type 0
+LooksOn p q = HasLooked (λ r l s m. StaysOn (arc_value r.log) r.reader (arc_value s.log) s.reader × (m ≡ l)) (λ r s. misses_of s.reader ≡ suc (misses_of r.reader)) p.core.reads (tt {0}) q.core.reads (tt {0})
+
 -- a step of the core: what goes out for it is what is left
 pub record StepsOn (p : SenderValue) (now : ℕ) (event : SenderEvent) (answer : SenderAnswer) (q : SenderValue) : Type 0 where
-  pub steps : Steps Grows status_after tick_after reached_of has_heard_of (at_moment p.core now) event (source_in p.core) (source_in q.core) answer q.core q.left
+  pub steps : Steps (LooksOn p q) Grows status_after tick_after reached_of has_heard_of (at_moment p.core now) event (source_in p.core) (source_in q.core) answer q.core q.left
   pub log : StaysOnLog p q
 
 -- a moment was taken
 pub record Ticks (p : SenderValue) (now : ℕ) (q : SenderValue) : Type 0 where
   pub none : p.left ≡ []
-  pub cycles : Cycles Grows tick_after reached_of (at_moment p.core now) (source_in p.core) (source_in q.core) q.core q.left
+  pub cycles : Cycles (LooksOn p q) Grows tick_after reached_of (at_moment p.core now) (source_in p.core) (source_in q.core) q.core q.left
   pub log : StaysOnLog p q
 
 -- a datagram was taken, and this is the number of what became of it

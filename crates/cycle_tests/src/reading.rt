@@ -12,7 +12,7 @@ use agents::{Named, REPLY, ReceiverAgent};
 use counters::{CounterReader, CounterWriter, Counters};
 use receiver::{MessageReader, ReceiverCore};
 use shared_log::{Log, LogReader};
-use std::alloc::Global;
+use std::alloc::{AllocError, Global};
 use std::marker::Brand;
 use std::process::Abort;
 use std::sync::Wait;
@@ -87,7 +87,10 @@ fn open_reader<N: Named>(
     if taken.readers.len() != 1 {
         return Err("not one reader".into());
     }
-    Ok(MessageReader::new(alloc, taken, 8192)?)
+    match MessageReader::new(alloc, taken, 8192) {
+        Ok(reader) => Ok(reader),
+        Err(_) => Err(AllocError.into()),
+    }
 }
 
 /// Cycles before there is an image, with the image, while the first message is read, and when it was passed.

@@ -34,7 +34,10 @@ fn receive_on<N: Named + Begins, R: Wait + Clock, D: Datagrams, G>(
         }
         let now = context.state.moment(context.rt)?;
         let busy = reception.cycle(context.rt, counters, now)?;
-        if let Some(reader) = reception.take_reader(context.alloc, greatest)? {
+        let Ok(taken) = reception.take_reader(context.alloc, greatest) else {
+            return Err(DeviceError::Memory);
+        };
+        if let Some(reader) = taken {
             *handover.lock(context.rt) = Some(reader);
         }
         idle.after(context.rt, busy);

@@ -6,6 +6,7 @@ use crate::percentiles::Percentiles;
 use crate::plan::Plan;
 use crate::samples::Timed;
 use std::fmt;
+use text::Pace;
 
 /// The table's head.
 pub const HEADER: &str =
@@ -24,9 +25,11 @@ impl Timed {
     pub fn per_second(&self) -> u64
         ensures { result ≡ min (self.now.messages * 1000000000 / max self.now.nanoseconds 1) (2 ^ 64 - 1) }
     {
-        let scaled = u128::from(self.messages) * 1_000_000_000;
-        let rate = scaled / u128::from(self.nanoseconds.max(1));
-        rate.min(u128::from(u64::MAX)) as u64
+        let pace = Pace {
+            count: self.messages,
+            nanoseconds: self.nanoseconds,
+        };
+        pace.rate()
     }
 }
 

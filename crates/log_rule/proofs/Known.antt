@@ -21,7 +21,7 @@ use Rattle.log_rule.specs.Claims.Memory.{IsCommittedFrame, IsOpen, Ruled, Stands
 use Rattle.log_rule.specs.Claims.Events.{committed_weight}
 use Rattle.log_rule.proofs.Claimed.Totals.{both_at, total_at}
 use Rattle.log_rule.proofs.Claimed.Memories.{tail_low}
-use Rattle.log_rule.specs.Edges.{IsAmong, IsPlaced, begins_at, claimed_sum, committed_sum, in_entry}
+use Rattle.log_rule.specs.Edges.{CommittedBy, IsAmong, IsPlaced, begins_at, claimed_sum, committed_sum, in_entry}
 use Rattle.log_rule.proofs.Sums.{claimed_by, covered, covering, has_some, sum_less, total_both, total_up}
 
 -- ---- a frame is told from another
@@ -85,7 +85,7 @@ is_little f g = go (either_frame f g)
 
 -- ---- lists
 
-among_at : {A : Type 0} (xs : List A) (i : ℕ) (x : A) → get_elem? xs i ≡ some x → Among x xs
+pub among_at : {A : Type 0} (xs : List A) (i : ℕ) (x : A) → get_elem? xs i ≡ some x → Among x xs
 among_at [] i x e = absurd (some-ne-none x (sym e))
 among_at (y ∷ ys) zero x e = inl (sym (some-injective y x e))
 among_at (y ∷ ys) (suc i) x e = inr (among_at ys i x e)
@@ -97,13 +97,7 @@ among_total h (y ∷ ys) x (inr a) = let r = among_total h ys x a in omega arith
 
 -- ---- a committed frame is some pass's
 
-pub record IsIn (ps : List Pass) (f : FrameWords) : Type 0 where
-  pub place : ℕ
-  pub holder : Pass
-  pub at : get_elem? ps place ≡ some holder
-  pub among : Among f holder.work.frames
-
-pub found : (ps : List Pass) (f : FrameWords) → IsAmong ps f → IsIn ps f
+pub found : (ps : List Pass) (f : FrameWords) → IsAmong ps f → CommittedBy ps f
 found ps f among =
     let one = among (is_frame f) in let self = is_itself f in
     let p = has_some (committed_weight (is_frame f)) ps (omega arith) in let g = has_some (is_frame f) p.one.work.frames p.some in

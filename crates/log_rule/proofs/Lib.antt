@@ -20,3 +20,4 @@ pub mod Owning
 pub mod Saying
 pub mod Looked
 pub mod Claimed
+mod MeetingRows

@@ -32,7 +32,7 @@ use Rattle.log_rule.specs.declared.rule.Key.{Key}
 use Rattle.log_rule.specs.Kept.{Attends, IsReader, Kept, keepers_of, readers_of, reads_as}
 use Rattle.log_rule.specs.Numbers.{AreNumbered, is_number, numbers_as}
 use Rattle.log_rule.specs.Readings.{reading}
-use Rattle.log_rule.specs.Meetings.{Steadies, Steady, back_left, back_right, meeting, meeting_seats}
+use Rattle.log_rule.specs.Meetings.{Steadies, Steady, back_left, back_right, meeting, meeting_seats, was_shown}
 use Rattle.log_rule.specs.Table.{LogRuled, now_at}
 use Rattle.log_rule.proofs.Growing.{Grows, attends_on, grows}
 use Rattle.log_rule.proofs.Resting.{rest_looks, rested_here}
@@ -188,18 +188,30 @@ module _ (p q : Pass) where
     parted : Ruled b ws (set ps id p ++ q ∷ [])
     parted = split_ruled b ws ps r id m p q at weighs refl (omega arith) (λ j. (let a = none_armed j p off in let c = none_armed j q off' in let d = none_armed j m off in omega arith)) knows_p knows_q stored_p stored_q
 
-pub parts_again : (key : Key) (id : ℕ) (v : View) (p q : Pass) → v.pass ≡ meeting p q → Steady p → Steady q → p.right.armed ≡ 0 → q.right.armed ≡ 0 → 0 < p.right.parts → 0 < q.right.parts → q.identity ≡ p.identity → q.start ≡ p.start → q.keeping ≡ no_keeping
+-- what is true for good of a pass is so whatever it is shown
+steady_shown : (n : ℕ) (v : Pass) → Steady v → Steady (was_shown n v)
+steady_shown n v s = record { number = s.number; count = s.count; term = s.term; full = s.full; placed = s.placed; owns = record { claims = s.owns.claims; armed = s.owns.armed } }
+
+-- both were shown what the two together were
+shown_both : (k : ℕ) (p q v : Pass) → v ≡ was_shown k (meeting p q) → v ≡ meeting (was_shown v.seen.shown p) (was_shown v.seen.shown q)
+shown_both k p q v is = is ∙ ap (λ (n : ℕ). record (meeting p q) { seen = record (meeting p q).seen { shown = n } }) (top p.seen.shown q.seen.shown k v.seen.shown (ap (λ (x : Pass). x.seen.shown) is))
+  where
+    top : (a c k n : ℕ) → n ≡ max (max a c) k → max (max a c) k ≡ max (max a n) (max c n)
+    top a c k n e = omega arith
+
+pub parts_again : (key : Key) (id : ℕ) (v : View) (k : ℕ) (p q : Pass) → v.pass ≡ was_shown k (meeting p q) → Steady p → Steady q → p.right.armed ≡ 0 → q.right.armed ≡ 0 → 0 < p.right.parts → 0 < q.right.parts → q.identity ≡ p.identity → q.start ≡ p.start → q.keeping ≡ no_keeping
     → Splits (LogRuled key) id v (back_left p v) (back_right q v)
-parts_again key id v p q is sp sq off off' able more same from none s r at =
+parts_again key id v k p0 q0 is sp0 sq0 off off' able more same from none s r at =
+    let n : ℕ = v.pass.seen.shown in let p : Pass = was_shown n p0 in let q : Pass = was_shown n q0 in let sp : Steady p = steady_shown n p0 sp0 in let sq : Steady q = steady_shown n q0 sq0 in
     let ps : List Pass = map pass_in s.views in let b : Bounds = now_at key (slice_index s.words limit_place) r.cleaned in
-    let h : get_elem? ps id ≡ some (meeting p q) = at_map pass_in s.views id v at ∙ ap some is in let a = r.kept.each id (meeting p q) h in
+    let h : get_elem? ps id ≡ some (meeting p q) = at_map pass_in s.views id v at ∙ ap some (shown_both k p0 q0 v.pass is) in let a = r.kept.each id (meeting p q) h in
     let ruled = parted p q b s.words ps r.ruled id h sp sq off off' able more same from in
-    cut key id v s r at (back_left p v) (back_right q v) ruled
+    cut key id v s r at (back_left p0 v) (back_right q0 v) ruled
     (kept_split b r.there s.words ps r.ruled r.kept id (meeting p q) p q h ruled (weighs p q) (λ f. sym (total_append f p.work.frames q.work.frames))
     (λ j lt. sym (total_append (reads_as j) p.reading q.reading)) (let z = ap (λ (x : Rattle.publication.specs.declared.pass.Keeping.Keeping). x.right) none in omega arith)
     record { readings = all_front (IsReader s.words ps) p.reading q.reading a.readings; keeping = a.keeping }
     record { readings = all_behind (IsReader s.words ps) p.reading q.reading a.readings; keeping = subst (Rattle.log_rule.specs.Kept.IsKeeper b r.there s.words ps) (sym none) (none_kept b r.there s.words ps) })
-    (unsure s.words (back_left p v) refl) refl
+    (unsure s.words (back_left p0 v) refl) refl
     (numbered_split ps id (meeting p q) p q h (λ n. sym (total_append (is_number n) p.right.numbers q.right.numbers)) sp.owns sq.owns r.numbered)
 
 -- ---- two seats become one

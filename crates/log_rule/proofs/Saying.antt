@@ -8,7 +8,7 @@ use Rattle.atomic_table.specs.Table.{State}
 use Rattle.theory.specs.Entry.{Entry, length_of}
 use Rattle.theory.specs.Tiling.{Tiles, all_shares, share_of}
 use Rattle.theory.specs.Placed.{Among}
-use Rattle.theory.proofs.Lists.{all_at, all_behind, all_front}
+use Rattle.theory.proofs.Lists.{all_at, all_behind, all_front, all_weaker}
 use Rattle.publication.specs.declared.pass.FrameWords.{FrameWords}
 use Rattle.publication.specs.declared.pass.Pass.{Pass}
 use Rattle.publication.specs.declared.pass.Reading.{Reading}
@@ -18,7 +18,7 @@ use Rattle.log_rule.specs.Claims.Plays.{pass_in}
 use Rattle.log_rule.specs.Claims.Rule.{Bounds, IsClaimEntry, armed_of, entries_of, first_of, shape_of, weight}
 use Rattle.log_rule.specs.Claims.Sums.{total}
 use Rattle.log_rule.specs.Claims.Terms.{claimed_to}
-use Rattle.log_rule.specs.Says.{IsBegun, IsSpelt, IsStanding, KnowsConsumer, RuleSays, tail_shown}
+use Rattle.log_rule.specs.Says.{IsBegun, IsCommittedFor, IsSpelt, IsStanding, KnowsConsumer, RuleSays, tail_shown}
 use Rattle.log_rule.specs.Shares.{owner_bytes}
 use Rattle.log_rule.specs.Table.{LogRuled, now_at}
 use Rattle.log_rule.specs.declared.rule.Key.{Key}
@@ -26,6 +26,7 @@ use Rattle.log_rule.specs.declared.claims.view.View.{View}
 use Rattle.log_rule.specs.Kept.{IsReader, readers_of, reads_as}
 use Rattle.log_rule.proofs.Claimed.Totals.{total_at}
 use Rattle.log_rule.proofs.Consumers.{is_there}
+use Rattle.log_rule.proofs.Known.{among_at, found}
 use Rattle.log_rule.proofs.Claimed.Looks.{narrow}
 use Rattle.log_rule.proofs.Claimed.Memories.{tail_is}
 use Rattle.log_rule.proofs.Claimed.Shown.{greatest_is}
@@ -33,7 +34,7 @@ use Rattle.log_rule.proofs.Claimed.Totals.{extent_of}
 use Rattle.log_rule.proofs.Edges.{edge_low}
 use Rattle.log_rule.proofs.Owning.{one_claims}
 use Rattle.log_rule.proofs.Sums.{all_parted}
-use Rattle.log_rule.specs.Edges.{IsPlaced, begins_at, claimed_sum, in_entry}
+use Rattle.log_rule.specs.Edges.{CommittedBy, IsAmong, IsPlaced, begins_at, claimed_sum, in_entry}
 use Rattle.log_rule.proofs.Shares.{eight_shares, share_is}
 
 -- ---- the shares
@@ -122,6 +123,11 @@ rule_says key s q =
       frames = λ i v at. (let m = q.ruled.memory.each i v at in spelt b ws v.work.frames m.done (all_front (StandsInTable b ws) v.work.frames v.work.drafts m.stands));
       drafts = λ i v at. (let m = q.ruled.memory.each i v at in begun b ws v.work.drafts m.undone m.kept (all_behind (StandsInTable b ws) v.work.frames v.work.drafts m.stands));
       consumers = λ i v r at among low. standing key s q i v r at among low;
+      known = λ i v r at among. all_weaker (IsAmong ps) (CommittedBy ps) (found ps) r.known (all_at (IsReader ws ps) r v.reading (q.kept.each i v at).readings among).known;
       keeper = λ i v at one j low. (let same : v.keeping.there ≡ q.there = (q.kept.each i v at).keeping.there one in
           subst (λ (t : List ℕ). KnowsConsumer t ws ps j) (sym same) record { most = q.kept.single j low; free = q.kept.free j low });
     }
+
+-- what one of a pass's consumers knows is committed, whatever stands
+pub known_committed : (v : Pass) (place : ℕ) (r : Reading) (f : FrameWords) → get_elem? v.reading place ≡ some r → Among f r.known → IsCommittedFor v f
+known_committed v place r f is known key s i q at = all_at (CommittedBy (map pass_in s.views)) f r.known ((rule_says key s q).known i v r at (among_at v.reading place r is)) known

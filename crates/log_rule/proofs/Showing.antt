@@ -10,7 +10,7 @@ use Rattle.std.proofs.Math.Nat.{div-mul-le_self}
 use Rattle.std.proofs.lemmas.List.{map-set, set-get_or}
 use Rattle.std.proofs.lemmas.Nat.{le-div}
 use Rattle.atomic_table.specs.Table.{Allows, State, keeps}
-use Rattle.atomic_table.proofs.Lists.{at_map, at_set, set_else}
+use Rattle.atomic_table.proofs.Lists.{at_map}
 use Rattle.theory.specs.Bytes.{Identity}
 use Rattle.theory.specs.Entry.{Entry, entry_end, length_of}
 use Rattle.theory.specs.Placed.{Among}
@@ -21,30 +21,34 @@ use Rattle.publication.specs.declared.pass.ClaimRange.{ClaimRange}
 use Rattle.publication.specs.declared.pass.Controls.{Controls}
 use Rattle.publication.specs.declared.pass.Pass.{Pass}
 use Rattle.publication.specs.Controls.{with_tail}
-use Rattle.publication.specs.Steps.{shown_position}
+use Rattle.publication.specs.Steps.{geometry_of, shown_position}
 use Rattle.log_rule.specs.declared.claims.view.View.{View}
 use Rattle.log_rule.specs.Claims.Packs.{limit_place, tail_place}
 use Rattle.log_rule.specs.Claims.Sums.{covers, total}
 use Rattle.log_rule.specs.Claims.Terms.{claimed_to}
-use Rattle.log_rule.specs.Claims.Rule.{Bounds, IsClaimEntry, entry_of, first_of, shape_of, size_of, weight}
+use Rattle.log_rule.specs.Claims.Events.{IsLook, committed_weight}
+use Rattle.log_rule.specs.Claims.Rule.{Bounds, IsClaimEntry, Knows, entry_of, first_of, shape_of, size_of, weight}
 use Rattle.log_rule.specs.Claims.Memory.{Ruled, tail_of}
 use Rattle.log_rule.specs.Claims.Plays.{Mine, pass_in}
-use Rattle.log_rule.specs.Claims.Sure.{IsSure, controls_in}
-use Rattle.log_rule.proofs.Claimed.Shown.{count_is, position_is}
-use Rattle.log_rule.proofs.Claimed.Looks.{narrow}
-use Rattle.log_rule.proofs.Claimed.Memories.{cover_passes, held_by, tail_is}
+use Rattle.log_rule.specs.Claims.Sure.{controls_in}
+use Rattle.log_rule.proofs.Claimed.Accounts.{saw_more, sighted}
+use Rattle.log_rule.proofs.Claimed.Shown.{count_is, position_is, tail_shows}
+use Rattle.log_rule.proofs.Claimed.Sures.{load_leaves, sure_on}
+use Rattle.log_rule.proofs.Claimed.Looks.{narrow, tail_low}
+use Rattle.log_rule.proofs.Claimed.Memories.{cover_passes, held_by, stayed, tail_is}
 use Rattle.log_rule.proofs.Claimed.Tails.{shows}
 use Rattle.log_rule.proofs.Claimed.Totals.{total_append, total_at, total_map}
 use Rattle.log_rule.specs.declared.rule.Key.{Key}
 use Rattle.log_rule.specs.Kept.{Kept}
 use Rattle.log_rule.specs.Numbers.{AreNumbered}
-use Rattle.log_rule.proofs.Owning.{single_at}
+use Rattle.log_rule.proofs.Growing.{grows, kept_on, same_sum}
+use Rattle.log_rule.proofs.Lifting.{load_spares}
+use Rattle.log_rule.proofs.Owning.{numbered_on, single_at}
 use Rattle.log_rule.specs.Table.{LogRuled, now_at}
 use Rattle.publication.specs.Orders.{claim_end}
-use Rattle.log_rule.specs.Meetings.{AreApart, ShowsTail, showing}
+use Rattle.log_rule.specs.Meetings.{AreApart, ShowsTail, showing, was_shown}
 use Rattle.log_rule.proofs.InTerm.{entry_ends}
 use Rattle.log_rule.proofs.Known.{among_total}
-use Rattle.log_rule.proofs.Meetings.{told_ruled}
 
 -- the end of a term isn't inside a claim
 crosses : ℕ → Entry → ℕ
@@ -230,7 +234,7 @@ module _ (b : Bounds) (ws : List ℕ) (ps : List Pass) (r : Ruled b ws ps) (id :
       twice : (c len d m f g all w t q z : ℕ) → 0 < len → 0 < m → d < c + len → c < d + m → covers (max c d) c len ≤ f → covers (max c d) d m ≤ g → all ≡ f + g → w ≡ all → w ≤ t → t ≡ min 1 (min q z) → ⊥
       twice c len d m f g all w t q z pos pos' lt gt a e sum mine up one = omega arith
 
-  shows_tail : AreNumbered ps → (p : ℕ) → ShowsTail v (p % 3) (slice_index ws (tail_place p)) v
+  shows_tail : AreNumbered ps → (p : ℕ) → ShowsTail v (p % 3) (slice_index ws (tail_place p)) (was_shown (shown_position (geometry_of v) (slice_index ws (tail_place p))) v)
   unfolding n
   shows_tail a p =
       let k = r.claims.each id v at in let word : ℕ = slice_index ws (tail_place p) in
@@ -243,7 +247,7 @@ module _ (b : Bounds) (ws : List ℕ) (ps : List Pass) (r : Ruled b ws ps) (id :
         from = shape (λ i s. s / i.geometry.term_length % 3 ≡ p % 3 → s ≤ shown_position i.geometry word) (λ same. start_below p same);
         apart = apart;
         single = single_at ps id v at a;
-        same = refl;
+        after = refl;
       }
     where
       low : (j a c n : ℕ) → j ≤ max a c → a ≤ n → c ≤ n → j ≤ n
@@ -254,17 +258,9 @@ module _ (b : Bounds) (ws : List ℕ) (ps : List Pass) (r : Ruled b ws ps) (id :
 
 -- ---- the word is noted
 
--- another view of the same pass
-renewed : (key : Key) (ws : List ℕ) (s : State (Unit {0}) View) (id : ℕ) (v w : View) → w.pass ≡ v.pass → IsSure ws w → LogRuled key record { words = ws; homes = s.homes; views = set s.views id v } → LogRuled key record { words = ws; homes = s.homes; views = set s.views id w }
-renewed key ws s id v w same mine q =
-    let vs : List View = s.views in let is : map pass_in (set vs id v) ≡ map pass_in (set vs id w) = map-set pass_in vs id v ∙ ap (set (map pass_in vs) id) (sym same) ∙ sym (map-set pass_in vs id w) in record {
-      cleaned = q.cleaned;
-      there = q.there;
-      ruled = subst (Ruled (now_at key (slice_index ws limit_place) q.cleaned) ws) is q.ruled;
-      kept = subst (Kept (now_at key (slice_index ws limit_place) q.cleaned) q.there ws) is q.kept;
-      sure = record { each = λ j u e. ⊎_elim (λ (y : (j ≡ id) × (w ≡ u)). subst (IsSure ws) y.1 mine) (λ (y : (j ≢ id) × (get_elem? vs j ≡ some u)). q.sure.each j u (set_else vs id j v y.0 ∙ y.1)) (at_set vs id j w u e) };
-      numbered = subst AreNumbered is q.numbered;
-    }
+-- the seat once it has noted the raw tail of a partition
+noting : ℕ → List ℕ → View → View
+noting p ws v = let n : ℕ = slice_index ws (tail_place p) in record { pass = was_shown (shown_position (geometry_of v.pass) n) v.pass; steps = suc v.steps; controls = with_tail v.controls (p % 3) n; sure = v.sure }
 
 -- who is sure of the control words knows it
 known_tail : (ws : List ℕ) (p : ℕ) → with_tail (controls_in ws) (p % 3) (slice_index ws (tail_place p)) ≡ controls_in ws
@@ -276,15 +272,39 @@ known_tail ws p = go (p % 3) (mod-lt p (omega arith))
     go (suc (suc zero)) low = refl
     go (suc (suc (suc k))) low = absurd (omega arith)
 
+-- the load of a raw tail that a seat notes keeps the rule
+noted_ruled : (key : Key) (id p : ℕ) (v : View) (s : State (Unit {0}) View) (q : LogRuled key s) → get_elem? s.views id ≡ some v
+    → LogRuled key record { words = set s.words (tail_place p) (slice_index s.words (tail_place p)); homes = s.homes; views = set s.views id (noting p s.words v) }
+unfolding noting
+noted_ruled key id p v s q at =
+    let ws : List ℕ = s.words in let ps : List Pass = map pass_in s.views in let i : ℕ = tail_place p in let n : ℕ = slice_index ws i in let ws' : List ℕ = set ws i n in
+    let b : Bounds = now_at key (slice_index ws limit_place) q.cleaned in let c = q.ruled.claims in let here = at_map pass_in s.views id v at in
+    let k = c.each id v.pass here in let sure = q.sure.each id v at in
+    let x : ℕ = shown_position (geometry_of v.pass) n in let u : Pass = was_shown x v.pass in let w : View = noting p ws v in
+    let low : x ≤ claimed_to (shape_of b) c.terms = subst (λ (y : Identity). shown_position y.geometry n ≤ claimed_to (shape_of b) c.terms) (sym k.identity) (tail_shows (shape_of b) (first_of b) c.terms ws c.sound.geometry c.tailed (narrow b ws ps c) p) in
+    let knows : Knows b c.terms u = record { identity = k.identity; start = k.start; number = k.number; right = k.right; entries = k.entries; seen = saw_more (shape_of b) (first_of b) c.terms v.pass.seen x low k.seen } in
+    let ruled : Ruled b ws' (set ps id u) = record { claims = sighted b ws ps c id i v.pass u here knows refl refl refl refl; memory = stayed b ws ps q.ruled.memory id i n v.pass u (tail_low p) here record { claims = refl; work = refl } } in
+    let look : IsLook ps (set ps id u) = record { claimed = λ h. same_sum (weight h) ps id v.pass u here refl; committed = λ h. same_sum (committed_weight h) ps id v.pass u here refl } in
+    let spared = load_spares i ws in
+    let kept : Kept b q.there ws' (set ps id u) = kept_on b q.there ws ws' ps id v.pass u here record { identity = refl; start = refl; number = refl; parts = refl; numbers = refl; reading = refl; keeping = refl } (grows b ws ws' ps (set ps id u) q.ruled ruled (inl look)) spared q.kept in
+    let is : map pass_in (set s.views id w) ≡ set ps id u = map-set pass_in s.views id w in
+    let known : v.sure ≡ 1 → with_tail v.controls (p % 3) n ≡ v.controls = λ one. ap (λ (y : Controls). with_tail y (p % 3) n) (sure.exact one) ∙ known_tail ws p ∙ sym (sure.exact one) in record {
+      cleaned = q.cleaned;
+      there = q.there;
+      ruled = subst (λ (y : ℕ × List Pass). Ruled (now_at key y.0 q.cleaned) ws' y.1) (λ j. (sym spared.limit j, sym is j)) ruled;
+      kept = subst (λ (y : ℕ × List Pass). Kept (now_at key y.0 q.cleaned) q.there ws' y.1) (λ j. (sym spared.limit j, sym is j)) kept;
+      sure = sure_on b ws s.views q.ruled q.sure id v w at i (λ m. m) (inr (load_leaves i)) record { whole = sure.whole; exact = λ one. known one ∙ sure.exact one ∙ ap controls_in (sym (set-get_or ws i 0)) };
+      numbered = subst AreNumbered (sym is) (numbered_on ps id v.pass u here record { numbers = refl; owns = λ o. record { claims = o.claims; armed = o.armed } } q.numbered);
+    }
+
 pub shown : (key : Key) (slots id p : ℕ) (m : Mine) → Allows (LogRuled key) slots id m (tail_place p) (λ n. n) (λ n m'. showing (p % 3) m n m')
+unfolding noting
 shown key slots id p m s q homes at small =
     let v : View = m.0 in let ws : List ℕ = s.words in let n : ℕ = slice_index ws (tail_place p) in let bs : Bounds = now_at key (slice_index ws limit_place) q.cleaned in let k = q.sure.each id v at in
-    let known : v.sure ≡ 1 → with_tail v.controls (p % 3) n ≡ v.controls = λ one. ap (λ (c : Controls). with_tail c (p % 3) n) (k.exact one) ∙ known_tail ws p ∙ sym (k.exact one) in
-    let same : set ws (tail_place p) n ≡ ws = set-get_or ws (tail_place p) 0 in
-    let w : View = record { pass = v.pass; steps = suc v.steps; controls = with_tail v.controls (p % 3) n; sure = v.sure } in (
-      w,
+    let known : v.sure ≡ 1 → with_tail v.controls (p % 3) n ≡ v.controls = λ one. ap (λ (c : Controls). with_tail c (p % 3) n) (k.exact one) ∙ known_tail ws p ∙ sym (k.exact one) in (
+      noting p ws v,
       keeps,
       tt,
-      renewed key (set ws (tail_place p) n) s id record { pass = v.pass; steps = suc v.steps; controls = v.controls; sure = v.sure } w refl record { whole = k.whole; exact = λ one. known one ∙ k.exact one ∙ ap controls_in (sym same) } (told_ruled key id (tail_place p) v s q at),
+      noted_ruled key id p v s q at,
       ((refl, refl, record { sure = refl; leads = known }, shows_tail bs ws (map pass_in s.views) q.ruled id v.pass (at_map pass_in s.views id v at) q.numbered p), refl, small),
     )

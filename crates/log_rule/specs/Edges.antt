@@ -1,6 +1,9 @@
 -- Where frames of a stream begin, and where a consumer may stand.
 use Rattle.std.specs.Prelude.{◌≡◌, ℕ, ◌+◌, ◌-◌, ◌%◌, ◌<◌, ◌≤◌, ◌⊎◌, List, max, min}
+use mathlib.Core.Option.{some}
+use lib.ListN.{get_elem?}
 use Rattle.theory.specs.Entry.{Entry}
+use Rattle.theory.specs.Placed.{Among}
 use Rattle.publication.specs.declared.pass.FrameWords.{FrameWords}
 use Rattle.publication.specs.declared.pass.Pass.{Pass}
 use Rattle.publication.specs.Steps.{Extent, extent_of, extents}
@@ -45,6 +48,13 @@ AreCommitted passes p = claimed_sum (begins_below p) passes ≡ committed_sum (b
 -- the frame is committed by one of the passes
 abbrev pub IsAmong : List Pass → FrameWords → Type 0
 IsAmong passes f = (h : FrameWords → ℕ) → h f ≤ total (committed_weight h) passes
+
+-- which pass that is
+pub record CommittedBy (passes : List Pass) (f : FrameWords) : Type 0 where
+  pub place : ℕ
+  pub holder : Pass
+  pub at : get_elem? passes place ≡ some holder
+  pub among : Among f holder.work.frames
 
 -- a consumer may stand there
 pub record IsPlaced (b : Bounds) (passes : List Pass) (p : ℕ) : Type 0 where

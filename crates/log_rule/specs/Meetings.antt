@@ -1,5 +1,5 @@
 -- Two passes that meet: what each is told before, what both are together, and what the raw tails show them.
-use Rattle.std.specs.Prelude.{◌≡◌, ℕ, suc, ◌+◌, ◌-◌, ◌*◌, ◌/◌, ◌%◌, ◌^◌, ◌<◌, ◌≤◌, ◌⊎◌, List, [], ◌∷◌, ◌++◌, map, max}
+use Rattle.std.specs.Prelude.{◌≡◌, ℕ, suc, ◌-◌, ◌*◌, ◌/◌, ◌%◌, ◌^◌, ◌<◌, ◌≤◌, ◌⊎◌, List, [], ◌∷◌, ◌++◌, map, max}
 use Rattle.std.specs.List.{flat_map}
 use Rattle.theory.specs.Placed.{Among}
 use Rattle.publication.specs.declared.pass.ClaimRange.{ClaimRange}
@@ -46,12 +46,16 @@ unnoted = record { limit = 0; count = 0; tails = 2 ^ 64 ∷ 2 ^ 64 ∷ 2 ^ 64 �
 abbrev pub meeting_seats : View → View → View
 meeting_seats v w = record { pass = meeting v.pass w.pass; steps = v.steps; controls = unnoted; sure = 0 }
 
--- and each what it had
+-- a position more was shown to it
+abbrev pub was_shown : ℕ → Pass → Pass
+was_shown n v = record v { seen = record v.seen { shown = max v.seen.shown n } }
+
+-- and each what it had, and was shown what both were
 abbrev pub back_left : Pass → View → View
-back_left one v = dealing one v
+back_left one v = dealing (was_shown v.pass.seen.shown one) v
 
 abbrev pub back_right : Pass → View → View
-back_right other v = new_seat other
+back_right other v = new_seat (was_shown v.pass.seen.shown other)
 
 -- ---- what the raw tails show
 
@@ -59,7 +63,7 @@ back_right other v = new_seat other
 abbrev pub AreApart : ClaimRange → ClaimRange → Type 0
 AreApart c d = (claim_end c ≤ d.start) ⊎ (claim_end d ≤ c.start)
 
--- the raw tail of a partition: what lies in a term of it doesn't pass the position that it shows
+-- the raw tail of a partition: what lies in a term of it doesn't pass the position that it shows, which the pass was shown then
 pub record ShowsTail (v : Pass) (partition n : ℕ) (w : Pass) : Type 0 where
   pub claims : (c : ClaimRange) → Among c v.right.claims → c.start / term_of v % 3 ≡ partition → claim_end c ≤ shown_position (geometry_of v) n
   pub terms : (k : ℕ) → v.start / term_of v ≤ k → k ≤ max v.seen.count v.seen.begun → k % 3 ≡ partition → k * term_of v ≤ shown_position (geometry_of v) n
@@ -69,7 +73,7 @@ pub record ShowsTail (v : Pass) (partition n : ℕ) (w : Pass) : Type 0 where
   pub apart : (front behind : List ClaimRange) → v.right.claims ≡ front ++ behind → (c d : ClaimRange) → Among c front → Among d behind → AreApart c d
   -- none of its numbers is there twice
   pub single : (n : ℕ) → numbers_as n v ≤ 1
-  pub same : w ≡ v
+  pub after : w ≡ was_shown (shown_position (geometry_of v) n) v
 
 -- and the seat notes the word
 abbrev pub showing : ℕ → Mine → ℕ → Mine → Type 0

@@ -21,7 +21,7 @@ use Rattle.log_rule.specs.Claims.Packs.{consumer_place, limit_place, slot, tail_
 use Rattle.log_rule.specs.Claims.Plays.{pass_in}
 use Rattle.log_rule.specs.Claims.Rule.{armed_of, weight}
 use Rattle.log_rule.specs.Claims.Sums.{total}
-use Rattle.log_rule.specs.Edges.{AreCommitted, begins_at, claimed_sum, committed_sum, in_entry, open_sum}
+use Rattle.log_rule.specs.Edges.{AreCommitted, CommittedBy, begins_at, claimed_sum, committed_sum, in_entry, open_sum}
 use Rattle.log_rule.specs.Kept.{readers_of}
 use Rattle.log_rule.specs.Numbers.{ClaimsAs}
 use Rattle.log_rule.specs.Shares.{owner_bytes}
@@ -80,8 +80,14 @@ pub record Says (key : Key) (words : List ℕ) (passes : List Pass) : Type 0 whe
   pub drafts : (i : ℕ) (v : Pass) → get_elem? passes i ≡ some v → AllByRecursion (IsBegun key.identity cleaned words) v.work.drafts
   -- each consumer that is there has a number that no other has, and stands where it may; and the keeper knows who is there
   pub consumers : (i : ℕ) (v : Pass) (r : Reading) → get_elem? passes i ≡ some v → Among r v.reading → r.number < 8 → IsStanding key cleaned words passes r
+  -- each frame that a pass knows as a reader is committed, by one of the passes
+  pub known : (i : ℕ) (v : Pass) (r : Reading) → get_elem? passes i ≡ some v → Among r v.reading → AllByRecursion (CommittedBy passes) r.known
   pub keeper : (i : ℕ) (v : Pass) → get_elem? passes i ≡ some v → v.keeping.right ≡ 1 → (j : ℕ) → j < 8 → KnowsConsumer v.keeping.there words passes j
 
 -- whatever state the rule holds of
 abbrev pub RuleSays : Type 0
 RuleSays = (key : Key) (s : State (Unit {0}) View) → LogRuled key s → Says key s.words (map pass_in s.views)
+
+-- in whatever state the rule holds of, with this pass among the passes, one of them has committed the frame
+abbrev pub IsCommittedFor : Pass → FrameWords → Type 0
+IsCommittedFor v f = (key : Key) (s : State (Unit {0}) View) (i : ℕ) → LogRuled key s → get_elem? (map pass_in s.views) i ≡ some v → CommittedBy (map pass_in s.views) f

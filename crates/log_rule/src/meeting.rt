@@ -46,8 +46,8 @@ impl<N: Met> Join<View> for Meet<N> {
     ghost spent = { spent_seat N.one.identity N.one.start };
 }
 
-/// The raw tail of the chosen partition is loaded: a pass is told what lies below the position that it shows, and its seat
-/// notes the word.
+/// The raw tail of the chosen partition is loaded: a pass is shown the position that it shows, and told what lies below, and
+/// its seat notes the word.
 pub struct Show<N> {
     chosen: PhantomData<N>,
 }
@@ -59,7 +59,7 @@ impl<N: Chosen> Play<(), View> for Show<N> {
     ghost then = { λ _. showing (N.number % 3) };
 }
 
-/// Each has again what it had.
+/// Each has again what it had, and was shown what both were.
 pub struct Part<N> {
     met: PhantomData<N>,
 }

@@ -19,8 +19,8 @@ new_rests l n p new = record { idle = record { of = new.of; unarmed = ap (λ (v 
 pub rests_on : (l : LogValue) (p q : PublisherValue) → IsRested l p → Stays l p q → IsRested l q
 rests_on l p q r s = record { idle = record { of = s.of; unarmed = s.idle r.idle.unarmed }; keeping = s.keeping ∙ r.keeping }
 
-pub back_rests : (l : LogValue) (p q : PublisherValue) → IsRested l p → IsBack p q → IsRested l q
-back_rests l p q r b = record {
+pub back_rests : (l : LogValue) (p q : PublisherValue) (position : ℕ) → IsRested l p → IsBack p q position → IsRested l q
+back_rests l p q position r b = record {
   idle = record {
     of = record { table = b.of ∙ r.idle.of.table; identity = ap (λ (v : Pass). v.identity) b.pass ∙ r.idle.of.identity; start = ap (λ (v : Pass). v.start) b.pass ∙ r.idle.of.start };
     unarmed = ap (λ (v : Pass). v.right.armed) b.pass ∙ r.idle.unarmed;

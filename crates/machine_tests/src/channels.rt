@@ -80,11 +80,11 @@ const FAULTS: [(&str, &str); 15] = [
     ("aeron:udp?mtu=1408", "channel: no endpoint=HOST:PORT"),
     (
         "aeron:udp?endpoint=127.0.0.1:0",
-        "channel: endpoint=127.0.0.1:0: an IPv4 address, an IPv6 address in brackets or a name, a colon and a port from 1 to 65535",
+        "channel: endpoint=127.0.0.1:0: an IPv4 address, an IPv6 address in brackets or a name, a colon and a port from 1 to 65535; no multicast or broadcast address",
     ),
     (
         "aeron:udp?endpoint=10.0.0:4|ttl=0",
-        "channel: endpoint=10.0.0:4: an IPv4 address, an IPv6 address in brackets or a name, a colon and a port from 1 to 65535",
+        "channel: endpoint=10.0.0:4: an IPv4 address, an IPv6 address in brackets or a name, a colon and a port from 1 to 65535; no multicast or broadcast address",
     ),
     (
         "aeron:udp?endpoint=localhost:4|ttl=256",
@@ -96,11 +96,11 @@ const FAULTS: [(&str, &str); 15] = [
     ),
     (
         "aeron:udp?endpoint=localhost:4|interface=localhost",
-        "channel: interface=localhost: an IPv4 address or an IPv6 address in brackets",
+        "channel: interface=localhost: an IPv4 address or an IPv6 address in brackets; no multicast or broadcast address",
     ),
     (
         "aeron:udp?endpoint=localhost:4|interface=::1",
-        "channel: interface=::1: an IPv4 address or an IPv6 address in brackets",
+        "channel: interface=::1: an IPv4 address or an IPv6 address in brackets; no multicast or broadcast address",
     ),
     (
         "aeron:udp?endpoint=[::1]:4|interface=10.0.0.1|ttl=3",

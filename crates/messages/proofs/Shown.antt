@@ -46,7 +46,7 @@ kept_takes greatest a b c Rest held after kept h = record { part = h.part; grown
 kept_takes greatest a b c Part held after kept h = record { part = h.part; grown = h.grown; one_line = h.one_line; short = h.short; taken = after_look a b c _ kept h.taken }
 
 pub kept_breaks : (number greatest : ℕ) (a b c : Option (List ℕ)) (held after : List ℕ) (fault : InputFault) → Keeps a b → BreaksLine number greatest b c held after fault → BreaksLine number greatest a c held after fault
-kept_breaks number greatest a b c held after Read kept h = (after_look a b c [] kept h.0, h.1)
+kept_breaks number greatest a b c held after (Read code) kept h = (after_look a b c [] kept h.0, h.1)
 kept_breaks number greatest a b c held after (TooLong n most) kept h = (h.0, h.1, (h.2.0, after_look a b c _ kept h.2.1, h.2.2, h.2.3))
 kept_breaks number greatest a b c held after (Cut n) kept h = h
 kept_breaks number greatest a b c held after Memory kept h = (h.0, after_look a b c _ kept h.1, h.2, h.3, h.4)
@@ -66,7 +66,7 @@ alone byte other zero low = other
 alone byte other (suc i) low = absurd (omega arith)
 
 pub line_broken : (number greatest : ℕ) (a b c : Option (List ℕ)) (held after : List ℕ) (fault : InputFault) → Consumes a b held → IsOneLine held → length held ≤ greatest → BreaksLine number greatest b c held after fault → Explains Lines number greatest a c after fault
-line_broken number greatest a b c held after Read taken one short h =
+line_broken number greatest a b c held after (Read code) taken one short h =
     (held, Consumes-kept-nil, (sym h.1, subst IsOneLine (sym h.1) one, subst (λ (xs : List ℕ). length xs ≤ greatest) (sym h.1) short))
   where
     Consumes-kept-nil : Consumes a c held
@@ -95,13 +95,13 @@ kept_some most a b c true held after some kept h = (h.0, h.1, omega (arith, some
 kept_some most a b c false held after some kept h = (after_look a b c [] kept h.0, h.1, h.2)
 
 pub kept_breaks_some : (a b c : Option (List ℕ)) (held after : List ℕ) (fault : InputFault) → Keeps a b → BreaksSome b c held after fault → BreaksSome a c held after fault
-kept_breaks_some a b c held after Read kept h = (after_look a b c [] kept h.0, h.1)
+kept_breaks_some a b c held after (Read code) kept h = (after_look a b c [] kept h.0, h.1)
 kept_breaks_some a b c held after (TooLong n most) kept h = h
 kept_breaks_some a b c held after (Cut n) kept h = h
 kept_breaks_some a b c held after Memory kept h = (h.0, after_look a b c _ kept h.1, h.2)
 
 pub part_broken_off : (length_of : ℕ) (a b c : Option (List ℕ)) (held after : List ℕ) (fault : InputFault) → Consumes a b held → length held < length_of → BreaksSome b c held after fault → BreaksPart length_of a c after fault
-part_broken_off n a b c held after Read taken short h = (subst (Consumes a c) (sym h.1) (taken_no_more a b c held taken h.0), subst (λ (xs : List ℕ). length xs < n) (sym h.1) short)
+part_broken_off n a b c held after (Read code) taken short h = (subst (Consumes a c) (sym h.1) (taken_no_more a b c held taken h.0), subst (λ (xs : List ℕ). length xs < n) (sym h.1) short)
 part_broken_off n a b c held after (TooLong m most) taken short h = h
 part_broken_off n a b c held after (Cut m) taken short h = h
 part_broken_off n a b c held after Memory taken short h =

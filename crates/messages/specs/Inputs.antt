@@ -52,7 +52,7 @@ LacksRoom Blocks greatest held front = (n : ℕ) × (byte : ℕ) × (n ≤ great
 
 -- why no message is read, and what is held of it
 abbrev pub Explains : Form → ℕ → ℕ → Option (List ℕ) → Option (List ℕ) → List ℕ → InputFault → Type 0
-Explains form number greatest old new held Read = (front : List ℕ) × Consumes old new front × IsPart form greatest held front
+Explains form number greatest old new held (Read code) = (front : List ℕ) × Consumes old new front × IsPart form greatest held front
 Explains form number greatest old new held (TooLong n most) = (n ≡ number) × (most ≡ greatest) × ((front : List ℕ) × Consumes old new front × IsTooLong form greatest front)
 Explains form number greatest old new held (Cut n) = (n ≡ number) × ((front : List ℕ) × Consumes old new front × IsAtEnd new × IsCut form front)
 Explains form number greatest old new held Memory = (front : List ℕ) × Consumes old new front × LacksRoom form greatest held front

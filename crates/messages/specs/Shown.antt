@@ -22,7 +22,7 @@ TakesShown greatest old new Part held after = Grows greatest old new [] held aft
 
 -- why no more of the line is held
 abbrev pub BreaksLine : ℕ → ℕ → Option (List ℕ) → Option (List ℕ) → List ℕ → List ℕ → InputFault → Type 0
-BreaksLine number greatest old new held after Read = Consumes old new [] × (after ≡ held)
+BreaksLine number greatest old new held after (Read code) = Consumes old new [] × (after ≡ held)
 BreaksLine number greatest old new held after (TooLong n most) = (n ≡ number) × (most ≡ greatest) × ((part : List ℕ) × Consumes old new part × IsOneLine part × (length held + length part ≡ greatest + 1))
 BreaksLine number greatest old new held after (Cut n) = ⊥
 BreaksLine number greatest old new held after Memory = (byte : ℕ) × Consumes old new (byte ∷ []) × (byte ≢ 10) × (after ≡ held) × (length held < greatest)
@@ -36,7 +36,7 @@ TakesSome most old new false held after = Consumes old new [] × IsAtEnd new × 
 
 -- why no more is held
 abbrev pub BreaksSome : Option (List ℕ) → Option (List ℕ) → List ℕ → List ℕ → InputFault → Type 0
-BreaksSome old new held after Read = Consumes old new [] × (after ≡ held)
+BreaksSome old new held after (Read code) = Consumes old new [] × (after ≡ held)
 BreaksSome old new held after (TooLong n most) = ⊥
 BreaksSome old new held after (Cut n) = ⊥
 BreaksSome old new held after Memory = (byte : ℕ) × Consumes old new (byte ∷ []) × (after ≡ held)

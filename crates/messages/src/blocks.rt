@@ -37,7 +37,7 @@ fn take_shown<R: BufRead>(
     let shown = match input.fill_buf() {
         Ok(shown) => shown,
         Err(error) if error.kind() == ErrorKind::Interrupted => return Ok(true),
-        Err(_) => return Err(InputFault::Read),
+        Err(error) => return Err(InputFault::Read(error.raw_os_error())),
     };
     if shown.is_empty() {
         return take_byte(input, held);
@@ -73,7 +73,7 @@ fn next_part<R: BufRead>(
     if message.len() == length as usize {
         return Ok(true);
     }
-    Err(InputFault::Read)
+    Err(InputFault::Read(None))
 }
 
 /// Reads the length of the block of this number, 32 bits with the lowest byte first; none at the end of the input.

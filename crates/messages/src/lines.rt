@@ -73,7 +73,7 @@ fn take_shown<R: BufRead>(
     let shown = match input.fill_buf() {
         Ok(shown) => shown,
         Err(error) if error.kind() == ErrorKind::Interrupted => return Ok(Shown::Part),
-        Err(_) => return Err(InputFault::Read),
+        Err(error) => return Err(InputFault::Read(error.raw_os_error())),
     };
     if shown.is_empty() {
         return take_byte(number, greatest, input, line);
@@ -114,5 +114,5 @@ pub fn next_line<R: BufRead>(
             Shown::Part => {}
         }
     }
-    Err(InputFault::Read)
+    Err(InputFault::Read(None))
 }

@@ -9,9 +9,10 @@ use std::error::Error;
 use std::fmt;
 use std::io::{ErrorKind, Write};
 
-/// The output failed, or the message is too long for its form. Some of the message's bytes may have been written.
+/// The output failed, with the system's number, where it gave one; or the message is too long for its form. Some of the
+/// message's bytes may have been written.
 #[derive(Clone, Copy, Debug, PartialEq, Eq)]
-pub struct OutputFailed;
+pub struct OutputFailed(pub Option<i32>);
 
 impl fmt::Display for OutputFailed {
     ghost output = { λ _. Some output_text };
@@ -35,14 +36,14 @@ fn write_bytes<W: Write>(bytes: &[u8], output: &mut W) -> Result<(), OutputFaile
     for _turn in 0..u64::MAX {
         let rest = &bytes[at..];
         match output.write(rest) {
-            Ok(0) => return Err(OutputFailed),
+            Ok(0) => return Err(OutputFailed(None)),
             Ok(count) if count == rest.len() => return Ok(()),
             Ok(count) => at += count,
             Err(error) if error.kind() == ErrorKind::Interrupted => {}
-            Err(_) => return Err(OutputFailed),
+            Err(error) => return Err(OutputFailed(error.raw_os_error())),
         }
     }
-    Err(OutputFailed)
+    Err(OutputFailed(None))
 }
 
 /// Writes some bytes, and others behind them.
@@ -60,7 +61,7 @@ fn write_block<W: Write>(message: &[u8], output: &mut W) -> Result<(), OutputFai
     ensures long { 2 ^ 32 ≤ length message.now → IsErr result × Keeps (W.contents output.old) (W.contents output.new) }
 {
     if message.len() > u32::MAX as usize {
-        return Err(OutputFailed);
+        return Err(OutputFailed(None));
     }
     let length = (message.len() as u32).to_le_bytes();
     write_both(&length, message, output)

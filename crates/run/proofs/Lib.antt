@@ -1,3 +1,4 @@
 pub mod Closing
 pub mod Counting
+mod EndingRows
 pub mod Receivers

@@ -52,7 +52,10 @@ fn start_reading<'s, S, N: Named + Begins, R: Wait + Clock + Sync, D: Datagrams,
     ensures none { IfOk result (λ o. IfNone o (reception.new.image ≡ None)) }
     ensures still { reception.new.fault ≡ None }
 {
-    let Some(reader) = reception.take_reader(context.alloc, duties.greatest)? else {
+    let Ok(taken) = reception.take_reader(context.alloc, duties.greatest) else {
+        return Err(DeviceError::Memory);
+    };
+    let Some(reader) = taken else {
         return Ok(None);
     };
     let handle = start_subscriber(scope, context, Poller::new(reader), duties.wanted)?;

@@ -5,7 +5,7 @@ ghost use Rattle.std.specs.Arc.{arc_value};
 ghost use Rattle.counters.specs.Order.{zeros};
 ghost use Rattle.agents.specs.Cycles.{Cycle};
 ghost use Rattle.agents.specs.Parties.{CoreHears, CoreTicks};
-ghost use Rattle.receiver.specs.Dealt.{HasNoReaders};
+ghost use Rattle.receiver.specs.Dealt.{HasNoReaders, ImageTakes};
 ghost use Rattle.receiver.specs.Representing.{Represents};
 ghost use Rattle.run_parties.specs.Receptions.{EndsLife, IsBegun};
 
@@ -15,7 +15,7 @@ use agents::{Duty, Named, ReceiverAgent};
 use counters::{CounterWriter, Counters};
 use endpoint::{Datagrams, DeviceError};
 use image::Image;
-use receiver::{MessageReader, ReceiverCore, reads_a_run};
+use receiver::{Denied, MessageReader, Readers, ReceiverCore, reads_a_run};
 use std::alloc::Global;
 use std::marker::{Brand, Model};
 use std::sync::{Arc, Wait};
@@ -121,24 +121,28 @@ impl<N: Named + Begins, D: Datagrams> Reception<N, D> {
         }
     }
 
-    /// Who reads its image, once after a SETUP has opened that: messages of at most so many bytes. The fault is `Memory`, where
-    /// memory was refused.
+    /// Who reads its image, once after a SETUP has opened that: messages of at most so many bytes. Where memory was refused, the
+    /// image's readers come back instead.
     pub fn take_reader(
         &mut self,
         alloc: Global,
         greatest: usize,
-    ) -> Result<Option<MessageReader>, DeviceError>
+    ) -> Result<Option<MessageReader>, Denied<Readers>>
         requires { self.old.fault ≡ None }
         ensures some { IfOk result (λ o. IfSome o (λ m. IsBegun m × (self.new.image ≡ Some m.image))) }
         ensures none { IfOk result (λ o. IfNone o ((self.new.image ≡ self.old.image) × HasNoReaders self.old.core.image)) }
+        ensures denied { IfErr result (λ d. (self.new.image ≡ self.old.image) × ImageTakes self.old.core.image d.given self.new.core.image) }
         ensures still { self.new.fault ≡ self.old.fault }
     {
         let Some(taken) = self.agent.take_readers() else {
             return Ok(None);
         };
-        let image = Arc::try_clone(&taken.image)?;
+        let Ok(image) = Arc::try_clone(&taken.image) else {
+            return Err(Denied { given: taken });
+        };
+        let reader = MessageReader::new(alloc, taken, greatest)?;
         self.image = Some(image);
-        Ok(Some(MessageReader::new(alloc, taken, greatest)?))
+        Ok(Some(reader))
     }
 
     /// What is left at the end, where its subscriber has left this; or the fault that came last.

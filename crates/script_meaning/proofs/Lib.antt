@@ -23,3 +23,5 @@ pub mod SoundLines
 pub mod SoundReceivers
 pub mod SoundSenders
 pub mod Standings
+pub mod Premises
+mod HeadlineRows

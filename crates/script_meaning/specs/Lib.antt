@@ -5,3 +5,4 @@ pub mod Output
 pub mod Published
 pub mod ScriptState
 pub mod Standing
+pub mod Premises

@@ -5,7 +5,9 @@
 //! Whatever lines answer a script in this way: after each line, what a receiver's polls printed is what was
 //! published, and no message was too long for it, where its image was given no frame but those that had been printed
 //! in a packet, and no memory was refused to its assembler; what a reader's lines showed is what was published; with
-//! such a receiver's image the log and its sender are a world to which a run of the model leads (`polls_a_prefix`).
+//! such a receiver's image the log and its sender are a world to which a run of the model leads (`polls_a_prefix`). Where no
+//! line hands a receiver bytes of the script's own, and none says that memory was refused, that is so of each receiver
+//! (`speaks_without_raw`).
 //! Each image, whatever its receiver was handed, keeps its frames apart and its consumer within bounds
 //! (`images_stay_in_bounds`). The log's shares are those of all entries, and a book has one text
 //! (`shares_are_counted`). What the sender may be asked for again is still in the log, and what it reads again is what
@@ -13,6 +15,7 @@
 #![tactic(auto)]
 
 ghost use Rattle.script_meaning.specs.Output.{AlwaysCounted, AlwaysInBounds, AlwaysPolled, AlwaysRuns, HasOneBook};
+ghost use Rattle.script_meaning.specs.Premises.{HonestWithoutRaw, PolledWithoutRaw, WholeUnrefused};
 ghost use Rattle.script_meaning.specs.Standing.{AlwaysAgain, AlwaysThere};
 
 use frames::one_reading;
@@ -41,6 +44,14 @@ pub fn polls_a_prefix()
     names_place();
     one_reading();
 }
+
+/// Where no line of a script hands a receiver bytes of its own, and none says that memory was refused, what is said of polls is
+/// said of each receiver.
+pub fn speaks_without_raw()
+    ensures honest { HonestWithoutRaw }
+    ensures whole { WholeUnrefused }
+    ensures polled { PolledWithoutRaw }
+{}
 
 /// Whatever is answered, and whatever bytes a receiver was handed: the frames of its image never overlap, and its consumer
 /// stays within what stands without a gap, and that within the high-water mark.

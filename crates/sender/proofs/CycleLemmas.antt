@@ -10,7 +10,7 @@ use Rattle.theory.specs.Wire.{Wire, spelling}
 use Rattle.theory.specs.Bytes.{Identity}
 use Rattle.theory.specs.Gap.{Gap}
 use Rattle.theory.specs.Control.{setup_at}
-use Rattle.theory.specs.Datagrams.{wires}
+use Rattle.theory.specs.Datagrams.{frames_of, wires}
 use Rattle.theory.specs.Timing.{is_heartbeat_due}
 use Rattle.frame_source.specs.Sources.{Source}
 use Rattle.sender.specs.Resending.Handler.{Handler, after_due, after_note, due_range}
@@ -61,13 +61,17 @@ heard_is i at to setup [] [] false = le-ltb _ _ (omega (arith, count (alone (set
 
 -- ---- the steps
 
+-- new frames by another look
+pub looks_on : {Looked Ended : Type 0} {grown : List Placed → List Placed → Type 0} {i : Identity} {limit : ℕ} {old : Source} {h : Handler} {o : Outgoing} {new : Source} {k : Handler} {n : Outgoing} → (Ended → Looked) → SendsNew Ended grown i limit old h o new k n → SendsNew Looked grown i limit old h o new k n
+looks_on on s = record { fresh = s.fresh; gives = s.gives; looked = λ all. on (s.looked all); handler = s.handler; reads = s.reads; out = s.out; few = s.few; there = s.there; unit = s.unit }
+
 -- what they told of themselves, from the sender s with the flow control ticked to the sender e
-pub record Steps {R F : Type 0} (grown : List Placed → List Placed → Type 0) (after_tick : F → ℕ → F) (reached : F → ℕ) (s b c d e : Sending R F) (flow : F) (o p q r t : Outgoing) (old mid new : Source) : Type 0 where
+pub record Steps {R F : Type 0} (Looked : Type 0) (grown : List Placed → List Placed → Type 0) (after_tick : F → ℕ → F) (reached : F → ℕ) (s b c d e : Sending R F) (flow : F) (o p q r t : Outgoing) (old mid new : Source) : Type 0 where
   pub empty : o.datagrams ≡ []
   pub tick : flow ≡ after_tick s.flow s.clock
   pub name : b ≡ record s { flow = flow; naming = named_after s.naming s.clock }
   pub named : p ≡ with_all o (alone (setups s.identity s.handler.at (is_due s.naming s.clock)))
-  pub sends : SendsNew grown b.identity (reached b.flow) old b.handler p mid c.handler q
+  pub sends : SendsNew Looked grown b.identity (reached b.flow) old b.handler p mid c.handler q
   pub sent : c ≡ record b { reads = c.reads; handler = c.handler }
   pub again : SendsAgain c.identity mid.frames (due_range c.handler) q r
   pub answered : d ≡ record c { reads = d.reads; handler = after_due c.handler c.clock }
@@ -79,12 +83,12 @@ pub record Steps {R F : Type 0} (grown : List Placed → List Placed → Type 0)
 abbrev ticked : {R F : Type 0} → Sending R F → F → Sending R F
 ticked s flow = record s { flow = flow; naming = named_after s.naming s.clock }
 
-pub cycles : {R F : Type 0} (grown : List Placed → List Placed → Type 0) (after_tick : F → ℕ → F) (reached : F → ℕ) (s b c d e : Sending R F) (flow : F) (o p q r t : Outgoing) (old mid new : Source) → Steps grown after_tick reached s b c d e flow o p q r t old mid new → Cycles grown after_tick reached s old new e t.datagrams
-cycles {R = R} {F = F} grown after_tick reached s b c d e flow o p q r t old mid new h =
+pub cycles : {R F : Type 0} (Looked : Type 0) (grown : List Placed → List Placed → Type 0) (after_tick : F → ℕ → F) (reached : F → ℕ) (s b c d e : Sending R F) (flow : F) (o p q r t : Outgoing) (old mid new : Source) → Steps Looked grown after_tick reached s b c d e flow o p q r t old mid new → Cycles Looked grown after_tick reached s old new e t.datagrams
+cycles {R = R} {F = F} Looked grown after_tick reached s b c d e flow o p q r t old mid new h =
     let S : Type 0 = Sending R F in
     let f : F = after_tick s.flow s.clock in
     let ib : b ≡ ticked s f = h.name ∙ ap (λ (x : F). ticked s x) h.tick in
-    let sends : SendsNew grown s.identity (reached f) old s.handler p mid c.handler q = subst (λ (x : S). SendsNew grown x.identity (reached x.flow) old x.handler p mid c.handler q) ib h.sends in
+    let sends : SendsNew Looked grown s.identity (reached f) old s.handler p mid c.handler q = subst (λ (x : S). SendsNew Looked grown x.identity (reached x.flow) old x.handler p mid c.handler q) ib h.sends in
     let ic : c ≡ record (ticked s f) { reads = c.reads; handler = c.handler } = h.sent ∙ ap (λ (x : S). record x { reads = c.reads; handler = c.handler }) ib in
     let again : SendsAgain s.identity mid.frames (due_range c.handler) q r = subst (λ (x : S). SendsAgain x.identity mid.frames (due_range c.handler) q r) ic h.again in
     let id : d ≡ record (ticked s f) { reads = d.reads; handler = after_due c.handler s.clock } = h.answered ∙ ap (λ (x : S). record x { reads = d.reads; handler = after_due c.handler x.clock }) ic in
@@ -123,14 +127,17 @@ cycles {R = R} {F = F} grown after_tick reached s b c d e flow o p q r t old mid
     ∙ ap (λ (x : Bool). record (ticked s f) { reads = e.reads; handler = after_due c.handler s.clock; last = if x then Some s.clock else s.last }) heard
     ∙ ap (λ (x : Handler). record (ticked s f) { reads = e.reads; handler = after_due x s.clock; last = if is_heard y then Some s.clock else s.last }) sends.handler in
     let at : c.handler.at ≡ e.handler.at = ap (λ (x : Handler). x.at) sends.handler ∙ sym (ap (λ (x : S). x.handler.at) state) in
+    let there : (gives : GivesNew i.geometry new.frames s.handler.at (reached f) sends.fresh) × (gives.reads ≡ frames_of sends.fresh → Looked) =
+    subst (λ (x : Source). (gives : GivesNew i.geometry x.frames s.handler.at (reached f) sends.fresh) × (gives.reads ≡ frames_of sends.fresh → Looked)) (sym h.stays) (sends.gives, sends.looked) in
     record {
       cycle = y;
       is = record {
         setup = refl;
-        new = subst (λ (x : Source). GivesNew i.geometry x.frames s.handler.at (reached f) sends.fresh) (sym h.stays) sends.gives;
+        new = there.0;
         again = subst (λ (x : Handler). GivesAgain i.geometry new.frames (due_range x) again.again) sends.handler (subst (λ (x : Source). GivesAgain i.geometry x.frames (due_range c.handler) again.again) (sym h.stays) again.gives);
         beat = refl;
       };
+      looked = there.1;
       state = state;
       sends = all ∙ ap (λ (n : ℕ). datagrams (sent_wires i s.handler.at n y)) at;
       reads = subst (λ (n : ℕ). ReadsTo grown old n new) at (subst (λ (x : Source). ReadsTo grown old c.handler.at x) (sym h.stays) sends.reads);
@@ -171,7 +178,7 @@ more_few i fresh p q m n held few out =
     omega (arith, held, few, all, length-append p.datagrams (datagrams (map (wires i) fresh)), length-map {A = List Wire} {B = List ℕ}, length-map {A = List Placed} {B = List Wire})
 
 -- a reader that stands where the sender does, after new frames
-pub still_from : {R F : Type 0} (grown : List Placed → List Placed → Type 0) (s t : Sending R F) (limit : ℕ) (old new : Source) (o n : Outgoing) → SendsFrom s old → t.identity ≡ s.identity → SendsNew grown s.identity limit old s.handler o new t.handler n → SendsFrom t new
+pub still_from : {R F : Type 0} {Looked : Type 0} (grown : List Placed → List Placed → Type 0) (s t : Sending R F) (limit : ℕ) (old new : Source) (o n : Outgoing) → SendsFrom s old → t.identity ≡ s.identity → SendsNew Looked grown s.identity limit old s.handler o new t.handler n → SendsFrom t new
 still_from grown s t limit old new o n from same sends = record {
   identity = ap (λ (x : Source). x.identity) sends.reads.moved ∙ from.identity ∙ sym same;
   position = ap (λ (x : Source). x.position) sends.reads.moved;

@@ -1,10 +1,11 @@
 -- New frames given out one after the other.
 use Rattle.std.proofs.Common.{◌≡◌, ◌⊎◌, ℕ, ◌+◌, ◌*◌, ◌%◌, ◌<◌, ◌≤◌, inl, inr, false, List, [], ◌∷◌, ◌++◌, length, map, refl, sym, ap, ◌∙◌, subst, append-nil, arith}
 use Rattle.std.specs.List.{AllByRecursion}
+use Rattle.std.proofs.lemmas.List.{length-append}
 use Rattle.theory.specs.Position.{Geometry, aligned}
 use Rattle.theory.specs.Placed.{Among, Chain, Frame, Placed, end_of}
 use Rattle.theory.specs.Bytes.{Identity}
-use Rattle.theory.specs.Datagrams.{MayBeSent, cycle_datagrams, grouped, sent_end, wires}
+use Rattle.theory.specs.Datagrams.{MayBeSent, cycle_datagrams, frames_of, grouped, sent_end, wires}
 use Rattle.theory.proofs.Follow.{chain_span}
 use Rattle.theory.proofs.Grouping.{cycle_sends_these, cycle_stops_at_limit, cycle_stops_when_full, grouped_is}
 use Rattle.theory.proofs.Lists.{all_pushed, all_weaker}
@@ -135,14 +136,14 @@ barred_stops : (i : Identity) (limit : ℕ) (o : Outgoing) (p : Packing) (n : Ou
 barred_stops i limit o p n frames s allowed packs (inl above) = cycle_stops_at_limit i.geometry limit frames s allowed above (few i o p n frames packs)
 barred_stops i limit o p n frames s allowed packs (inr full) = cycle_stops_when_full i.geometry limit frames s allowed full.0 (full.1.2 16 o.datagrams frames packs)
 
-gives_new : (grown : List Placed → List Placed → Type 0) (i : Identity) (limit : ℕ) (old : Source) (h : Handler) (o : Outgoing) (mid : Source) (k : Handler) (p : Packing) (n : Outgoing) (new : Source)
-    → ((f : Placed) → Among f mid.frames → Among f new.frames) → (s : Sent grown i limit old h o mid k p n) → HasNone new k.at ⊎ IsBarred i limit new.frames k.at p n → GivesNew i.geometry new.frames h.at limit (grouped i.geometry s.frames)
+gives_new : {Looked : Type 0} (grown : List Placed → List Placed → Type 0) (i : Identity) (limit : ℕ) (old : Source) (h : Handler) (o : Outgoing) (mid : Source) (k : Handler) (p : Packing) (n : Outgoing) (new : Source)
+    → ((f : Placed) → Among f mid.frames → Among f new.frames) → (s : Sent grown i limit old h o mid k p n) → (HasNone new k.at × Looked) ⊎ IsBarred i limit new.frames k.at p n → GivesNew i.geometry new.frames h.at limit (grouped i.geometry s.frames)
 gives_new grown i limit old h o mid k p n new more s (inl none) = record {
   reads = s.frames;
   to = k.at;
   read = read_still mid.frames new.frames h.at k.at s.frames more s.read;
   sent_is = sym (cycle_sends_these i.geometry limit s.frames s.allowed (few i o p n s.frames s.packs));
-  ends = inl (sym (grouped_is i.geometry s.frames), none);
+  ends = inl (sym (grouped_is i.geometry s.frames), none.0);
 }
 gives_new grown i limit old h o mid k p n new more s (inr b) = record {
   reads = s.frames ++ b.frame ∷ [];
@@ -152,19 +153,30 @@ gives_new grown i limit old h o mid k p n new more s (inr b) = record {
   ends = inr (b.frame, ap (λ (x : List Placed). x ++ b.frame ∷ []) (sym (grouped_is i.geometry s.frames)));
 }
 
+-- where all that was read goes out, it ended at a look
+looked_new : {Looked : Type 0} (grown : List Placed → List Placed → Type 0) (i : Identity) (limit : ℕ) (old : Source) (h : Handler) (o : Outgoing) (mid : Source) (k : Handler) (p : Packing) (n : Outgoing) (new : Source)
+    → (more : (f : Placed) → Among f mid.frames → Among f new.frames) → (s : Sent grown i limit old h o mid k p n) → (stops : (HasNone new k.at × Looked) ⊎ IsBarred i limit new.frames k.at p n)
+    → (gives_new grown i limit old h o mid k p n new more s stops).reads ≡ frames_of (grouped i.geometry s.frames) → Looked
+unfolding gives_new
+looked_new grown i limit old h o mid k p n new more s (inl none) all = none.1
+looked_new grown i limit old h o mid k p n new more s (inr b) all =
+    let longer : length (s.frames ++ b.frame ∷ []) ≡ length s.frames = ap (λ (fs : List Placed). length fs) (all ∙ grouped_is i.geometry s.frames) in
+    absurd (omega (arith, longer, length-append s.frames (b.frame ∷ [])))
+
 unit_kept : (a b n : ℕ) → b ≡ a + 32 * n → a % 32 ≡ 0 → b % 32 ≡ 0
 unit_kept a b n e h = omega (arith, e, h)
 
-pub sent_all : (grown : List Placed → List Placed → Type 0) (i : Identity) (limit : ℕ) (old : Source) (h : Handler) (o : Outgoing) (mid : Source) (k : Handler) (p : Packing) (n : Outgoing) (new : Source) (k' : Handler) (p' : Packing) (n' : Outgoing)
-    → ((x y z : List Placed) → grown x y → grown y z → grown x z) → ((x y : List Placed) → grown x y → (f : Placed) → Among f x → Among f y) → o.mtu ≡ i.geometry.mtu → h.at % 32 ≡ 0
-    → Sent grown i limit old h o mid k p n → FrameStays grown i limit mid k p n new k' p' n' → SendsNew grown i limit old h o new k' n'
-sent_all grown i limit old h o mid k p n new k' p' n' on keeps size unit s g =
+pub sent_all : {Looked Ended : Type 0} (grown : List Placed → List Placed → Type 0) (i : Identity) (limit : ℕ) (old : Source) (h : Handler) (o : Outgoing) (mid : Source) (k : Handler) (p : Packing) (n : Outgoing) (new : Source) (k' : Handler) (p' : Packing) (n' : Outgoing)
+    → ((x y z : List Placed) → grown x y → grown y z → grown x z) → ((x y : List Placed) → grown x y → (f : Placed) → Among f x → Among f y) → (Ended → Looked) → o.mtu ≡ i.geometry.mtu → h.at % 32 ≡ 0
+    → Sent grown i limit old h o mid k p n → FrameStays Ended grown i limit mid k p n new k' p' n' → SendsNew Looked grown i limit old h o new k' n'
+sent_all grown i limit old h o mid k p n new k' p' n' on keeps looks size unit s g =
     let more = keeps mid.frames new.frames g.reads.grows in
     let stood : k.at ≡ k'.at = sym (ap (λ (x : Handler). x.at) g.handler) in
     let span = chain_span h.at k.at s.frames s.read.chain in
     record {
       fresh = grouped i.geometry s.frames;
       gives = gives_new grown i limit old h o mid k p n new more s g.stops;
+      looked = λ all. looks (looked_new grown i limit old h o mid k p n new more s g.stops all);
       handler = g.handler ∙ s.handler ∙ ap (all_noted h) (sym (grouped_is i.geometry s.frames));
       reads = subst (λ (to : ℕ). ReadsTo grown old to new) stood (reads_on grown old k.at mid k.at new on s.reads g.reads);
       out = g.out ∙ packed_out i 16 p o n s.frames size s.packs;

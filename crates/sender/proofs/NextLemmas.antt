@@ -15,22 +15,22 @@ use Rattle.sender.specs.Packed.{Puts, placed_in}
 use Rattle.sender.specs.declared.packing.Packing.{Packing}
 use Rattle.sender.proofs.FreshLemmas.{end_shown, shown_is}
 
-pub no_frame : (grown : List Placed → List Placed → Type 0) (i : Identity) (limit : ℕ) (s : Source) (h : Handler) (p : Packing) (o : Outgoing) (t : Source) (before after : List ℕ) → ((frames : List Placed) → grown frames frames) → s.position ≡ h.at → FindsNone s before t after → FrameStays grown i limit s h p o t h p o
-no_frame grown i limit s h p o t before after same from none =
-    let stays : FrameStays grown i limit s h p o s h p o = record {
+pub no_frame : {Looked : Type 0} (grown : List Placed → List Placed → Type 0) (i : Identity) (limit : ℕ) (s : Source) (h : Handler) (p : Packing) (o : Outgoing) (t : Source) (before after : List ℕ) → ((frames : List Placed) → grown frames frames) → s.position ≡ h.at → FindsNone s before t after → Looked → FrameStays Looked grown i limit s h p o t h p o
+no_frame {Looked = Looked} grown i limit s h p o t before after same from none looked =
+    let stays : FrameStays Looked grown i limit s h p o s h p o = record {
       handler = refl;
       packing = refl;
       out = refl;
       reads = record { grows = same s.frames; moved = ap (λ (n : ℕ). record s { position = n }) from };
-      stops = inl (λ f among e. none.none f among (e ∙ sym from));
+      stops = inl (λ f among e. none.none f among (e ∙ sym from), looked);
     } in
-    subst (λ (x : Source). FrameStays grown i limit s h p o x h p o) (sym none.same) stays
+    subst (λ (x : Source). FrameStays Looked grown i limit s h p o x h p o) (sym none.same) stays
 
 -- where what goes out of this head's frame ends
 abbrev IsSentTo : FrameHead → ℕ → Type 0
 IsSentTo head to = (at : ℕ) (frame : Frame) → head ≡ head_of at frame → to ≡ sent_end (record { at = at; frame = frame }) frame
 
-pub ends_above : (grown : List Placed → List Placed → Type 0) (i : Identity) (limit to : ℕ) (s : Source) (h : Handler) (p : Packing) (o : Outgoing) (head : FrameHead) (before : List ℕ) (t : Source) (after : List ℕ) → s.position ≡ h.at → ReadsNext grown s head before t after → IsSentTo head to → limit < to → FrameStays grown i limit s h p o t h p o
+pub ends_above : {Looked : Type 0} (grown : List Placed → List Placed → Type 0) (i : Identity) (limit to : ℕ) (s : Source) (h : Handler) (p : Packing) (o : Outgoing) (head : FrameHead) (before : List ℕ) (t : Source) (after : List ℕ) → s.position ≡ h.at → ReadsNext grown s head before t after → IsSentTo head to → limit < to → FrameStays Looked grown i limit s h p o t h p o
 ends_above grown i limit to s h p o head before t after from r sent above =
     let f : Placed = record { at = s.position; frame = r.read.frame } in
     let end : to ≡ sent_end f f.frame = sent s.position r.read.frame r.read.shown in
@@ -42,7 +42,7 @@ ends_above grown i limit to s h p o head before t after from r sent above =
       stops = inr (record { frame = f; among = r.read.among; here = from; barred = inl (omega (arith, above, end)) });
     }
 
-pub has_no_room : (grown : List Placed → List Placed → Type 0) (i : Identity) (limit to : ℕ) (s : Source) (h : Handler) (p : Packing) (o : Outgoing) (head : FrameHead) (before : List ℕ) (t : Source) (after : List ℕ) (q : Packing) (n : Outgoing) → s.position ≡ h.at → ReadsNext grown s head before t after → IsSentTo head to → to ≤ limit → Puts i p o (placed_in head after) false q n → FrameStays grown i limit s h p o t h q n
+pub has_no_room : {Looked : Type 0} (grown : List Placed → List Placed → Type 0) (i : Identity) (limit to : ℕ) (s : Source) (h : Handler) (p : Packing) (o : Outgoing) (head : FrameHead) (before : List ℕ) (t : Source) (after : List ℕ) (q : Packing) (n : Outgoing) → s.position ≡ h.at → ReadsNext grown s head before t after → IsSentTo head to → to ≤ limit → Puts i p o (placed_in head after) false q n → FrameStays Looked grown i limit s h p o t h q n
 has_no_room grown i limit to s h p o head before t after q n from r sent below puts =
     let f : Placed = record { at = s.position; frame = r.read.frame } in
     let end : to ≡ sent_end f f.frame = sent s.position r.read.frame r.read.shown in

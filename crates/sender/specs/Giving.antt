@@ -52,17 +52,17 @@ pub record IsBarred (i : Identity) (limit : ℕ) (frames : List Placed) (at : �
   pub here : frame.at ≡ at
   pub barred : (limit < sent_end frame frame.frame) ⊎ (MayBeSent limit frame × Puts i p o frame false p o)
 
--- nothing went out, since no frame is there or it may not go
-pub record FrameStays (grown : List Placed → List Placed → Type 0) (i : Identity) (limit : ℕ) (old : Source) (h : Handler) (p : Packing) (o : Outgoing) (new : Source) (k : Handler) (q : Packing) (n : Outgoing) : Type 0 where
+-- nothing went out, since it looked and no frame is there, or it may not go
+pub record FrameStays (Looked : Type 0) (grown : List Placed → List Placed → Type 0) (i : Identity) (limit : ℕ) (old : Source) (h : Handler) (p : Packing) (o : Outgoing) (new : Source) (k : Handler) (q : Packing) (n : Outgoing) : Type 0 where
   pub handler : k ≡ h
   pub packing : q ≡ p
   pub out : n ≡ o
   pub reads : ReadsTo grown old h.at new
-  pub stops : HasNone new h.at ⊎ IsBarred i limit new.frames h.at p o
+  pub stops : (HasNone new h.at × Looked) ⊎ IsBarred i limit new.frames h.at p o
 
-abbrev pub SendsNext : (List Placed → List Placed → Type 0) → Identity → ℕ → Source → Handler → Packing → Outgoing → Bool → Source → Handler → Packing → Outgoing → Type 0
-SendsNext grown i limit old h p o true new k q n = FrameGoes grown i limit old h p o new k q n
-SendsNext grown i limit old h p o false new k q n = FrameStays grown i limit old h p o new k q n
+abbrev pub SendsNext : Type 0 → (List Placed → List Placed → Type 0) → Identity → ℕ → Source → Handler → Packing → Outgoing → Bool → Source → Handler → Packing → Outgoing → Type 0
+SendsNext Looked grown i limit old h p o true new k q n = FrameGoes grown i limit old h p o new k q n
+SendsNext Looked grown i limit old h p o false new k q n = FrameStays Looked grown i limit old h p o new k q n
 
 -- so it is before the first, and what can be asked for again is there
 pub record CanSend (i : Identity) (s : Source) (h : Handler) (block : List ℕ) (o : Outgoing) : Type 0 where
@@ -76,9 +76,11 @@ pub record CanSend (i : Identity) (s : Source) (h : Handler) (block : List ℕ) 
   pub room : length o.datagrams + 16 ≤ 32
 
 -- the frames from the sender's position on went out, as many as may in a cycle, and were noted
-pub record SendsNew (grown : List Placed → List Placed → Type 0) (i : Identity) (limit : ℕ) (old : Source) (h : Handler) (o : Outgoing) (new : Source) (k : Handler) (n : Outgoing) : Type 0 where
+pub record SendsNew (Looked : Type 0) (grown : List Placed → List Placed → Type 0) (i : Identity) (limit : ℕ) (old : Source) (h : Handler) (o : Outgoing) (new : Source) (k : Handler) (n : Outgoing) : Type 0 where
   pub fresh : List (List Placed)
   pub gives : GivesNew i.geometry new.frames h.at limit fresh
+  -- where reading didn't end at a frame that may not go, it ended at a look that found none
+  pub looked : gives.reads ≡ frames_of fresh → Looked
   pub handler : k ≡ all_noted h (frames_of fresh)
   pub reads : ReadsTo grown old k.at new
   pub out : n ≡ with_all o (map (wires i) fresh)

@@ -117,10 +117,23 @@ pub record ReadsTo (grown : List Placed → List Placed → Type 0) (old : Sourc
   pub grows : grown old.frames new.frames
   pub moved : new ≡ record old { position = to; frames = new.frames }
 
--- a cycle: by what a flow control is after a tick, and the limit of one
-pub record Cycles {R F : Type 0} (grown : List Placed → List Placed → Type 0) (after_tick : F → ℕ → F) (reached : F → ℕ) (s : Sending R F) (old new : Source) (t : Sending R F) (sent : List (List ℕ)) : Type 0 where
+-- between two states of the reads one of their calls looked and found no frame: by what calls leave of them and of the log, and
+-- what one does that finds none
+pub record HasLooked {R L : Type 0} (leaves : R → L → R → L → Type 0) (looked : R → R → Type 0) (r : R) (l : L) (q : R) (m : L) : Type 0 where
+  pub before : R
+  pub at : L
+  pub after : R
+  pub there : L
+  pub until : leaves r l before at
+  pub look : looked before after
+  pub since : leaves after there q m
+
+-- a cycle: by what it is to have looked and found no frame, what a flow control is after a tick, and the limit of one
+pub record Cycles {R F : Type 0} (Looked : Type 0) (grown : List Placed → List Placed → Type 0) (after_tick : F → ℕ → F) (reached : F → ℕ) (s : Sending R F) (old new : Source) (t : Sending R F) (sent : List (List ℕ)) : Type 0 where
   pub cycle : Cycle
   pub is : IsCycle s (reached (after_tick s.flow s.clock)) new.frames cycle
+  -- where reading didn't end at a frame that may not go, it ended at a look that found none
+  pub looked : is.new.reads ≡ frames_of cycle.fresh → Looked
   pub state : t ≡ cycled s t.reads (after_tick s.flow s.clock) cycle
   pub sends : sent ≡ datagrams (sent_wires s.identity s.handler.at t.handler.at cycle)
   pub reads : ReadsTo grown old t.handler.at new
@@ -162,6 +175,6 @@ pub record HearsDatagram {R F : Type 0} (after_status : F → ℤ → ℤ → �
 
 -- ---- an event
 
-abbrev pub Steps : {R F : Type 0} → (List Placed → List Placed → Type 0) → (F → ℤ → ℤ → ℤ → ℕ → F) → (F → ℕ → F) → (F → ℕ) → (F → Bool) → Sending R F → SenderEvent → Source → Source → SenderAnswer → Sending R F → List (List ℕ) → Type 0
-Steps grown after_status after_tick reached has_heard s events.Tick old new answer t sent = (answer ≡ answers.Ticked) × Cycles grown after_tick reached s old new t sent
-Steps grown after_status after_tick reached has_heard s (events.Datagram bytes) old new answer t sent = (new ≡ old) × HearsDatagram after_status reached has_heard s bytes.now answer t sent
+abbrev pub Steps : {R F : Type 0} → Type 0 → (List Placed → List Placed → Type 0) → (F → ℤ → ℤ → ℤ → ℕ → F) → (F → ℕ → F) → (F → ℕ) → (F → Bool) → Sending R F → SenderEvent → Source → Source → SenderAnswer → Sending R F → List (List ℕ) → Type 0
+Steps Looked grown after_status after_tick reached has_heard s events.Tick old new answer t sent = (answer ≡ answers.Ticked) × Cycles Looked grown after_tick reached s old new t sent
+Steps Looked grown after_status after_tick reached has_heard s (events.Datagram bytes) old new answer t sent = (new ≡ old) × HearsDatagram after_status reached has_heard s bytes.now answer t sent

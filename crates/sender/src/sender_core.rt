@@ -106,7 +106,7 @@ impl<R, F> Model for SenderCore<R, F> {
 }
 
 impl<R, F: FlowControl + Drop> SenderCore<R, F> {
-    ghost use Rattle.sender.specs.Sending.{BeginsAt, Cycles, GoesOn, HearsDatagram, SendsFrom, Steps, at_moment, asked, begun, named_once, told};
+    ghost use Rattle.sender.specs.Sending.{BeginsAt, Cycles, GoesOn, HasLooked, HearsDatagram, SendsFrom, Steps, at_moment, asked, begun, named_once, told};
 
     /// A sender of a log with this stream and this start, a multiple of 32, which it reads by these reads. Where memory was
     /// refused, the reads and the flow control come back as they were.
@@ -183,7 +183,9 @@ impl<R, F: FlowControl + Drop> SenderCore<R, F> {
         self.handler.position()
     }
 
-    /// Does what an event asks for, at a moment in nanoseconds. The outbox is emptied, and then holds what goes out.
+    /// Does what an event asks for, at a moment in nanoseconds. The outbox is emptied, and then holds what goes out. A tick
+    /// gives out new frames until one would end above the flow limit, or has no place in 16 datagrams, or until the reads
+    /// look and find none.
     pub fn step<L>(
         &mut self,
         log: &mut L,
@@ -196,7 +198,7 @@ impl<R, F: FlowControl + Drop> SenderCore<R, F> {
         requires stands { R.stands self.old.reads log.old }
         requires from { SendsFrom self.old (R.source self.old.reads log.old) }
         requires size { outbox.old.mtu ≡ self.old.identity.geometry.mtu }
-        ensures step { Steps R.grown F.after_status F.after_tick F.reached F.has_heard (at_moment self.old now) event.entry (R.source self.old.reads log.old) (R.source self.new.reads log.new) result self.new outbox.new.datagrams }
+        ensures step { Steps (HasLooked R.leaves R.looked self.old.reads log.old self.new.reads log.new) R.grown F.after_status F.after_tick F.reached F.has_heard (at_moment self.old now) event.entry (R.source self.old.reads log.old) (R.source self.new.reads log.new) result self.new outbox.new.datagrams }
         ensures goes_on { GoesOn self.old self.new (R.source self.new.reads log.new) }
         ensures stands { R.stands self.new.reads log.new }
         ensures leaves { R.leaves self.old.reads log.old self.new.reads log.new }
@@ -228,7 +230,7 @@ impl<R, F: FlowControl + Drop> SenderCore<R, F> {
         requires from { SendsFrom self.old (R.source self.old.reads log.old) }
         requires empty { outbox.old.datagrams ≡ [] }
         requires size { outbox.old.mtu ≡ self.old.identity.geometry.mtu }
-        ensures cycle { Cycles R.grown F.after_tick F.reached self.old (R.source self.old.reads log.old) (R.source self.new.reads log.new) self.new outbox.new.datagrams }
+        ensures cycle { Cycles (HasLooked R.leaves R.looked self.old.reads log.old self.new.reads log.new) R.grown F.after_tick F.reached self.old (R.source self.old.reads log.old) (R.source self.new.reads log.new) self.new outbox.new.datagrams }
         ensures goes_on { GoesOn self.old self.new (R.source self.new.reads log.new) }
         ensures stands { R.stands self.new.reads log.new }
         ensures leaves { R.leaves self.old.reads log.old self.new.reads log.new }
@@ -271,7 +273,7 @@ impl<R, F: FlowControl + Drop> SenderCore<R, F> {
         requires from { SendsFrom self.old (R.source self.old.reads log.old) }
         requires size { outbox.old.mtu ≡ self.old.identity.geometry.mtu }
         requires room { length outbox.old.datagrams + 16 ≤ 32 }
-        ensures sends { SendsNew R.grown self.old.identity (F.reached self.old.flow) (R.source self.old.reads log.old) self.old.handler outbox.old (R.source self.new.reads log.new) self.new.handler outbox.new }
+        ensures sends { SendsNew (HasLooked R.leaves R.looked self.old.reads log.old self.new.reads log.new) R.grown self.old.identity (F.reached self.old.flow) (R.source self.old.reads log.old) self.old.handler outbox.old (R.source self.new.reads log.new) self.new.handler outbox.new }
         ensures state { self.new ≡ record self.old { reads = self.new.reads; handler = self.new.handler } }
         ensures from { SendsFrom self.new (R.source self.new.reads log.new) }
         ensures stands { R.stands self.new.reads log.new }

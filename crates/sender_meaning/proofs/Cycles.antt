@@ -1,15 +1,16 @@
 -- A cycle of a sender's agent is a part of its core's life.
-use Rattle.std.proofs.Common.{◌≡◌, ◌⊎◌, ℕ, List, [], ◌∷◌, ◌++◌, Bool, Result, Ok, Err, inl, inr, refl, sym, subst}
+use Rattle.std.proofs.Common.{◌≡◌, ◌⊎◌, ℕ, suc, ◌<◌, ◌≤◌, arith, List, [], ◌∷◌, ◌++◌, Bool, Result, Ok, Err, inl, inr, refl, sym, subst}
 use Rattle.std.specs.Prelude.{IfOk}
 use Rattle.conductor.specs.Parties.{ClientSeen}
 use Rattle.endpoint.specs.Devices.{Device}
 use Rattle.endpoint.specs.declared.device_error.DeviceError.{DeviceError}
 use Rattle.flow_control.specs.Unicast.{Unicast}
+use Rattle.shared_log.specs.Readers.{misses_of}
 use Rattle.shared_log.specs.Sourced.{StaysOn, frames_stay, stays_on}
 use Rattle.shared_log.specs.declared.reader.source.LogFrames.{LogFrames}
 use Rattle.agents.specs.Cycles.{Cycle, Fault, HearsAll, TicksBehind}
 use Rattle.agents.specs.Duties.{Agent, AgentCycle}
-use Rattle.sender_meaning.specs.Lives.{Act, Hears, HearsSo, KeepsItsReader, Lived, LivedTo, Lives, LogCore, Ticks, TicksSo}
+use Rattle.sender_meaning.specs.Lives.{Act, Hears, HearsSo, KeepsItsReader, Lived, LivedTo, Lives, LogCore, LooksAtItsEnd, Ticks, TicksSo}
 
 lives_on : (s m t : LogCore) (xs ys : List Act) → Lives s xs m → Lives m ys t → Lives s (xs ++ ys) t
 lives_on s m t [] ys first then = subst (λ (z : LogCore). Lives z ys t) first then
@@ -58,3 +59,13 @@ lives_reading s t (Ticks now given ∷ acts) m = (stays_on s.reads.log.now s.rea
 
 pub keeps_its_reader : KeepsItsReader
 keeps_its_reader s t h = lives_reading s t h.acts h.lives
+
+-- ---- where new frames end
+
+pub looks_at_its_end : LooksAtItsEnd
+looks_at_its_end s t now given k all = let l = k.cycles.looked all in
+    let until = l.until.0.looked in let look = l.look in let since = l.since.0.looked in
+    more (misses_of s.reads.reader) (misses_of l.before.reader) (misses_of l.after.reader) (misses_of t.reads.reader) until look since
+  where
+    more : (a c d e : ℕ) → a ≤ c → d ≡ suc c → d ≤ e → a < e
+    more a c d e x y z = omega arith

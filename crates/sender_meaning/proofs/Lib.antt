@@ -5,3 +5,4 @@ pub mod Living
 mod Both
 pub mod Cycles
 pub mod Moments
+pub mod StreamRows

@@ -1,5 +1,5 @@
 -- A cycle of an agent over several ways is a cycle of its core.
-use Rattle.std.proofs.Common.{◌≡◌, ◌∙◌, ℕ, zero, suc, List, [], ◌∷◌, ◌++◌, Bool, Result, Ok, Err, refl, sym, ap, subst, append_assoc}
+use Rattle.std.proofs.Common.{◌∙◌, ℕ, zero, suc, List, [], ◌∷◌, ◌++◌, Bool, Result, Ok, Err, refl, sym, ap, subst, append_assoc}
 use Rattle.std.specs.Prelude.{IfOk}
 use Rattle.conductor.specs.Parties.{ClientSeen}
 use Rattle.endpoint.specs.Devices.{Device}

@@ -1,9 +1,10 @@
 -- The life of a log's sender: what it meets, one thing after the other, and the datagrams that it gives out.
-use Rattle.std.specs.Prelude.{◌≡◌, ◌≤◌, ◌%◌, ◌+ℤ◌, max, true, false, ℕ, ℤ, Bool, List, [], ◌∷◌, ◌++◌, FitsSigned}
+use Rattle.std.specs.Prelude.{◌≡◌, ◌<◌, ◌≤◌, ◌%◌, ◌+ℤ◌, max, suc, true, false, ℕ, ℤ, Bool, List, [], ◌∷◌, ◌++◌, FitsSigned}
 use Rattle.std.specs.Int.{w32}
 use Rattle.std.specs.List.{AllByRecursion}
 use Rattle.theory.specs.Bytes.{IsIdentity, wire_at}
 use Rattle.theory.specs.Entry.{committed}
+use Rattle.theory.specs.Datagrams.{frames_of}
 use Rattle.theory.specs.FlowLimit.{clipped}
 use Rattle.theory.specs.Placed.{AllAmong, Among}
 use Rattle.theory.specs.Position.{max_position}
@@ -12,9 +13,10 @@ use Rattle.theory.specs.Wire.{IsFrame, SETUP, spelling}
 use Rattle.flow_control.specs.Unicast.{Unicast}
 use Rattle.frame_source.specs.Sources.{Source}
 use Rattle.shared_log.specs.Handles.{LogValue}
+use Rattle.shared_log.specs.Readers.{misses_of}
 use Rattle.shared_log.specs.Sourced.{Grows, StaysOn, source_of}
 use Rattle.shared_log.specs.declared.reader.source.LogFrames.{LogFrames}
-use Rattle.sender.specs.Sending.{Sending, begun}
+use Rattle.sender.specs.Sending.{HasLooked, Sending, begun}
 use Rattle.agents.specs.Duties as duties
 use Rattle.receiver.specs.Receiving.{Receiver, TakesDatagram, listening}
 use Rattle.receiver.specs.Subscribing.{RepresentsSubscriber, Subscribing}
@@ -40,6 +42,11 @@ source_in r = source_of r.log.now r.reader
 abbrev pub stays_in : LogFrames → LogFrames → Type 0
 stays_in r q = StaysOn r.log.now r.reader q.log.now q.reader × (tt {0} ≡ tt {0})
 
+-- between two states of its reads one of its calls looked where it stood, loaded the word there once and found zero, and no frame
+-- is known there
+abbrev pub looked_in : LogFrames → LogFrames → Type 0
+looked_in r q = HasLooked (λ s l t m. StaysOn s.log.now s.reader t.log.now t.reader × (m ≡ l)) (λ s t. misses_of t.reader ≡ suc (misses_of s.reader)) r (tt {0}) q (tt {0})
+
 -- its flow control after a status message, which a moment leaves as it is
 abbrev pub told_status : Unicast → ℤ → ℤ → ℤ → ℕ → Unicast
 told_status f position window receiver now = record { limit = max (clipped (position +ℤ window)) f.limit; heard = true }
@@ -57,7 +64,7 @@ abbrev pub HearsSo : LogCore → ℕ → List ℕ → LogCore → List (List ℕ
 HearsSo s now bytes t given = duties.Hears source_in stays_in told_status limit_in was_heard s now bytes t given
 
 abbrev pub TicksSo : LogCore → ℕ → LogCore → List (List ℕ) → Type 0
-TicksSo s now t given = duties.Ticks source_in stays_in Grows after_moment limit_in s now t given
+TicksSo s now t given = duties.Ticks source_in stays_in looked_in Grows after_moment limit_in s now t given
 
 -- it hears a datagram at a moment, or is told one, and gives these datagrams out
 pub data Act : Type 0 where
@@ -83,6 +90,10 @@ pub record LivedTo (now : ℕ) (s t : LogCore) : Type 0 where
   pub lived : Lived s heard
   pub given : List (List ℕ)
   pub told : TicksSo heard now t given
+
+-- where a moment's new frames didn't end at one that may not go, its reader has looked once more, or more often, and found none
+abbrev pub LooksAtItsEnd : Type 0
+LooksAtItsEnd = (s t : LogCore) (now : ℕ) (given : List (List ℕ)) (k : TicksSo s now t given) → k.cycles.is.new.reads ≡ frames_of k.cycles.cycle.fresh → misses_of s.reads.reader < misses_of t.reads.reader
 
 -- it reads the same log, by the same reader
 abbrev pub KeepsItsReader : Type 0

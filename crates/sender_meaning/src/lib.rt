@@ -9,10 +9,11 @@
 //! datagrams, in any order and each any number of times, polls a run of the stream (`polls_what_is_sent`).
 //!
 //! A cycle without a fault ends with a moment that the core is told: to one receiver its life goes up to there (`LivedTo`), and
-//! to one or a group it has heard datagrams at that moment before (`CyclesAt`).
+//! to one or a group it has heard datagrams at that moment before (`CyclesAt`). A sender doesn't sleep: where a moment's new frames
+//! don't end at the flow limit or after 16 datagrams, its reader has looked and found none (`looks_at_its_end`).
 #![tactic(auto)]
 
-ghost use Rattle.sender_meaning.specs.Lives.{GivesHonest, KeepsItsReader, PollsWhatIsSent, SetupsAreHonest};
+ghost use Rattle.sender_meaning.specs.Lives.{GivesHonest, KeepsItsReader, LooksAtItsEnd, PollsWhatIsSent, SetupsAreHonest};
 
 use receiver::polls_a_run;
 use theory::one_spelling;
@@ -36,6 +37,12 @@ pub fn setups_are_honest()
 /// A law: a sender reads the log that it began with, by the same reader.
 pub fn keeps_its_reader()
     ensures { KeepsItsReader }
+{}
+
+/// A law: a moment's new frames end at a look that found none, unless they end at a frame that may not go: its reader has missed
+/// once more, or more often, then.
+pub fn looks_at_its_end()
+    ensures { LooksAtItsEnd }
 {}
 
 /// A law: a subscriber that was handed nothing but datagrams that a stream's sender gave out, in any order and each any number of

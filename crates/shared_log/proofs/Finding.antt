@@ -22,8 +22,10 @@ use Rattle.shared_log.specs.Handles.{LogValue}
 use Rattle.log_rule.specs.Claims.Handles.{PublisherValue}
 use Rattle.shared_log.specs.Readers.{Advances, Copies, Finds, FindsNone, Has, IsReaderOf, IsReading, LoadsWord, MayReread, Misses, OnlyReads, ReaderValue, ReadsFrame, Rereads, Rests, SameSeat, Stays, known_at, known_of, misses_at, positions_of}
 use Rattle.log_rule.specs.Readings as Frames
+use Rattle.log_rule.specs.Says.{IsCommittedFor}
 use Rattle.log_rule.specs.Readings.{Consumes, IsConsumer, IsFrameAt, Looks, knows_more, missed, moved_to, with_consumer}
 use Rattle.log_rule.proofs.InTerm.{done_long, words_cover}
+use Rattle.log_rule.proofs.Saying.{known_committed}
 use Rattle.std.proofs.lemmas.List.{map-set}
 use Rattle.shared_log.proofs.Looking.{has_on, known_is, known_missing, known_on, misses_is, misses_on, missing_is, rests_on, put_equal, put_there, same_on}
 
@@ -81,6 +83,7 @@ finds_by l r w n end head g of is seat told pos shown ends =
       shown = said;
       legal = subst (IsStreamFrame l.identity.geometry) (ap (head_of p) (sym (content_is l.identity x g here.done)) ∙ sym said) here.head;
       known = known_put r.held.pass w.pass r.place is.consumer (knows_more is.consumer x) is.is after ∙ ap (λ (fs : List FrameWords). fs ++ x ∷ []) (sym (known_is r.held.pass.reading r.place is.consumer is.is));
+      committed = known_committed w.pass r.place (knows_more is.consumer x) x (subst (λ (u : Pass). IsConsumer u r.place (knows_more is.consumer x)) (sym after) (put_there r.held.pass r.place is.consumer (knows_more is.consumer x) is.is)) (among_right x is.consumer.known (x ∷ []) (inl refl));
       looked = misses_put r.held.pass w.pass r.place is.consumer (knows_more is.consumer x) is.is after ∙ sym (misses_is r.held.pass.reading r.place is.consumer is.is);
       only = λ y has here'. f.only y (had_by r is.consumer is.is y has) (here' ∙ sym is.position_is);
       own = f.own;
@@ -183,6 +186,7 @@ finds_rests l r head q s f a = record {
   shown = f.shown;
   legal = f.legal;
   known = known_on q s a ∙ f.known;
+  committed = subst (λ (v : Pass). IsCommittedFor v f.frame) (sym a.pass) f.committed;
   looked = misses_on q s a ∙ f.looked;
   only = f.only;
   own = f.own;

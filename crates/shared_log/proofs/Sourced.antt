@@ -1,5 +1,6 @@
 -- A reader meets what is asked of a source of frames.
-use Rattle.std.proofs.Common.{◌≡◌, ℕ, ◌+◌, ◌*◌, ◌<◌, ◌≤◌, List, [], ◌∷◌, map, length, inl, inr, sym, refl, ap, ◌∙◌, subst, ⊎_elim, arith}
+use Rattle.std.proofs.Common.{◌≡◌, ℕ, ◌+◌, ◌*◌, ◌<◌, ◌≤◌, List, [], ◌∷◌, map, length, suc, inl, inr, sym, refl, ap, ◌∙◌, subst, ⊎_elim, arith}
+use Rattle.std.specs.Prelude.{IfNone, IfSome, None, Option, Some}
 use Rattle.std.proofs.lemmas.List.{map-append}
 use Rattle.theory.specs.Position.{IsGeometry, aligned}
 use Rattle.theory.specs.Bytes.{Identity}
@@ -14,7 +15,7 @@ use Rattle.publication.specs.Contents.{frame_in}
 use Rattle.log_rule.specs.Readings.{IsFrameAt, end_of}
 use Rattle.log_rule.proofs.InTerm.{done_long, words_cover}
 use Rattle.shared_log.specs.Handles.{LogValue}
-use Rattle.shared_log.specs.Readers.{Advances, IsReaderOf, MayReread, ReaderValue, ReadsFrame, ReadsNone, Rereads, known_of}
+use Rattle.shared_log.specs.Readers.{Advances, IsReaderOf, MayReread, ReaderValue, ReadsFrame, ReadsNone, Rereads, known_of, misses_at, misses_of}
 use Rattle.shared_log.specs.Sourced.{Grows, source_of, placed}
 use Rattle.shared_log.proofs.Finding.{content_is}
 use Rattle.shared_log.proofs.Looking.{known_missing, known_on}
@@ -115,3 +116,33 @@ again l r q position head before after may h =
       };
       same = (λ j. record { identity = l.identity; position = ap (λ (z : ReaderValue). z.position) h.rests.same j; frames = map placed (known_on r q h.rests j) });
     }
+
+-- ---- the looks that found no frame
+
+found_looked : (l : LogValue) (r q : ReaderValue) (head : FrameHead) (before after : List ℕ) → ReadsFrame l r head before q after → misses_of r ≤ misses_of q
+found_looked l r q head before after h = let e = h.finds.looked in same (misses_of r) (misses_of q) e
+  where
+    same : (a c : ℕ) → c ≡ a → a ≤ c
+    same a c e = omega arith
+
+none_looked : (r q : ReaderValue) (before after : List ℕ) → ReadsNone r before q after → misses_of r ≤ misses_of q
+none_looked r q before after h = let e = h.finds.looked in more (misses_of r) (misses_of q) e
+  where
+    more : (a c : ℕ) → c ≡ suc a → a ≤ c
+    more a c e = omega arith
+
+pub next_looked : (l : LogValue) (r q : ReaderValue) (before after : List ℕ) (o : Option FrameHead) → IfSome o (λ head. ReadsFrame l r head before q after) → IfNone o (ReadsNone r before q after) → misses_of r ≤ misses_of q
+next_looked l r q before after None some none = none_looked r q before after none
+next_looked l r q before after (Some head) some none = found_looked l r q head before after some
+
+pub advance_looked : (r q : ReaderValue) → Advances r q → misses_of r ≤ misses_of q
+advance_looked r q h = let e = h.looked in same (misses_of r) (misses_of q) e
+  where
+    same : (a c : ℕ) → c ≡ a → a ≤ c
+    same a c e = omega arith
+
+pub reread_looked : (l : LogValue) (r q : ReaderValue) (position : ℕ) (head : FrameHead) (before after : List ℕ) → Rereads l r position head before q after → misses_of r ≤ misses_of q
+reread_looked l r q position head before after h = same (misses_of r) (misses_of q) (λ j. misses_at (h.rests.pass j).reading ((ap (λ (x : ReaderValue). x.place) h.rests.same) j))
+  where
+    same : (a c : ℕ) → c ≡ a → a ≤ c
+    same a c e = omega arith

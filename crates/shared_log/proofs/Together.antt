@@ -11,10 +11,10 @@ use Rattle.publication.specs.Controls.{with_tail}
 use Rattle.publication.specs.Steps.{term_of}
 use Rattle.log_rule.specs.Claims.Handles.{PublisherValue}
 use Rattle.publication.specs.Orders.{claim_end}
-use Rattle.log_rule.specs.Meetings.{Steady, meeting, unnoted}
+use Rattle.log_rule.specs.Meetings.{Steady, meeting, unnoted, was_shown}
 use Rattle.log_rule.specs.Numbers.{is_number}
 use Rattle.log_rule.proofs.Claimed.Totals.{total_append}
-use Rattle.shared_log.specs.Meets.{IsBack, Meets, SeesTails, Shows}
+use Rattle.shared_log.specs.Meets.{IsBack, Meets, NeverFalls, SawAsMuch, SeesTails, Shows}
 
 -- ---- the three together
 
@@ -34,7 +34,7 @@ of_third k n x y z top e a c d = ⊎_elim (λ (p : k % 3 ≡ 0). (let le = a p i
     last : (n x y z top : ℕ) → top ≡ max (max x y) z → n ≤ z → n ≤ top
     last n x y z top e le = omega arith
 
-pub sees_tails : (v : Pass) (none one two all : Controls) (x y z top : ℕ) → Shows v 0 none one x → Shows v 1 one two y → Shows v 2 two all z → top ≡ max (max x y) z → SeesTails v none all top
+pub sees_tails : (v : Pass) (none one two all : Controls) (x y z top : ℕ) → Shows v 0 none one x → Shows (was_shown x v) 1 one two y → Shows (was_shown y (was_shown x v)) 2 two all z → top ≡ max (max x y) z → SeesTails v none all top
 sees_tails v none one two all x y z top a c d e = record {
   greatest = record {
     zeroth = a.word;
@@ -49,7 +49,7 @@ sees_tails v none one two all x y z top a c d e = record {
   shown = dite (dec_le v.seen.shown v.start)
       (λ low. (let from : v.start ≤ top = of_third (v.start / term_of v) v.start x y z top e (λ p. subst (λ (n : ℕ). v.start ≤ n) (sym a.is) (a.told.from p)) (λ p. subst (λ (n : ℕ). v.start ≤ n) (sym c.is) (c.told.from p)) (λ p. subst (λ (n : ℕ). v.start ≤ n) (sym d.is) (d.told.from p)) in under v.seen.shown v.start top low from))
       (λ no. (let above = lt_of_not-le no in let s : ℕ = v.seen.shown in
-      of_third ((s - 1) / term_of v) s x y z top e (λ p. subst (λ (n : ℕ). s ≤ n) (sym a.is) (a.told.shown s (same s) above p)) (λ p. subst (λ (n : ℕ). s ≤ n) (sym c.is) (c.told.shown s (same s) above p)) (λ p. subst (λ (n : ℕ). s ≤ n) (sym d.is) (d.told.shown s (same s) above p))));
+      of_third ((s - 1) / term_of v) s x y z top e (λ p. subst (λ (n : ℕ). s ≤ n) (sym a.is) (a.told.shown s (same s) above p)) (λ p. subst (λ (n : ℕ). s ≤ n) (sym c.is) (c.told.shown s (still s x) above p)) (λ p. subst (λ (n : ℕ). s ≤ n) (sym d.is) (d.told.shown s (twice s x y) above p))));
   single = a.told.single;
   apart = a.told.apart;
 }
@@ -60,9 +60,30 @@ sees_tails v none one two all x y z top a c d e = record {
     same : (n : ℕ) → n ≤ n
     same n = omega arith
 
+    still : (n x : ℕ) → n ≤ max n x
+    still n x = omega arith
+
+    twice : (n x y : ℕ) → n ≤ max (max n x) y
+    twice n x y = omega arith
+
+-- and so the pass was shown the greatest
+pub three_shown : (v u w s : Pass) (x y z top : ℕ) → top ≡ max (max x y) z → u ≡ was_shown x v → w ≡ was_shown y u → s ≡ was_shown z w → s ≡ was_shown top v
+three_shown v u w s x y z top e a c d =
+    d ∙ ap (was_shown z) (c ∙ ap (was_shown y) a) ∙ ap (λ (n : ℕ). record v { seen = record v.seen { shown = n } }) (all v.seen.shown x y z top e)
+  where
+    all : (s x y z top : ℕ) → top ≡ max (max x y) z → max (max (max s x) y) z ≡ max s top
+    all s x y z top e = omega arith
+
+-- what one seat was shown is the answer, where nothing that it was shown before is above that
+pub shown_is : (v w : Pass) (position : ℕ) → w ≡ was_shown position v → v.seen.shown ≤ position → w.seen.shown ≡ position
+shown_is v w position is le = let e = ap (λ (x : Pass). x.seen.shown) is in top v.seen.shown w.seen.shown position e le
+  where
+    top : (a n p : ℕ) → n ≡ max a p → a ≤ p → n ≡ p
+    top a n p e le = omega arith
+
 -- ---- of both
 
-pub meets : (one other one' other' : PublisherValue) (v : Pass) (before after : Controls) (position : ℕ) → v ≡ meeting one.pass other.pass → before ≡ unnoted → one'.controls ≡ after → SeesTails v before after position → Steady one.pass → Steady other.pass → other.pass.identity ≡ one.pass.identity → other.pass.start ≡ one.pass.start → IsBack one one' → IsBack other other' → one'.seat ≡ one.seat → (one'.steps ≡ one.steps + 4) × (other'.steps ≡ 0) → Meets one other one' other' position
+pub meets : (one other one' other' : PublisherValue) (v : Pass) (before after : Controls) (position : ℕ) → v ≡ meeting one.pass other.pass → before ≡ unnoted → one'.controls ≡ after → SeesTails v before after position → Steady one.pass → Steady other.pass → other.pass.identity ≡ one.pass.identity → other.pass.start ≡ one.pass.start → IsBack one one' position → IsBack other other' position → one'.seat ≡ one.seat → (one'.steps ≡ one.steps + 4) × (other'.steps ≡ 0) → Meets one other one' other' position
 meets one other one' other' v before after position is new back_noted told so st same from back back' seat steps =
     let p : Pass = one.pass in let q : Pass = other.pass in let t : SeesTails (meeting p q) unnoted one'.controls position = subst (λ (x : Pass × Controls × Controls). SeesTails x.0 x.1 x.2 position) (λ i. (is i, new i, sym back_noted i)) told in
     let size : term_of q ≡ term_of p = ap (λ (i : Identity). i.geometry.term_length) same in
@@ -92,3 +113,23 @@ meets one other one' other' v before after position is new back_noted told so st
 
     right_of : (a c n : ℕ) → max a c ≤ n → c ≤ n
     right_of a c n le = omega arith
+
+-- ---- twice
+
+pub never_falls : NeverFalls
+never_falls one other one' other' position first again third again' third' later second either =
+    let a = second.seen.0.2 in let c = second.seen.1.2 in
+    let mine : position ≤ one'.pass.seen.shown = remembers one.pass one'.pass first.one_is.pass in let yours : position ≤ other'.pass.seen.shown = remembers other.pass other'.pass first.other_is.pass in
+    ⊎_elim
+    (⊎_elim (λ (le : SawAsMuch again one'). through position one'.pass.seen.shown again.pass.seen.shown later mine le a) (λ (le : SawAsMuch third one'). through position one'.pass.seen.shown third.pass.seen.shown later mine le c))
+    (⊎_elim (λ (le : SawAsMuch again other'). through position other'.pass.seen.shown again.pass.seen.shown later yours le a) (λ (le : SawAsMuch third other'). through position other'.pass.seen.shown third.pass.seen.shown later yours le c))
+    either
+  where
+    remembers : (v w : Pass) → w ≡ was_shown position v → position ≤ w.seen.shown
+    remembers v w is = let e = ap (λ (x : Pass). x.seen.shown) is in top v.seen.shown w.seen.shown position e
+      where
+        top : (a n p : ℕ) → n ≡ max a p → p ≤ n
+        top a n p e = omega arith
+
+    through : (a c d e : ℕ) → a ≤ c → c ≤ d → d ≤ e → a ≤ e
+    through a c d e x y z = omega arith

@@ -10,15 +10,15 @@ use Rattle.publication.specs.Steps.{geometry_of, shown_position, term_of}
 use Rattle.log_rule.specs.Claims.Handles.{PublisherValue}
 use Rattle.log_rule.specs.Claims.Plays.{Mine}
 use Rattle.publication.specs.Orders.{claim_end}
-use Rattle.log_rule.specs.Meetings.{AreApart, ShowsTail, unnoted}
+use Rattle.log_rule.specs.Meetings.{AreApart, ShowsTail, unnoted, was_shown}
 use Rattle.log_rule.specs.Numbers.{numbers_as}
 
--- the same seat but for its steps
-pub record SeatStays (table : TableId) (id : ℕ) (me : Mine) (table' : TableId) (id' : ℕ) (me' : Mine) : Type 0 where
+-- the same seat but for its steps, whose pass was shown a position
+pub record SeatStays (table : TableId) (id : ℕ) (me : Mine) (table' : TableId) (id' : ℕ) (me' : Mine) (position : ℕ) : Type 0 where
   pub of : table' ≡ table
   pub seat : id' ≡ id
   pub held : me'.1 ≡ me.1
-  pub pass : me'.0.pass ≡ me.0.pass
+  pub pass : me'.0.pass ≡ was_shown position me.0.pass
   pub sure : me'.0.sure ≡ me.0.sure
 
 -- the raw tail of a partition was loaded, which the seat has noted, and shows this position
@@ -26,7 +26,7 @@ pub record Shows (v : Pass) (partition : ℕ) (before after : Controls) (positio
   pub word : ℕ
   pub loaded : word < 2 ^ 64
   pub noted : after ≡ with_tail before partition word
-  pub told : ShowsTail v partition word v
+  pub told : ShowsTail v partition word (was_shown position v)
   pub is : position ≡ shown_position (geometry_of v) word
 
 -- the greatest position that the three raw tails show, each of which was loaded and noted
@@ -47,10 +47,10 @@ pub record SeesTails (v : Pass) (before after : Controls) (position : ℕ) : Typ
   pub single : (n : ℕ) → numbers_as n v ≤ 1
   pub apart : (front behind : List ClaimRange) → v.right.claims ≡ front ++ behind → (c d : ClaimRange) → Among c front → Among d behind → AreApart c d
 
--- a publisher that comes back is as it was, but for its steps
-pub record IsBack (p q : PublisherValue) : Type 0 where
+-- a publisher that comes back is as it was, but for its steps, and remembers the answer
+pub record IsBack (p q : PublisherValue) (position : ℕ) : Type 0 where
   pub of : q.of ≡ p.of
-  pub pass : q.pass ≡ p.pass
+  pub pass : q.pass ≡ was_shown position p.pass
   pub sure : q.sure ≡ 0
 
 -- the terms that a pass has seen begin there or below, and no word has shown it a position above
@@ -58,8 +58,8 @@ abbrev pub SawBelow : Pass → ℕ → Type 0
 SawBelow v position = (v.seen.count * term_of v ≤ position) × (v.seen.begun * term_of v ≤ position) × (v.seen.shown ≤ position)
 
 pub record Meets (one other one' other' : PublisherValue) (position : ℕ) : Type 0 where
-  pub one_is : IsBack one one'
-  pub other_is : IsBack other other'
+  pub one_is : IsBack one one' position
+  pub other_is : IsBack other other' position
   pub seat : one'.seat ≡ one.seat
   -- one load of its own, and one of each raw tail; the other comes back on a new seat
   pub steps : (one'.steps ≡ one.steps + 4) × (other'.steps ≡ 0)
@@ -72,3 +72,13 @@ pub record Meets (one other one' other' : PublisherValue) (position : ℕ) : Typ
   -- nothing that either has claimed passes it
   pub claims : (c : ClaimRange) → Among c one.pass.right.claims ⊎ Among c other.pass.right.claims → claim_end c ≤ position
   pub seen : SawBelow one.pass position × SawBelow other.pass position
+
+-- a publisher that was shown as much as another, or more
+abbrev pub SawAsMuch : PublisherValue → PublisherValue → Type 0
+SawAsMuch p q = q.pass.seen.shown ≤ p.pass.seen.shown
+
+-- where one that came back from a meet meets again, with whomever and whatever it did between, the answer is no smaller
+abbrev pub NeverFalls : Type 0
+NeverFalls = (one other one' other' : PublisherValue) (position : ℕ) → Meets one other one' other' position
+    → (again third again' third' : PublisherValue) (later : ℕ) → Meets again third again' third' later
+    → (SawAsMuch again one' ⊎ SawAsMuch third one') ⊎ (SawAsMuch again other' ⊎ SawAsMuch third other') → position ≤ later

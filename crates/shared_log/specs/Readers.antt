@@ -12,6 +12,7 @@ use Rattle.frame_words.specs.Contents.{bytes_in}
 use Rattle.publication.specs.Contents.{frame_in}
 use Rattle.log_rule.specs.Claims.Handles.{PublisherValue}
 use Rattle.log_rule.specs.Readings.{IsConsumer, IsFrameAt, MayPass, end_of, missed}
+use Rattle.log_rule.specs.Says.{IsCommittedFor}
 use Rattle.log_rule.specs.Table.{reader_alone}
 use Rattle.shared_log.specs.Handles.{IsOf, LogValue}
 
@@ -147,6 +148,8 @@ pub record Finds (l : LogValue) (r : ReaderValue) (head : FrameHead) (q : Reader
   pub shown : head ≡ head_of r.position (frame_in frame)
   pub legal : IsStreamFrame l.identity.geometry head
   pub known : known_of q ≡ known_of r ++ frame ∷ []
+  -- a pass has committed it, in whatever state the log is in with this reader
+  pub committed : IsCommittedFor q.held.pass frame
   pub looked : misses_of q ≡ misses_of r
   -- what it had there is this frame
   pub only : (g : FrameWords) → Has r g → g.start ≡ r.position → g ≡ frame

@@ -6,13 +6,13 @@
 //! (`open`, `Log::open_whole`, `LogError`). A publisher's word calls are those of `publication` (`OnLog`); it knows
 //! how many bytes its claims cover (`Publisher::share`). Two publishers that meet come back as they were, their numbers
 //! and their claims apart, none above the answer: the greatest position that the three raw tails show, each loaded in
-//! that call, and none that a word had shown to either is above it (`meet`). One that retires leaves its numbers and all
-//! that it claimed to another, whose it is then (`retire`). Closed with all its passes, a log's `Book` has each
-//! publisher's share, which is that of the entries' owners, no number is one of two, and the entries of all tile the
-//! stream from the start to its tail (`close`), and what a reader that is handed in knows was committed by them
-//! (`close_read`).
+//! that call, and none that a word had shown to either is above it (`meet`); the answers to one publisher never fall
+//! (`meets_never_fall`). One that retires leaves its numbers and all that it claimed to another, whose it is then
+//! (`retire`). Closed with all its passes, a log's `Book` has each publisher's share, which is that of the entries'
+//! owners, no number is one of two, and the entries of all tile the stream from the start to its tail (`close`), and what
+//! a reader that is handed in knows was committed by them (`close_read`).
 //!
-//! A reader: `next` gives the committed frame where it stands, and none only where the word there, loaded once in that
+//! A reader: `next` gives the frame where it stands, which one of the passes has committed, and none only where the word there, loaded once in that
 //! call, was zero, and no frame begins that the reader knows; `advance` goes to its end; `reread` gives a frame again
 //! that it knows, up to three quarters of a term below; after `learn` it knows all that a publisher has committed.
 //! `next_whole` gives what `next` gives, straight into bytes of any length; a part that is longer stays unread.
@@ -55,7 +55,7 @@ pub use keeper::{Keeper, clean_and_limit, set_closed, set_connected};
 pub use log::{Log, Publisher};
 pub use parts::{Parts, first_there, open};
 pub use publisher::calls::OnLog;
-pub use publisher::meeting::meet;
+pub use publisher::meeting::{meet, meets_never_fall};
 pub use publisher::retiring::retire;
 pub use reader::learning::learn;
 pub use reader::source::LogFrames;

@@ -59,7 +59,7 @@ behind_log others l m r q at end one zeroth h moved =
     ∙ ap (λ (cs : List (Option ℕ)). record l { consumers = slice_set cs 0 (Some end) }) one
 
 -- what is known of a cycle: where the sender is, and what it sends is what the state's sender sends
-pub send_answered : NearStayNear → AlwaysAgain → OneKeepsEnough → GroupKeepsEnough → (old : Simulated) (now : ℕ) (m : Stream) (t : Sending HandReader StreamFlow) (packets sent : List (List ℕ)) (before after : List Line) → old.sender.reads.number ≡ 0 → IsSenderOf old.sender (source_of old.log old.sender.reads.number) → Cycles (λ fs gs. gs ≡ fs) tick_after reached_of (at_moment old.sender now) (source_of old.log old.sender.reads.number) (source_of m t.reads.number) t sent → MovesReader old.sender.reads.number old.log t.reads.number m → packets ≡ old.packets ++ sent → line_contents after ≡ line_contents before ++ or_nothing (packet_lines (length old.packets) sent) → IsAnswered old (commands.Send now) before after (record old { log = m; sender = t; packets = packets })
+pub send_answered : {Looked : Type 0} → NearStayNear → AlwaysAgain → OneKeepsEnough → GroupKeepsEnough → (old : Simulated) (now : ℕ) (m : Stream) (t : Sending HandReader StreamFlow) (packets sent : List (List ℕ)) (before after : List Line) → old.sender.reads.number ≡ 0 → IsSenderOf old.sender (source_of old.log old.sender.reads.number) → Cycles Looked (λ fs gs. gs ≡ fs) tick_after reached_of (at_moment old.sender now) (source_of old.log old.sender.reads.number) (source_of m t.reads.number) t sent → MovesReader old.sender.reads.number old.log t.reads.number m → packets ≡ old.packets ++ sent → line_contents after ≡ line_contents before ++ or_nothing (packet_lines (length old.packets) sent) → IsAnswered old (commands.Send now) before after (record old { log = m; sender = t; packets = packets })
 send_answered near always one group old now m t packets sent before after zeroth from c moves given told = λ s h standing.
     let y = c.cycle in
     let v = old.sender in

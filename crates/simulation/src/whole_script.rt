@@ -142,7 +142,7 @@ fn subscriber(
 {
     let window = geometry.term_length() / 2;
     let core = ReceiverCore::new(alloc, log.session, log.stream, window, i64::from(number), 1);
-    Subscriber::new(alloc, core, geometry.max_message() as usize)
+    Ok(Subscriber::new(alloc, core, geometry.max_message() as usize)?)
 }
 
 /// The eight receivers.

@@ -35,3 +35,4 @@ pub mod Tables
 pub mod Tiling
 pub mod TimingRows
 pub mod UnitRows
+pub mod EdgeRows

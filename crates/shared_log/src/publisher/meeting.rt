@@ -4,7 +4,7 @@ ghost use Rattle.std.specs.Prelude.{◌≡◌, ℕ, ◌+◌, ◌%◌, ◌^◌, �
 ghost use Rattle.log_rule.specs.Claims.Plays.{no_keeping};
 ghost use Rattle.publication.specs.Steps.{geometry_of};
 ghost use Rattle.shared_log.specs.Books.{IsIdle};
-ghost use Rattle.shared_log.specs.Meets.{Meets, SeatStays, SeesTails, Shows};
+ghost use Rattle.shared_log.specs.Meets.{Meets, NeverFalls, SeatStays, SeesTails, Shows};
 
 use crate::log::{Log, Publisher};
 use atomic_table::Seat;
@@ -18,7 +18,7 @@ fn shown_as<N: Chosen>(log: &Log, seat: &mut Seat<(), View>, partition: u32) -> 
     requires shape { geometry_of seat.old.me.0.pass ≡ log.now.identity.geometry }
     requires empty { seat.old.me.1 ≡ [] }
     requires chosen { N.number ≡ partition }
-    ensures stays { SeatStays seat.old.table_id seat.old.id seat.old.me seat.new.table_id seat.new.id seat.new.me }
+    ensures stays { SeatStays seat.old.table_id seat.old.id seat.old.me seat.new.table_id seat.new.id seat.new.me result }
     ensures once { seat.new.me.0.steps ≡ seat.old.me.0.steps + 1 }
     ensures told { Shows seat.old.me.0.pass (partition % 3) seat.old.me.0.controls seat.new.me.0.controls result }
 {
@@ -32,7 +32,7 @@ fn greatest_shown(log: &Log, seat: &mut Seat<(), View>) -> u64
     requires fits { seat.old.table_id ≡ log.now.table }
     requires shape { geometry_of seat.old.me.0.pass ≡ log.now.identity.geometry }
     requires empty { seat.old.me.1 ≡ [] }
-    ensures stays { SeatStays seat.old.table_id seat.old.id seat.old.me seat.new.table_id seat.new.id seat.new.me }
+    ensures stays { SeatStays seat.old.table_id seat.old.id seat.old.me seat.new.table_id seat.new.id seat.new.me result }
     ensures steps { seat.new.me.0.steps ≡ seat.old.me.0.steps + 3 }
     ensures told { SeesTails seat.old.me.0.pass seat.old.me.0.controls seat.new.me.0.controls result }
 {
@@ -87,7 +87,8 @@ fn meet_as<N: Met>(log: &Log, one: Publisher, other: Publisher) -> (Publisher, P
 }
 
 /// Two publishers meet: what they have claimed is apart. The answer is the greatest position that the three raw tails
-/// show, each loaded in this call; none that either has claimed or was shown before lies above it.
+/// show, each loaded in this call; none that either has claimed or was shown before lies above it. Both remember it, so that
+/// no later answer to one of them is smaller (`meets_never_fall`).
 pub fn meet(log: &Log, one: Publisher, other: Publisher) -> (Publisher, Publisher, u64)
     requires one { IsIdle log.now one }
     requires other { IsIdle log.now other }
@@ -96,3 +97,8 @@ pub fn meet(log: &Log, one: Publisher, other: Publisher) -> (Publisher, Publishe
 {
     meet_as::<Brand>(log, one, other)
 }
+
+/// A law: where a publisher meets twice, the second answer is no smaller than the first, whatever it did between.
+pub fn meets_never_fall()
+    ensures { NeverFalls }
+{}

@@ -10,7 +10,7 @@ pub returns-in_err-first-clause-fault : goal.returns-in_err-first-clause-fault
 returns-in_err-first-clause-fault g c =
     let e = c.in_err-first.ensures in
     let p = err_from_is_err_and c.from_residual.result c.from_residual.ensures.1 in
-    rw (p.1, p.2, e.fault) ([], (e.kept, omega arith))
+    rw (p.1, p.2, e.fault.1) ([], (e.kept, omega arith))
 
 pub returns-in_err-second-clause-fault : goal.returns-in_err-second-clause-fault
 returns-in_err-second-clause-fault g c =

@@ -43,7 +43,9 @@ returns-clause-sends g c =
     let can = c.requires.can in
     let l = c.loop-packing in
     let n = c.send_next.new in
-    sent_all g.R.FrameSource.grown _ _ _ _ _ _ l.handler l.packing l.outbox _ n.handler n.packing n.outbox g.met.R.FrameSource.grown_on g.met.R.FrameSource.grown_keeps can.size can.unit l.invariant.sent c.loop-packing-test.ensures.sends
+    sent_all g.R.FrameSource.grown _ _ _ _ _ _ l.handler l.packing l.outbox _ n.handler n.packing n.outbox g.met.R.FrameSource.grown_on g.met.R.FrameSource.grown_keeps
+    (λ look. record { before = l.reads; at = l.log; after = n.reads; there = n.log; until = l.invariant.leaves; look = look; since = g.met.R.FrameSource.leaves_same _ _ c.loop-packing-test.ensures.stands })
+    can.size can.unit l.invariant.sent c.loop-packing-test.ensures.sends
 
 pub returns-clause-same_length : goal.returns-clause-same_length
 returns-clause-same_length g c = c.loop-packing-test.ensures.same_length ∙ c.loop-packing.invariant.block

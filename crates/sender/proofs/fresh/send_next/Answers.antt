@@ -5,7 +5,7 @@ use Rattle.sender.proofs.NextLemmas.{ends_above, goes, has_no_room, no_frame, pa
 use Rattle.sender.proofs.fresh.send_next.Goals as goal
 
 pub returns-in_default-clause-sends : goal.returns-in_default-clause-sends
-returns-in_default-clause-sends g c = no_frame g.R.FrameSource.grown _ _ _ _ _ _ _ c.args.block.now c.next.new.block g.met.R.FrameSource.grown_same c.requires.can.from c.in_default.ensures.none
+returns-in_default-clause-sends g c = no_frame g.R.FrameSource.grown _ _ _ _ _ _ _ c.args.block.now c.next.new.block g.met.R.FrameSource.grown_same c.requires.can.from c.in_default.ensures.none c.in_default.ensures.looked
 
 pub returns-then-sent_to-limit-clause-sends : goal.returns-then-sent_to-limit-clause-sends
 returns-then-sent_to-limit-clause-sends g c =

@@ -3,8 +3,8 @@ use Rattle.std.specs.Prelude.{nat_lt, if◌then◌else◌}
 use Rattle.sender.specs.Giving.{SendsNew}
 use Rattle.frames.specs.Outgoing.{Outgoing}
 use Rattle.sender.specs.Naming.{is_due}
-use Rattle.sender.specs.Sending.{Cycles, GoesOn, Sending, SendsFrom}
-use Rattle.sender.proofs.CycleLemmas.{cycles, more_few, named_few, named_from, still_goes}
+use Rattle.sender.specs.Sending.{Cycles, GoesOn, HasLooked, Sending, SendsFrom}
+use Rattle.sender.proofs.CycleLemmas.{cycles, looks_on, more_few, named_few, named_from, still_goes}
 use Rattle.sender.proofs.sender_core.SenderCore.cycle.Goals as goal
 
 pub returns-clause-cycle : goal.returns-clause-cycle
@@ -20,12 +20,19 @@ returns-clause-cycle g c =
     let p = c.name_stream.new.outbox in
     let t = c.beat.new.outbox in
     let d = c.resend.new.self in
-    let steps = cycles g.R.FrameSource.grown g.F.FlowControl.after_tick g.F.FlowControl.reached s b c.send.new.self d c.note_moment.new.self c.tick.new.self c.args.outbox.now p c.send.new.outbox c.resend.new.outbox t (source o.reads log) mid last (record {
+    let leaves = g.R.FrameSource.leaves in
+    let looks = HasLooked leaves g.R.FrameSource.looked in
+    let Looked = looks o.reads log c.note_moment.new.self.reads c.resend.new.log in
+    let before = ap (λ (x : S). x.reads) c.name_stream.ensures.state in
+    let after = sym (ap (λ (x : S). x.reads) c.note_moment.ensures) in
+    let sends = subst (λ r. SendsNew (looks r log c.send.new.self.reads c.send.new.log) g.R.FrameSource.grown b.identity (g.F.FlowControl.reached b.flow) (source r log) b.handler p mid c.send.new.self.handler c.send.new.outbox) before c.send.ensures.sends in
+    let since = subst (λ (r : g.row.R.Denot). leaves c.send.new.self.reads c.send.new.log r c.resend.new.log) after c.resend.ensures.leaves in
+    let steps = cycles Looked g.R.FrameSource.grown g.F.FlowControl.after_tick g.F.FlowControl.reached s b c.send.new.self d c.note_moment.new.self c.tick.new.self c.args.outbox.now p c.send.new.outbox c.resend.new.outbox t (source o.reads log) mid last (record {
       empty = c.requires.empty;
       tick = c.tick.ensures.state;
       name = c.name_stream.ensures.state;
       named = c.name_stream.ensures.out;
-      sends = subst (λ r. SendsNew g.R.FrameSource.grown b.identity (g.F.FlowControl.reached b.flow) (source r log) b.handler p mid c.send.new.self.handler c.send.new.outbox) (ap (λ (x : S). x.reads) c.name_stream.ensures.state) c.send.ensures.sends;
+      sends = looks_on (λ look. record { before = look.before; at = look.at; after = look.after; there = look.there; until = look.until; look = look.look; since = g.met.R.FrameSource.leaves_on _ _ _ _ _ _ look.since since }) sends;
       sent = c.send.ensures.state;
       again = c.resend.ensures.sends;
       answered = c.resend.ensures.state;
@@ -36,7 +43,7 @@ returns-clause-cycle g c =
           ∙ ap (λ (n : ℕ). record d { last = if nat_lt n c.len.result then Some d.clock else d.last }) c.len-named.ensures.value
           ∙ ap (λ (n : ℕ). record d { last = if nat_lt (length p.datagrams) n then Some d.clock else d.last }) c.len.ensures.value;
     }) in
-    subst (λ (x : S). Cycles g.R.FrameSource.grown g.F.FlowControl.after_tick g.F.FlowControl.reached x (source x.reads log) last c.note_moment.new.self t.datagrams) c.self.view_is steps
+    subst (λ (x : S). Cycles (looks x.reads log c.note_moment.new.self.reads c.resend.new.log) g.R.FrameSource.grown g.F.FlowControl.after_tick g.F.FlowControl.reached x (source x.reads log) last c.note_moment.new.self t.datagrams) c.self.view_is steps
 
 pub invariant_of-self : goal.invariant_of-self
 invariant_of-self g c = c.self.invariant
