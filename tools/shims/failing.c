@@ -1,7 +1,7 @@
 /* A library to be loaded before others: socket calls that fail.
 
    FAIL_CALLS=N:E fails each Nth send and each Nth receive with the error number E; FAIL_WHERE=PATH fails every call with EIO
-   once a file of that name is there. */
+   once a file of that name is there; FAIL_BIND=E fails each bind with the error number E. */
 #define _GNU_SOURCE
 #include <dlfcn.h>
 #include <errno.h>
@@ -38,6 +38,16 @@ static int fails(long *count)
 }
 
 #define NEXT(name) ((__typeof__(&name))dlsym(RTLD_NEXT, #name))
+
+int bind(int socket, const struct sockaddr *address, socklen_t size)
+{
+    const char *number = getenv("FAIL_BIND");
+    if (number) {
+        errno = (int)strtol(number, NULL, 10);
+        return -1;
+    }
+    return NEXT(bind)(socket, address, size);
+}
 
 ssize_t send(int socket, const void *bytes, size_t length, int flags)
 {
