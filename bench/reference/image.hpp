@@ -1,6 +1,7 @@
-// An image, which one inserter and its consumers share without a lock, in the words of a table. The words: a consumer's
-// position on a line of its own, then a bit for each unit that a frame covers, one for each at which a frame starts, and four
-// words for each unit's bytes. Each store of held bits publishes, since a reader that finds its bit may find others with it.
+// An image, which one inserter and its consumers share without a lock. Its frames lie in plain memory, each as on the wire. The
+// words that are shared: a consumer's position on a line of its own, then a bit for each unit that a frame covers, and one for
+// each at which a frame starts. Each store of held bits publishes the bytes behind it, since a reader that finds its bit may
+// find others with it. What a frame's front was the inserter keeps for itself, by the unit at which the frame starts.
 #pragma once
 #include "frames.hpp"
 #include "insert.hpp"
@@ -17,6 +18,7 @@ class alignas(8 * LINE) Image {
     std::size_t consumers;
     std::size_t bits; // how many words of each of the two kinds
     Words words;
+    std::unique_ptr<std::uint8_t[]> bytes;
 
     std::size_t unit(std::uint64_t position) const { return geometry.ring_place(position) / UNIT; }
 
@@ -24,8 +26,8 @@ class alignas(8 * LINE) Image {
     Word &held(std::size_t number) { return words[BEHIND + number]; }
     Word &starts(std::size_t number) { return words[BEHIND + bits + number]; }
 
-    // The words of the stream from a position on. They go on up to the end of its term.
-    Word *at(std::uint64_t position) { return &words[BEHIND + 2 * bits + geometry.ring_place(position) / 8]; }
+    // The bytes of the stream from a position on. They go on up to the end of its term.
+    std::uint8_t *at(std::uint64_t position) { return &bytes[geometry.ring_place(position)]; }
 
     // Looks once where each consumer stands.
     std::uint64_t least_consumer() {
@@ -36,12 +38,10 @@ class alignas(8 * LINE) Image {
 
     static bool holds(const Word &word, std::size_t unit) { return word >> unit % 64 & 1; }
 
-    static Front front_of(const Word *frame) { return std::bit_cast<Front>(frame->load()); }
-
   public:
     Image(const Geometry &geometry, std::uint64_t join, std::size_t consumers)
         : geometry(geometry), join(join), consumers(consumers), bits(3 * std::size_t{geometry.term_length} / UNIT / 64),
-          words(BEHIND + 2 * bits + 3 * std::size_t{geometry.term_length} / 8) {
+          words(BEHIND + 2 * bits), bytes(new std::uint8_t[3 * std::size_t{geometry.term_length}]()) {
         for (std::size_t number = 0; number < consumers; number++) words[LINE * number] = join;
     }
 
@@ -52,6 +52,7 @@ class alignas(8 * LINE) Image {
         Image &image;
         std::uint32_t window;
         std::uint64_t floor, rebuilt, high_water;
+        std::vector<Front> fronts; // by the unit at which a frame starts
 
         // Clears the bits of the units from the floor to a position in its term.
         void clear_to(std::uint64_t end) {
@@ -69,7 +70,7 @@ class alignas(8 * LINE) Image {
             return holds(image.starts(unit / 64), unit);
         }
 
-        Front front_at(std::uint64_t position) const { return front_of(image.at(position)); }
+        Front front_at(std::uint64_t position) const { return fronts[image.unit(position)]; }
 
         // The first unit of a run that is held, or the run's end.
         std::size_t first_held(std::size_t from, std::size_t to) const {
@@ -105,14 +106,15 @@ class alignas(8 * LINE) Image {
 
         void store(std::uint64_t position, const Front &front, const std::uint8_t *frame) {
             std::size_t size = front.kind == Kind::Data ? front.length : HEADER, first = image.unit(position);
-            Word *into = image.at(position);
-            for (std::size_t at = 0; at < size; at += 8) (into++)->store(fields_at<std::uint64_t>(frame + at), FILLS);
+            std::memcpy(image.at(position), frame, size);
+            fronts[first] = front;
             mark(first, first + align32(front.length) / UNIT);
         }
 
       public:
         Inserter(Image &image, std::uint32_t window)
-            : image(image), window(window), floor(image.join), rebuilt(image.join), high_water(image.join) {}
+            : image(image), window(window), floor(image.join), rebuilt(image.join), high_water(image.join),
+              fronts(3 * std::size_t{image.geometry.term_length} / UNIT) {}
 
         // As the consumers were seen last.
         Positions positions() const { return {floor, rebuilt, high_water}; }
@@ -162,18 +164,13 @@ class alignas(8 * LINE) Image {
         Reader(Image &image, std::size_t number)
             : image(image), told(image.words[LINE * number]), position(image.join) {}
 
-        // Copies the payload of the frame where the consumer stands, in whole words; none where its bit is zero.
+        // Copies the payload of the frame where the consumer stands; none where its bit is zero.
         std::optional<Front> read(std::uint8_t *block) {
             std::size_t unit = image.unit(position);
             if (!holds(image.held(unit / 64), unit)) return std::nullopt;
-            const Word *word = image.at(position);
-            Front front = front_of(word);
-            std::int32_t end = front.kind == Kind::Data ? front.length : 0;
-            word += HEADER / 8;
-            for (std::int32_t at = HEADER; at < end; at += 8, block += 8) {
-                std::uint64_t bytes = *word++;
-                std::memcpy(block, &bytes, 8);
-            }
+            const std::uint8_t *frame = image.at(position);
+            auto front = fields_at<Front>(frame);
+            if (front.kind == Kind::Data) std::memcpy(block, frame + HEADER, front.length - HEADER);
             return front;
         }
 

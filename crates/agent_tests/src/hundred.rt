@@ -245,7 +245,7 @@ fn play<R: Wait>(
     requires { IsSender agent.old.core }
     ensures { IsSender agent.new.core }
 {
-    let mut subscriber = listening(alloc)?;
+    let mut subscriber = listening(alloc);
     play_with(rt, alloc, agent, &mut subscriber, between)
 }
 

@@ -83,23 +83,17 @@ pub fn open_group_sender<'a>(
 }
 
 /// A subscriber of a receiver with this id and this window that has no image yet.
-pub fn member(alloc: Global, id: i64, window: u32) -> Result<Subscriber, Fail> {
+pub fn member(alloc: Global, id: i64, window: u32) -> Subscriber {
     let core = ReceiverCore::new(alloc, 1, 1001, window, id, 1);
-    match Subscriber::new(alloc, core, 8192) {
-        Ok(subscriber) => Ok(subscriber),
-        Err(_) => Err(AllocError.into()),
-    }
+    Subscriber::new(alloc, core, 8192)
 }
 
 /// A subscriber that has no image yet.
-pub fn listening(alloc: Global) -> Result<Subscriber, Fail>
-    ensures { IfOk result (λ s. (r : Receiver) × RepresentsSubscriber s r × (r.image ≡ None)) }
+pub fn listening(alloc: Global) -> Subscriber
+    ensures { (r : Receiver) × RepresentsSubscriber result r × (r.image ≡ None) }
 {
     let core = ReceiverCore::new(alloc, 1, 1001, 32_768, 3, 1);
-    match Subscriber::new(alloc, core, 8192) {
-        Ok(subscriber) => Ok(subscriber),
-        Err(_) => Err(AllocError.into()),
-    }
+    Subscriber::new(alloc, core, 8192)
 }
 
 /// Offers a message of so many bytes, all of this value. The answer is the position behind it.

@@ -120,25 +120,22 @@ impl SubscriberPass {
     ghost use Rattle.cores.specs.Departures.{Departs, NoneDeparts, WontDepart};
     ghost use Rattle.cores.specs.Subscribing.{GivesMessage, GivesNone, IsUnsent, PollFails, Receives, RefusesDatagram, Subscribes, Ticks};
 
-    /// A subscriber that has met nothing yet. The error comes only where memory was refused.
-    pub fn open(alloc: Global, config: &Subscription) -> Result<SubscriberPass, Fault>
-        ensures opened { IfOk result (λ p. Subscribes config.now p) }
-        ensures refused { IfErr result (λ fault. fault ≡ Fault.Memory) }
+    /// A subscriber that has met nothing yet. It wants no memory.
+    pub fn open(alloc: Global, config: &Subscription) -> SubscriberPass
+        ensures { Subscribes config.now result }
     {
         let greatest = config.greatest;
-        let Ok(subscriber) = Subscriber::new(alloc, core_of(alloc, *config), greatest) else {
-            return Err(Fault::Memory);
-        };
+        let subscriber = Subscriber::new(alloc, core_of(alloc, *config), greatest);
         let unsent = Replies {
             asking: None,
             nak: None,
             status: None,
         };
-        Ok(SubscriberPass {
+        SubscriberPass {
             subscriber,
             greatest,
             unsent,
-        })
+        }
     }
 
     /// Takes a datagram at a moment in nanoseconds. The answer is how many frames it has: what became of each is written to

@@ -151,7 +151,7 @@ fn lose_and_mend<R: Abort>(
 fn mend_all<R: Abort>(rt: &R, alloc: Global, sender: &mut Sender<'_>) -> Result<(), Fail>
     requires { IsSender sender.old }
 {
-    let mut subscriber = listening(alloc)?;
+    let mut subscriber = listening(alloc);
     lose_and_mend(rt, alloc, sender, &mut subscriber)
 }
 

@@ -51,7 +51,7 @@ fn open_ways(alloc: Global) -> Result<Vec<Way>, Fail> {
     let mut ways = Vec::new(alloc);
     for id in 0..MEMBERS {
         let way = Way {
-            subscriber: member(alloc, id as i64, WINDOW)?,
+            subscriber: member(alloc, id as i64, WINDOW),
             to_receiver: Vec::new(alloc),
             to_sender: Vec::new(alloc),
             polled: 0,

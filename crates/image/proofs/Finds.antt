@@ -22,7 +22,7 @@ use Rattle.image_rule.specs.Reads.{IsFound, first_of}
 use Rattle.image_rule.specs.Steps.{FindsPart, Looks, Mine, with_miss}
 use Rattle.image_rule.proofs.Found.{found_now}
 use Rattle.image.specs.Handles.{ImageId}
-use Rattle.image.specs.Reading.{IsCopied, ReadsFrame}
+use Rattle.image.specs.Reading.{ShowsFrame}
 
 pub head_length : (p : ℕ) (c : placed.Frame) → (head_of p c).frame_length ≡ frame_length c
 head_length p (Data flags payload) = refl
@@ -55,9 +55,6 @@ pub payload_here : (f : Frame) (count : ℕ) (items bytes : List ℕ) → Says f
 payload_here f count items bytes s spells n is =
     let l = s.long in
     is ∙ ap (drop 32) (first_bytes f (32 + count) items (omega arith) spells) ∙ drop-take 32 count f.bytes ∙ ap (λ (k : ℕ). take k (drop 32 f.bytes)) n ∙ s.payload
-
-pub copied_here : (f : Frame) (count : ℕ) (items bytes before : List ℕ) → Says f → Spells f items → count ≡ length (payload_of (frame_said f.bytes)) → bytes ≡ drop 32 (take (32 + count) items) → IsCopied (frame_said f.bytes) before (bytes ++ drop count before)
-copied_here f count items bytes before s spells n is = (λ j. payload_here f count items bytes s spells n is j ++ drop (n j) before)
 
 -- ---- its head
 
@@ -97,8 +94,8 @@ module _ (f : Frame) (p : ℕ) (head : FrameHead) (s : Says f) (is : head ≡ he
   data_count of_data = let d = data_length p (frame_said f.bytes) (sym (ap (λ (h : FrameHead). h.kind) is) ∙ of_data) s.content in let l = length_here f p head is in let a = d.0 in let b = d.1 in let c = d.2 in (omega arith, omega arith, omega arith)
 
   -- a padding has no payload
-  pub pad_copied : head.kind ≡ kinds.Pad → (block : List ℕ) → IsCopied (frame_said f.bytes) block block
-  pad_copied of_pad block = let e = pad_none p (frame_said f.bytes) (sym (ap (λ (h : FrameHead). h.kind) is) ∙ of_pad) in ap (λ (xs : List ℕ). xs ++ drop (length xs) block) (sym e)
+  pub pad_count : head.kind ≡ kinds.Pad → 0 ≡ length (payload_of (frame_said f.bytes))
+  pad_count of_pad = sym (ap length (pad_none p (frame_said f.bytes) (sym (ap (λ (h : FrameHead). h.kind) is) ∙ of_pad)))
 
 -- ---- what a reader reads
 
@@ -119,9 +116,9 @@ module _ (t : Site) (m m' : Mine) (found : FindsPart t m m') where
   first_is : first_of m'.0.reading.known ≡ found.found.frame
   first_is = ap (λ (x : View). first_of x.reading.known) found.found.after
 
-  pub reads_frame : (of of' : ImageId) (read_to read_to' unit : ℕ) (head : FrameHead) (before after : List ℕ) → of' ≡ of → unit ≡ m.0.reading.unit → read_to' ≡ end_of (first_of m'.0.reading.known) → head ≡ head_of (32 * unit) (frame_said (first_of m'.0.reading.known).bytes)
-      → IsCopied (frame_said (first_of m'.0.reading.known).bytes) before after → ReadsFrame (record { of = of; view = m.0; read_to = read_to }) head before (record { of = of'; view = m'.0; read_to = read_to' }) after
-  reads_frame of of' read_to read_to' unit head before after same at ends is copied = record {
+  pub shows_frame : (of of' : ImageId) (read_to read_to' unit : ℕ) (head : FrameHead) → of' ≡ of → unit ≡ m.0.reading.unit → read_to' ≡ end_of (first_of m'.0.reading.known) → head ≡ head_of (32 * unit) (frame_said (first_of m'.0.reading.known).bytes)
+      → ShowsFrame (record { of = of; view = m.0; read_to = read_to }) head (payload_of (frame_said (first_of m'.0.reading.known).bytes)) (record { of = of'; view = m'.0; read_to = read_to' })
+  shows_frame of of' read_to read_to' unit head same at ends is = record {
     finds = record {
       frame = found.found.frame;
       here = found.found.here;
@@ -130,7 +127,7 @@ module _ (t : Site) (m m' : Mine) (found : FindsPart t m m') where
       only = found.found.only;
       after = found.found.after;
     };
-    copied = subst (λ (f : Frame). IsCopied (frame_said f.bytes) before after) first_is copied;
+    payload_is = ap (λ (f : Frame). payload_of (frame_said f.bytes)) first_is;
     read_to = ends ∙ ap end_of first_is;
     covers = found.found.says.covered;
     same = (λ j. record { of = same j; view = m'.0; read_to = read_to' });

@@ -17,9 +17,9 @@ use Rattle.image_rule.specs.declared.view.View.{View}
 use Rattle.image_rule.specs.Frames.{IsContent}
 use Rattle.image_rule.proofs.Units.{placed_among}
 use Rattle.image.specs.Handles.{ImageWords, IsReaderOf, ReaderSeat, position_of}
-use Rattle.image.specs.Reading.{FindsNone, ReadsFrame}
-use Rattle.image.specs.Finding.{FindsHere, FindsNothing, PassesOn}
-use Rattle.image.specs.Meeting.{AreAlone, IsShort, Meets, ReadsPast, StandsAtEnd, number_of}
+use Rattle.image.specs.Reading.{FindsNone, LiesInFront, ShowsFrame}
+use Rattle.image.specs.Finding.{FindsFrame, FindsNothing, PassesOn}
+use Rattle.image.specs.Meeting.{AreAlone, IsShort, Meets, PassesFrame, ReadsPast, StandsAtEnd, number_of}
 use Rattle.image.specs.Rebuilding.{Inserting, join_of}
 
 module _ (image : ImageWords) (i : Inserting) (r : ReaderSeat) (alone : AreAlone image i r) where
@@ -85,7 +85,7 @@ module _ (image : ImageWords) (i : Inserting) (r : ReaderSeat) (alone : AreAlone
 
   -- ---- or it reads a frame, moves past it, and meets the inserter again
 
-  module _ (j k : Inserting) (q x z y : ReaderSeat) (head : FrameHead) (before after : List ℕ) (met : Meets i r j q) (found : FindsHere q before head x after) (past : PassesOn x z) (again : Meets j z k y) where
+  module _ (j k : Inserting) (q x z y : ReaderSeat) (head : FrameHead) (payload : List ℕ) (met : Meets i r j q) (found : FindsFrame q head payload x) (past : PassesOn x z) (again : Meets j z k y) where
     to : position_of y ≡ position_of z
     to = ap (λ (u : ℕ). 32 * u) again.stands
 
@@ -104,11 +104,16 @@ module _ (image : ImageWords) (i : Inserting) (r : ReaderSeat) (alone : AreAlone
     moved : k ≡ record i { seen = position_of y ∷ [] }
     moved = again.inserter ∙ (λ t. record (met_same j q met t) { seen = seen_now t })
 
-    pub reads_past : ReadsPast i r before head k y after
-    reads_past = record {
-      shown = (found.frame, stored, here, found.head_is ∙ ap (λ (u : ℕ). head_at u found.frame.frame) here, found.payload);
+    pub passes_frame : PassesFrame i r head payload k y
+    passes_frame = record {
+      frame = found.frame;
+      among = stored;
+      here = here;
+      head_is = found.head_is;
+      payload_is = found.payload_is;
+      small = found.small;
       short = found.short;
-      past = (found.frame, stored, here, to ∙ past.stands ∙ found.ends);
+      ends = to ∙ past.stands ∙ found.ends;
       inserter = moved;
       misses = again.misses ∙ past.misses ∙ found.misses ∙ met.misses;
     }
@@ -125,11 +130,25 @@ short : (p : ℕ) (c : placed.Frame) (head : FrameHead) → head ≡ head_of p c
 short p (Data flags payload) head e is kind = let n : head.frame_length ≡ 32 + length payload = ap (λ (h : FrameHead). h.frame_length) e in let b = is.1 in (omega arith, omega arith)
 short p (Pad n) head e is kind = let k : kinds.Pad ≡ kinds.Data = sym (ap (λ (h : FrameHead). h.kind) e) ∙ kind in absurd (cc)
 
-pub read_short : (q : ReaderSeat) (head : FrameHead) (before : List ℕ) (x : ReaderSeat) (after : List ℕ) → ReadsFrame q head before x after → IsShort head
-read_short q head before x after reads = short _ _ head reads.finds.shown reads.finds.content
+pub read_short : (q : ReaderSeat) (head : FrameHead) (payload : List ℕ) (x : ReaderSeat) → ShowsFrame q head payload x → IsShort head
+read_short q head payload x reads = short _ _ head reads.finds.shown reads.finds.content
 
 -- bytes in front of others, as many in all
 pub in_front : (before front after : List ℕ) → length front ≤ length before → after ≡ front ++ drop (length front) before → after ≡ with_front before front
 in_front before front after le e =
     let a = length-append front (drop (length front) before) in let d = length-drop (length front) before in
     e ∙ sym (take_all (length before) (front ++ drop (length front) before) (omega arith))
+
+-- its payload copied to the front of a block that has room for each
+pub reads_past : (i : Inserting) (r : ReaderSeat) (head : FrameHead) (payload : List ℕ) (j : Inserting) (q : ReaderSeat) (before after : List ℕ) → PassesFrame i r head payload j q → LiesInFront before payload after → 65472 ≤ length before → ReadsPast i r before head j q after
+reads_past i r head payload j q before after f lies room =
+    let small = f.small in
+    let copied : after ≡ payload ++ drop (length payload) before = lies.fits (omega arith) in
+    let front : after ≡ with_front before (payload_of f.frame.frame) = in_front before payload after (omega arith) copied ∙ ap (with_front before) f.payload_is in
+    record {
+      shown = (f.frame, f.among, f.here, f.head_is ∙ ap (λ (u : ℕ). head_at u f.frame.frame) f.here, front);
+      short = f.short;
+      past = (f.frame, f.among, f.here, f.ends);
+      inserter = f.inserter;
+      misses = f.misses;
+    }

@@ -1,12 +1,13 @@
 -- An inserter and a reader that meet, and one that is in one hand with the one reader.
-use Rattle.std.specs.Prelude.{◌≡◌, ◌↔◌, ℕ, ◌+◌, ◌*◌, ◌<◌, ◌≤◌, [], ◌∷◌, List, slice_index, slice_set}
+use Rattle.std.specs.Prelude.{◌≡◌, ◌↔◌, ℕ, ◌+◌, ◌*◌, ◌<◌, ◌≤◌, [], ◌∷◌, List, length, slice_index, slice_set}
 use Rattle.position.specs.declared.head.FrameHead.{FrameHead}
 use Rattle.position.specs.declared.head.FrameKind.TheVariants.{Data}
-use Rattle.theory.specs.Placed.{Among, Placed, covered, end_of}
+use Rattle.theory.specs.Placed.{Among, Placed, covered, end_of, payload_of}
 use Rattle.theory.specs.Units.{IsContiguous}
 use Rattle.image_rule.specs.declared.view.Frame.{Frame}
 use Rattle.image_rule.specs.Frames as units
 use Rattle.image_rule.specs.Frames.{placed_of}
+use Rattle.image.specs.Kinds.{head_at}
 use Rattle.image.specs.Handles.{ImageWords, IsReaderOf, ReaderSeat, known_by, misses_of, position_of}
 use Rattle.image.specs.Rebuilding.{Inserting, IsInserterOf, join_of}
 use Rattle.image.specs.Seen.{IsShown}
@@ -48,6 +49,20 @@ pub record StandsAtEnd (i : Inserting) (r : ReaderSeat) (before : List ℕ) (j :
   pub stands : position_of q ≡ position_of r
   pub misses : misses_of q ≡ misses_of r + 1
   pub untouched : after ≡ before
+
+-- a frame was stored where it stood, which the head shows, and these bytes are its payload; it stands where that ends: there the
+-- inserter saw it, and else nothing has changed
+pub record PassesFrame (i : Inserting) (r : ReaderSeat) (head : FrameHead) (payload : List ℕ) (j : Inserting) (q : ReaderSeat) : Type 0 where
+  pub frame : Placed
+  pub among : Among frame i.stored
+  pub here : frame.at ≡ position_of r
+  pub head_is : head ≡ head_at frame.at frame.frame
+  pub payload_is : payload ≡ payload_of frame.frame
+  pub small : length payload ≤ 65472
+  pub short : IsShort head
+  pub ends : position_of q ≡ end_of frame
+  pub inserter : j ≡ record i { seen = position_of q ∷ [] }
+  pub misses : misses_of q ≡ misses_of r
 
 -- it was shown a frame that was stored where it stood, and stands where that ends: there the inserter saw it, and else nothing
 -- has changed

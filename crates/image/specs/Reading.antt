@@ -1,5 +1,5 @@
 -- What a reader's calls say.
-use Rattle.std.specs.Prelude.{◌≡◌, ℕ, ◌*◌, ◌<◌, List, ◌++◌, drop, length}
+use Rattle.std.specs.Prelude.{◌≡◌, ℕ, ◌*◌, ◌<◌, ◌≤◌, List, ◌++◌, drop, length}
 use Rattle.theory.specs.Placed as placed
 use Rattle.theory.specs.Placed.{covered, payload_of}
 use Rattle.position.specs.declared.head.FrameHead.{FrameHead}
@@ -30,7 +30,21 @@ pub record Finds (v : View) (head : FrameHead) (w : View) : Type 0 where
 abbrev pub IsCopied : placed.Frame → List ℕ → List ℕ → Type 0
 IsCopied f before after = after ≡ payload_of f ++ drop (length (payload_of f)) before
 
+-- the payload stands in front of the bytes that were there, where it fits; where it doesn't, these stay
+pub record LiesInFront (before payload after : List ℕ) : Type 0 where
+  pub fits : length payload ≤ length before → after ≡ payload ++ drop (length payload) before
+  pub else : length before < length payload → after ≡ before
+
 -- ---- by readers
+
+-- it reads the frame that begins where it stands, as it was stored: one that it knew there is the same, and it knows it from
+-- then on; these bytes are its payload
+pub record ShowsFrame (r : ReaderSeat) (head : FrameHead) (payload : List ℕ) (q : ReaderSeat) : Type 0 where
+  pub finds : Finds r.view head q.view
+  pub payload_is : payload ≡ payload_of (frame_said finds.frame.bytes)
+  pub read_to : q.read_to ≡ end_of finds.frame
+  pub covers : 32 * finds.frame.units ≡ covered (placed_of finds.frame)
+  pub same : q ≡ record r { view = q.view; read_to = q.read_to }
 
 -- it reads the frame that begins where it stands, as it was stored: one that it knew there is the same, and it knows it from
 -- then on; its payload stands in the block's front

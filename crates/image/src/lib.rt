@@ -13,7 +13,8 @@
 //! are shared have a held bit and a start bit for each unit, and where the consumers stand. Who may write a frame's bytes, and
 //! who may read them, goes by rights that take no memory (`region`), which change hands with the bits.
 //!
-//! A reader reads the frame where it stands (`read`) and moves behind it (`advance`). Where it and the inserter meet (`meet`),
+//! A reader hands the frame where it stands, where it lies, to a [`FrameHandler`] (`read_with`), or copies it to a block
+//! (`read`), and moves behind it (`advance`). Where it and the inserter meet (`meet`),
 //! the reader knows just the frames that were stored, and the inserter has seen it where it stands. So where one hand has
 //! both, `read_past` is exact. What `insert` and `heartbeat` say is an event of the definitions' image
 //! (`calls_are_events`), and with more units the contiguous end is no smaller (`units_grow`).
@@ -22,6 +23,7 @@
 mod answer;
 mod detector;
 mod fault;
+mod handler;
 mod held;
 mod inserter;
 mod law;
@@ -33,12 +35,13 @@ mod words;
 pub use answer::Insert;
 pub use detector::LossDetector;
 pub use fault::{CONSUMERS, ImageError};
+pub use handler::FrameHandler;
 pub use inserter::gap::{first_gap, held_word};
 pub use inserter::inserting::{heartbeat, insert};
 pub use inserter::{Inserter, deal, least, open};
 pub use law::{calls_are_events, units_grow};
-pub use meeting::{meet, read_past};
+pub use meeting::{meet, read_past, read_past_with};
 pub use reader::ImageReader;
-pub use reader::reading::{advance, read};
+pub use reader::reading::{advance, read, read_with};
 pub use steps::Steps;
 pub use words::Image;

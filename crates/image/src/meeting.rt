@@ -1,17 +1,18 @@
 //! A reader and the inserter meet: each is told what the other knows. So where one hand has both, each call finds what the last
 //! one left: what was only known to grow stands still.
 
-ghost use Rattle.std.specs.Prelude.{◌≡◌, ◌≤◌, length, IfNone, IfSome};
+ghost use Rattle.std.specs.Prelude.{◌≡◌, ℕ, ◌≤◌, [], List, length, IfNone, IfSome};
 ghost use Rattle.image_rule.specs.Reads as rule;
 ghost use Rattle.image.specs.Handles as seats;
 ghost use Rattle.image.specs.Handles.{IsReaderOf};
-ghost use Rattle.image.specs.Meeting.{Meets, AreAlone, ReadsPast, StandsAtEnd};
+ghost use Rattle.image.specs.Meeting.{Meets, AreAlone, PassesFrame, ReadsPast, StandsAtEnd};
 ghost use Rattle.image.specs.Rebuilding.{IsInserterOf};
 
+use crate::handler::FrameHandler;
 use crate::inserter::Inserter;
 use crate::inserter::frame_store::FrameStore;
 use crate::reader::ImageReader;
-use crate::reader::reading::{advance, read};
+use crate::reader::reading::{advance, read_with};
 use crate::words::Image;
 use block::Block;
 use image_rule::{Attend, Confirm, Findings, News, Settle, Tell};
@@ -53,6 +54,31 @@ pub fn meet(image: &Image, reader: &mut ImageReader, inserter: &mut Inserter)
     learn(image, reader, &mut inserter.words);
 }
 
+/// Hands the frame where the reader stands to who takes it, its payload where it lies, and moves the reader past it. There is
+/// none exactly where it stands at the contiguous end: then it has looked there once more, and nothing is handed over.
+pub fn read_past_with<H: FrameHandler>(
+    image: &Image,
+    inserter: &mut Inserter,
+    reader: &mut ImageReader,
+    handler: &mut H,
+) -> Option<FrameHead>
+    requires alone { AreAlone image.now inserter.old reader.old }
+    ensures none { IfNone result (StandsAtEnd inserter.old reader.old [] inserter.new reader.new []
+        × (handler.new ≡ handler.old)) }
+    ensures read { IfSome result (λ head. (payload : List ℕ) × PassesFrame inserter.old reader.old
+        head payload inserter.new reader.new × H.takes handler.old head payload handler.new) }
+    ensures alone { AreAlone image.now inserter.new reader.new }
+{
+    let _ = inserter.rebuilt();
+    meet(image, reader, inserter);
+    let Some(head) = read_with(image, reader, handler) else {
+        return None;
+    };
+    let _ = advance(image, reader);
+    meet(image, reader, inserter);
+    Some(head)
+}
+
 /// Reads the frame where the reader stands, to the block's front, and moves the reader past it. There is none exactly where it
 /// stands at the contiguous end: then it has looked there once more, and the block is as it was.
 pub fn read_past(
@@ -68,12 +94,5 @@ pub fn read_past(
     ensures alone { AreAlone image.now inserter.new reader.new }
     ensures same_length { length block.new ≡ length block.old }
 {
-    let _ = inserter.rebuilt();
-    meet(image, reader, inserter);
-    let Some(head) = read(image, reader, block) else {
-        return None;
-    };
-    let _ = advance(image, reader);
-    meet(image, reader, inserter);
-    Some(head)
+    read_past_with(image, inserter, reader, block)
 }

@@ -19,10 +19,7 @@ pub extern "C" fn pv_open_subscriber(
 ) -> i32
     ensures { SubscriberOpens config.now subscriber.old.held result subscriber.new.held }
 {
-    let Ok(opened) = SubscriberPass::open(alloc, config) else {
-        return NO_MEMORY;
-    };
-    let Ok(boxed) = Box::new(alloc, opened) else {
+    let Ok(boxed) = Box::new(alloc, SubscriberPass::open(alloc, config)) else {
         return NO_MEMORY;
     };
     let Ok(pass) = Box::new(alloc, Pass::Subscriber(boxed)) else {

@@ -4,7 +4,6 @@ use Rattle.std.specs.Prelude.{◌+◌, ◌-◌, ◌<◌, ◌^◌, IfErr, IfOk, R
 use Rattle.assembler.specs.declared.assembler.Message.{Message}
 use Rattle.std.specs.Option.{option_to_list}
 use Rattle.std.proofs.lemmas.List.{map-append}
-use Rattle.block.specs.Bytes.{with_front}
 use Rattle.theory.specs.Placed.{Among, Chain, Data, Frame, Pad, Placed, is_padding, payload_of}
 use Rattle.theory.specs.Assembly.{Assembly, after, after_all, on_frame}
 use Rattle.theory.proofs.Follow.{Chain-append, Chain-push}
@@ -16,8 +15,10 @@ use Rattle.assembler.specs.declared.fault.AssemblyError.TheVariants.{Memory, Too
 use Rattle.receiver.specs.Polling.{AsksMemory, IsTooLong}
 use Rattle.image.specs.Kinds.{head_at}
 use Rattle.position.specs.declared.head.FrameHead.{FrameHead}
-use Rattle.image.specs.Finding.{FindsHere, FindsNothing, PassesOn, read_end}
+use Rattle.image.specs.Finding as finding
+use Rattle.image.specs.Finding.{FindsNothing, PassesOn, read_end}
 use Rattle.image.specs.Handles.{ImageWords, ReaderSeat, known_by, misses_of, position_of}
+use Rattle.receiver.specs.Joining.{Joins, Shows}
 use Rattle.receiver.specs.Subscribing.{heard_of}
 use Rattle.receiver.specs.Reading.{FindsFrame, FindsNone, GivesMessage, GivesNothing, Hears, HearsFurther, HearsOne, Passes, PassesRead, Reading, ReadsFurther, ReadsOn, RefusesFrame, RefusesOne, WaitsSo, assembled, heard_to_of}
 use Rattle.receiver.proofs.Lived.Moved.{given_more, heard_on}
@@ -161,8 +162,8 @@ further m k n q message h o p (inr low) =
 abbrev pub found_by : ImageWords → ReaderSeat → Assembling → Reading
 found_by image r a = record { image = image; seat = r; assembler = a; heard_to = read_end r }
 
-found : (m : Reading) (r : ReaderSeat) (a : Assembling) (before after : List ℕ) (head : FrameHead) → position_of m.seat ≡ m.heard_to → (f : FindsHere m.seat before head r after) → FindsFrame m f.frame (found_by m.image r a)
-found m r a before after head at f = record {
+found : (m : Reading) (r : ReaderSeat) (a : Assembling) (payload : List ℕ) (head : FrameHead) → position_of m.seat ≡ m.heard_to → (f : finding.FindsFrame m.seat head payload r) → FindsFrame m f.frame (found_by m.image r a)
+found m r a payload head at f = record {
   image = refl;
   here = f.here ∙ at;
   known = f.known;
@@ -172,24 +173,6 @@ found m r a before after head at f = record {
   stands = f.stays.stands ∙ sym f.here;
   misses = f.misses;
 }
-
--- what an assembler says that was handed the frame
-abbrev pub TakesSo : Assembling → FrameHead → List ℕ → Option (List ℕ) → Assembling → Type 0
-TakesSo a head block message b = (s : Placed) (before : List ℕ) → head ≡ head_at s.at s.frame → block ≡ with_front before (payload_of s.frame) → (b ≡ record a { begun = (heard_of a.begun s.frame).begun }) × (message ≡ (heard_of a.begun s.frame).message)
-
-pub hears_found : (m : Reading) (r : ReaderSeat) (a : Assembling) (before after : List ℕ) (head : FrameHead) (message : Option (List ℕ)) → position_of m.seat ≡ m.heard_to → FindsHere m.seat before head r after → TakesSo m.assembler head after message a → HearsOne m message (found_by m.image r a)
-hears_found m r a before after head message at f takes =
-    let t = takes f.frame before f.head_is f.payload in record { frame = f.frame; finds = found m r a before after head at f; assembler = t.0; message_is = t.1 }
-
-abbrev pub RefusesSo : Assembling → FrameHead → List ℕ → AssemblyError → Assembling → Type 0
-RefusesSo a head block fault b =
-    (s : Placed) (before : List ℕ) → head ≡ head_at s.at s.frame → block ≡ with_front before (payload_of s.frame)
-    → (b ≡ record a { begun = None }) × (is_padding s.frame ≡ false) × ((fault ≡ TooLong) ↔ IsTooLong a.greatest a.begun s.frame) × (fault ≡ Memory → AsksMemory a.begun s.frame)
-
-pub refuses_found : (m : Reading) (r : ReaderSeat) (a : Assembling) (before after : List ℕ) (head : FrameHead) (fault : AssemblyError) → position_of m.seat ≡ m.heard_to → FindsHere m.seat before head r after → RefusesSo m.assembler head after fault a → RefusesOne m fault (found_by m.image r a)
-refuses_found m r a before after head fault at f takes =
-    let t = takes f.frame before f.head_is f.payload in
-    record { frame = f.frame; finds = found m r a before after head at f; assembler = t.0; not_padding = t.1; named = t.2; asked = t.3 }
 
 -- ---- a frame is passed
 
@@ -203,25 +186,25 @@ passed image r q a p = record {
 
 -- ---- whatever the assembler answers
 
-pub hears_if : {A : Type 0} (m : Reading) (r : ReaderSeat) (a : Assembling) (before after : List ℕ) (head : FrameHead) (result : Result (Option (Message A)) AssemblyError) → position_of m.seat ≡ m.heard_to → FindsHere m.seat before head r after
-    → IfOk result (λ x. (s : Placed) (b : List ℕ) → head ≡ head_at s.at s.frame → after ≡ with_front b (payload_of s.frame) → a ≡ record m.assembler { begun = (heard_of m.assembler.begun s.frame).begun })
-    → IfOk result (λ x. (s : Placed) (b : List ℕ) → head ≡ head_at s.at s.frame → after ≡ with_front b (payload_of s.frame) → option_map (λ y. y.bytes.items) x ≡ (heard_of m.assembler.begun s.frame).message)
-    → IfOk result (λ x. HearsOne m (option_map (λ y. y.bytes.items) x) (found_by m.image r a))
-hears_if m r a before after head (Ok x) at f state message = hears_found m r a before after head (option_map (λ y. y.bytes.items) x) at f (λ s b e g. (state s b e g, message s b e g))
-hears_if m r a before after head (Err e) at f state message = state
+pub taken_joins : {A : Type 0} (a b c : Assembling) (head : FrameHead) (payload : List ℕ) (step taken : Result (Option (Message A)) AssemblyError) → Joins a head payload step b → taken ≡ step → c ≡ b → Joins a head payload taken c
+taken_joins {A} a b c head payload step taken joins e g = subst (λ (x : Result (Option (Message A)) AssemblyError × Assembling). Joins a head payload x.0 x.1) (λ j. (sym e j, sym g j)) joins
 
-pub refuses_if : {A : Type 0} (m : Reading) (r : ReaderSeat) (a : Assembling) (before after : List ℕ) (head : FrameHead) (result : Result (Option (Message A)) AssemblyError) → position_of m.seat ≡ m.heard_to → FindsHere m.seat before head r after
-    → IfErr result (λ x. a ≡ record m.assembler { begun = None }) → IfErr result (λ x. (s : Placed) → head ≡ head_at s.at s.frame → is_padding s.frame ≡ false)
-    → IfErr result (λ x. (s : Placed) (b : List ℕ) → head ≡ head_at s.at s.frame → after ≡ with_front b (payload_of s.frame) → ((x ≡ TooLong) ↔ IsTooLong m.assembler.greatest m.assembler.begun s.frame))
-    → IfErr result (λ x. (s : Placed) (b : List ℕ) → head ≡ head_at s.at s.frame → after ≡ with_front b (payload_of s.frame) → x ≡ Memory → AsksMemory m.assembler.begun s.frame)
-    → IfErr result (λ x. RefusesOne m x (found_by m.image r a))
-refuses_if m r a before after head (Ok x) at f dropped padding named asked = dropped
-refuses_if m r a before after head (Err x) at f dropped padding named asked = refuses_found m r a before after head x at f (λ s b e g. (dropped, padding s e, named s b e g, asked s b e g))
+pub hears_if : {A : Type 0} (m : Reading) (r : ReaderSeat) (a : Assembling) (payload : List ℕ) (head : FrameHead) (step : Result (Option (Message A)) AssemblyError) → position_of m.seat ≡ m.heard_to → finding.FindsFrame m.seat head payload r → Joins m.assembler head payload step a
+    → IfOk step (λ x. HearsOne m (option_map (λ y. y.bytes.items) x) (found_by m.image r a))
+hears_if m r a payload head (Ok x) at f joins = let shows : Shows head payload f.frame = (f.head_is, f.payload_is) in record { frame = f.frame; finds = found m r a payload head at f; assembler = joins.state f.frame shows; message_is = joins.message f.frame shows }
+hears_if m r a payload head (Err e) at f joins = joins.state
+
+pub refuses_if : {A : Type 0} (m : Reading) (r : ReaderSeat) (a : Assembling) (payload : List ℕ) (head : FrameHead) (step : Result (Option (Message A)) AssemblyError) → position_of m.seat ≡ m.heard_to → finding.FindsFrame m.seat head payload r → Joins m.assembler head payload step a
+    → IfErr step (λ x. RefusesOne m x (found_by m.image r a))
+refuses_if m r a payload head (Ok x) at f joins = joins.dropped
+refuses_if m r a payload head (Err x) at f joins =
+    let shows : Shows head payload f.frame = (f.head_is, f.payload_is) in
+    record { frame = f.frame; finds = found m r a payload head at f; assembler = joins.dropped; not_padding = joins.refused f.frame shows; named = joins.named f.frame shows; asked = joins.asked f.frame shows }
 
 -- a reader that stands where its assembler has heard to, and finds none
-pub missed : (image : ImageWords) (waits : Bool) (r q : ReaderSeat) (a : Assembling) (before after : List ℕ) → position_of r ≡ heard_to_of waits r → WaitsSo waits r → FindsNothing r before q after → FindsNone (record { image = image; seat = r; assembler = a; heard_to = heard_to_of waits r }) (record { image = image; seat = q; assembler = a; heard_to = heard_to_of waits q })
-missed image true r q a before after at waits f = absurd (let l = waits refl in omega (arith, at, l))
-missed image false r q a before after at waits f = record {
+pub missed : (image : ImageWords) (waits : Bool) (r q : ReaderSeat) (a : Assembling) → position_of r ≡ heard_to_of waits r → WaitsSo waits r → FindsNothing r [] q [] → FindsNone (record { image = image; seat = r; assembler = a; heard_to = heard_to_of waits r }) (record { image = image; seat = q; assembler = a; heard_to = heard_to_of waits q })
+missed image true r q a at waits f = absurd (let l = waits refl in omega (arith, at, l))
+missed image false r q a at waits f = record {
   none = f.none;
   keeps = f.stays.keeps;
   same = ap (λ (x : ℕ). record { image = image; seat = q; assembler = a; heard_to = x }) f.stays.stands;

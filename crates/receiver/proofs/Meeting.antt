@@ -175,12 +175,12 @@ end_read v i k some end r s =
     let w = shown_some i v.image r.image some s.image in
     subst (λ x. HasNoFrame x k) (sym w.is) (end w.opened w.shown)
 
-pub frame_read : (v : Core) (i j : Inserting) (k : ℕ) (before : List ℕ) (head : FrameHead) (after : List ℕ) → v.image ≡ Some i → ((o : Opened) → RepresentsImage i o → ReadsPast o k before head after (RepresentsImage j))
-    → (r : Receiver) → Represents v r → PassesFrame r.image r k before head after (imaged v j)
-frame_read v i j k before head after some reads r s =
+pub frame_read : (v : Core) (i j : Inserting) (k : ℕ) (head : FrameHead) (payload : List ℕ) → v.image ≡ Some i → ((o : Opened) → RepresentsImage i o → ReadsPast o k head payload (RepresentsImage j))
+    → (r : Receiver) → Represents v r → PassesFrame r.image r k head payload (imaged v j)
+frame_read v i j k head payload some reads r s =
     let w = shown_some i v.image r.image some s.image in
     let h = reads w.opened w.shown in
-    subst (λ x. PassesFrame x r k before head after (imaged v j)) (sym w.is) (record { consumer = h.consumer; which = h.which; frame = h.frame; among = h.among; here = h.here; head_is = h.head_is; payload = h.payload; shown = λ d e. imaged_shown v v.image j (with_reader w.opened k d) r s (h.shown d e) })
+    subst (λ x. PassesFrame x r k head payload (imaged v j)) (sym w.is) (record { consumer = h.consumer; which = h.which; frame = h.frame; among = h.among; here = h.here; head_is = h.head_is; payload_is = h.payload_is; shown = λ d e. imaged_shown v v.image j (with_reader w.opened k d) r s (h.shown d e) })
 
 -- ---- frames one after the other
 

@@ -67,9 +67,9 @@ pub moved_only : (v w : Inserting) (end : ℕ) → w ≡ record v { seen = end �
 moved_only v w end e = e ∙ ap (λ (xs : List ℕ). record v { seen = xs }) (sym (ap (λ (x : Inserting). x.seen) e))
 
 -- whether it read a frame or not
-pub shape_of : (v w : Inserting) (r q : ReaderSeat) (before after : List ℕ) (found : Option FrameHead) → IfNone found (StandsAtEnd v r before w q after) → IfSome found (λ head. hand.ReadsPast v r before head w q after) → w ≡ record v { seen = w.seen }
-shape_of v w r q before after None none some = none.inserter ∙ ap (λ (xs : List ℕ). record v { seen = xs }) (sym (ap (λ (x : Inserting). x.seen) none.inserter))
-shape_of v w r q before after (Some head) none some = moved_only v w (position_of q) some.inserter
+pub shape_of : (v w : Inserting) (r q : ReaderSeat) (same : Type 0) (took : FrameHead → List ℕ → Type 0) (found : Option FrameHead) → IfNone found (StandsAtEnd v r [] w q [] × same) → IfSome found (λ head. (payload : List ℕ) × hand.PassesFrame v r head payload w q × took head payload) → w ≡ record v { seen = w.seen }
+shape_of v w r q same took None none some = none.0.inserter ∙ ap (λ (xs : List ℕ). record v { seen = xs }) (sym (ap (λ (x : Inserting). x.seen) none.0.inserter))
+shape_of v w r q same took (Some head) none some = moved_only v w (position_of q) some.1.inserter
 
 abbrev pub AreFit : Inserting → Type 0
 AreFit v = AllByRecursion (IsFit (geometry_of v).term_length v.high) v.stored
@@ -96,21 +96,16 @@ passed_shown v w o end d (c ∷ []) is one moved to h = record {
 }
 passed_shown v w o end d (c ∷ e ∷ es) is one moved to h = absurd (omega arith)
 
-pub reads_past : (v w : Inserting) (p end : ℕ) (before : List ℕ) (head : FrameHead) (after : List ℕ) → v.seen ≡ p ∷ [] → IsShown v.stored p before head after → Passes v p end → w ≡ record v { seen = end ∷ [] } → AreFit v → AreApart (map head_of v.stored)
-    → (o : Opened) → RepresentsImage v o → ReadsPast o 0 before head after (RepresentsImage w)
-reads_past v w p end before head after at (s, a, here, is, payload) (t, b, there, past) moved fit apart o h =
-    let c = only_shown v o p at h in
-    let long : 32 ≤ frame_length s.frame = (all_at (IsFit (geometry_of v).term_length v.high) s v.stored fit a).long in
-    let long_too : 32 ≤ frame_length t.frame = (all_at (IsFit (geometry_of v).term_length v.high) t v.stored fit b).long in
-    let one : s ≡ t = one_frame v.stored s t apart a b (omega (arith, here, there)) (omega (arith, here, there)) in
-    let ends : end ≡ end_of s = past ∙ ap end_of (sym one) in
+pub reads_past : (v w : Inserting) (r q : ReaderSeat) (head : FrameHead) (payload : List ℕ) → v.seen ≡ position_of r ∷ [] → hand.PassesFrame v r head payload w q → (o : Opened) → RepresentsImage v o → ReadsPast o 0 head payload (RepresentsImage w)
+reads_past v w r q head payload at f o h =
+    let c = only_shown v o (position_of r) at h in
     record {
       consumer = c.consumer;
       which = ap (λ (cs : List Consumer). slice_get cs 0) c.one;
-      frame = s;
-      among = subst (Among s) h.stored a;
-      here = here ∙ sym c.here;
-      head_is = subst (λ q. head ≡ head_at q s.frame) (sym here) is;
-      payload = payload;
-      shown = λ d e. passed_shown v w o end d (c.consumer ∷ []) c.one refl moved (e ∙ sym ends) h;
+      frame = f.frame;
+      among = subst (Among f.frame) h.stored f.among;
+      here = f.here ∙ sym c.here;
+      head_is = f.head_is;
+      payload_is = f.payload_is;
+      shown = λ d e. passed_shown v w o (position_of q) d (c.consumer ∷ []) c.one refl f.inserter (e ∙ sym f.ends) h;
     }

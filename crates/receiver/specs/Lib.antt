@@ -5,6 +5,7 @@ pub mod SetupFaults
 pub mod Representing
 pub mod Seating
 pub mod Subscribing
+pub mod Joining
 pub mod Texts
 pub mod Lives
 pub mod CoreLives

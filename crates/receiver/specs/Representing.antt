@@ -6,7 +6,6 @@
 use Rattle.std.specs.Prelude.{◌≡◌, ℕ, suc, ◌+◌, ◌<◌, ◌^◌, ◌≤◌, ℤ, ⊤, List, [], ◌∷◌, map, max, length, slice_get, slice_index, slice_set, Option, None, Some, ◌⊎◌}
 use Rattle.std.specs.List.{AllByRecursion}
 use Rattle.std.specs.Option.{ForSome}
-use Rattle.block.specs.Bytes.{with_front}
 use Rattle.position.specs.declared.head.FrameHead.{FrameHead}
 use Rattle.theory.specs.Placed.{Among, Frame, Placed, end_of, payload_of}
 use Rattle.theory.specs.Units.{IsContiguous}
@@ -187,16 +186,16 @@ pub record IsAtEnd (o : Opened) (k : ℕ) : Type 0 where
   pub which : slice_get o.image.consumers k ≡ Some consumer
   pub end : IsContiguous o.image.stored o.image.join consumer.at
 
--- the frame at its position is shown by the head, with its payload in front of the block's other bytes; and with any consumer
--- in its place that stands at the frame's end the image is shown then
-pub record ReadsPast (o : Opened) (k : ℕ) (before : List ℕ) (head : FrameHead) (after : List ℕ) (ShowsThen : Opened → Type 0) : Type 0 where
+-- the frame at its position is shown by the head, and these bytes are its payload; and with any consumer in its place that stands at
+-- the frame's end the image is shown then
+pub record ReadsPast (o : Opened) (k : ℕ) (head : FrameHead) (payload : List ℕ) (ShowsThen : Opened → Type 0) : Type 0 where
   pub consumer : Consumer
   pub which : slice_get o.image.consumers k ≡ Some consumer
   pub frame : Placed
   pub among : Among frame o.image.stored
   pub here : frame.at ≡ consumer.at
   pub head_is : head ≡ head_at frame.at frame.frame
-  pub payload : after ≡ with_front before (payload_of frame.frame)
+  pub payload_is : payload ≡ payload_of frame.frame
   pub shown : (d : Consumer) → d.at ≡ end_of frame → ShowsThen (with_reader o k d)
 
 -- the same of a receiver
@@ -204,9 +203,9 @@ abbrev pub HasNoFrame : Option Opened → ℕ → Type 0
 HasNoFrame None k = ⊤
 HasNoFrame (Some o) k = IsAtEnd o k
 
-abbrev pub PassesFrame : Option Opened → Receiver → ℕ → List ℕ → FrameHead → List ℕ → Core → Type 0
-PassesFrame None r k before head after new = ⊥
-PassesFrame (Some o) r k before head after new = ReadsPast o k before head after (λ p. Represents new (record r { image = Some p }))
+abbrev pub PassesFrame : Option Opened → Receiver → ℕ → FrameHead → List ℕ → Core → Type 0
+PassesFrame None r k head payload new = ⊥
+PassesFrame (Some o) r k head payload new = ReadsPast o k head payload (λ p. Represents new (record r { image = Some p }))
 
 -- a consumer has passed a frame: it goes on by a unit at the least, and no position is above 2^55
 pub record GoesForward (before after : ℕ) : Type 0 where

@@ -5,14 +5,13 @@ ghost use Rattle.std.specs.Arc.{arc_value};
 ghost use Rattle.image.specs.Handles.{position_of};
 ghost use Rattle.receiver.specs.Dealt.{Learns};
 
-use crate::assembling::{GREATEST_PAYLOAD, assemble};
+use crate::assembling::{Joiner, Step};
 use crate::dealing::only_reader;
 use crate::denied::Denied;
 use crate::readers::Readers;
 use crate::receiver_core::ReceiverCore;
 use assembler::{Assembler, AssemblyError, Message};
-use block::Block;
-use image::{Image, ImageReader, advance, read};
+use image::{Image, ImageReader, advance, read_with};
 use std::alloc::Global;
 use std::marker::Model;
 use std::sync::Arc;
@@ -23,23 +22,21 @@ use std::sync::Arc;
 pub struct MessageReader {
     image: Arc<Image, Global>,
     reader: ImageReader,
-    assembler: Assembler<Global>,
-    block: Block,
+    joiner: Joiner,
     /// Whether the frame where the reader stands was heard already.
     waits: bool,
 }
 
 impl Model for MessageReader {
     ghost use Rattle.std.specs.Arc.{arc_value};
-    ghost use Rattle.std.specs.Prelude.{◌≤◌, length};
     ghost use Rattle.image.specs.Handles.{IsReaderOf};
     ghost use Rattle.receiver.specs.Reading.{Reading, WaitsSo, heard_to_of};
 
     ghost Value = { Reading };
 
-    ghost view = { λ m. record { image = arc_value m.image; seat = m.reader; assembler = m.assembler; heard_to = heard_to_of m.waits m.reader } };
+    ghost view = { λ m. record { image = arc_value m.image; seat = m.reader; assembler = m.joiner.assembler; heard_to = heard_to_of m.waits m.reader } };
 
-    ghost invariant = { λ m. IsReaderOf (arc_value m.image) m.reader × (65472 ≤ length m.block) × WaitsSo m.waits m.reader };
+    ghost invariant = { λ m. IsReaderOf (arc_value m.image) m.reader × WaitsSo m.waits m.reader };
 }
 
 impl MessageReader {
@@ -59,17 +56,13 @@ impl MessageReader {
         ensures assembler { IfOk result (λ m. m.assembler ≡ record { greatest = greatest; begun = None }) }
         ensures denied { IfErr result (λ d. d.given ≡ taken) }
     {
-        let Ok(block) = Block::new(alloc, GREATEST_PAYLOAD) else {
-            return Err(Denied { given: taken });
-        };
         let Ok(image) = Arc::try_clone(&taken.image) else {
             return Err(Denied { given: taken });
         };
         Ok(MessageReader {
             image,
             reader: only_reader(taken),
-            assembler: Assembler::new(alloc, greatest),
-            block,
+            joiner: Joiner::new(Assembler::new(alloc, greatest)),
             waits: false,
         })
     }
@@ -116,7 +109,7 @@ impl MessageReader {
     }
 
     /// Hands the frame where the reader stands to the assembler.
-    fn hear(&mut self) -> Option<Result<Option<Message<Global>>, AssemblyError>>
+    fn hear(&mut self) -> Option<Step>
         requires { position_of self.old.seat ≡ self.old.heard_to }
         ensures none { IfNone result (FindsNone self.old self.new) }
         ensures heard { IfSome result (λ step. IfOk step (λ m. HearsOne self.old (option_map (λ x. x.bytes.items) m) self.new)) }
@@ -124,11 +117,11 @@ impl MessageReader {
         ensures refused { IfSome result (λ step. IfErr step (λ fault. RefusesOne self.old fault self.new)) }
     {
         let image = &*self.image;
-        let Some(head) = read(image, &mut self.reader, &mut self.block) else {
+        let Some(_) = read_with(image, &mut self.reader, &mut self.joiner) else {
             return None;
         };
         self.waits = true;
-        Some(assemble(&mut self.assembler, &head, &self.block))
+        Some(self.joiner.take_step())
     }
 
     /// Its reader and the image's core meet: the core sees it where it stands, and it knows just the frames that were stored.

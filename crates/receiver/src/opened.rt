@@ -1,8 +1,7 @@
 //! The image that a SETUP opened: what frames, heartbeats and a consumer's reading make of it.
 
-ghost use Rattle.std.specs.Prelude.{◌≡◌, ◌≤◌, ◌<◌, ◌+◌, ◌/◌, ◌^◌, ◌%◌, [], Some, length, map, replicate, slice_index, IfNone, IfOk, IfSome, OnSome};
+ghost use Rattle.std.specs.Prelude.{◌≡◌, ℕ, ◌≤◌, ◌<◌, ◌+◌, ◌/◌, ◌^◌, ◌%◌, List, [], Some, length, map, replicate, slice_index, IfNone, IfOk, IfSome, OnSome};
 ghost use Rattle.std.specs.List.{AllByRecursion};
-ghost use Rattle.position.specs.declared.head.FrameKind.TheVariants.{Data};
 ghost use Rattle.position.specs.Gaps.{gap_of};
 ghost use Rattle.image.specs.Seen.{IsCount, IsJoin, least};
 ghost use Rattle.image.specs.Stored.{IsOfStream, IsUnit, stream_frame};
@@ -16,20 +15,21 @@ ghost use Rattle.frames.specs.Frames.{header_of, wire};
 ghost use Rattle.image.specs.Handles.{IsReaderOf, position_of};
 ghost use Rattle.image.specs.Meeting.{AreAlone, Meets, number_of};
 ghost use Rattle.image.specs.Rebuilding.{geometry_of, join_of};
+ghost use Rattle.receiver.specs.Joining.{Joins};
 ghost use Rattle.receiver.specs.Polling.{TellsImage};
 ghost use Rattle.receiver.specs.Receiving.{Opened, gap_in};
 ghost use Rattle.receiver.specs.Representing.{GoesForward, HearsBeat, Inserts, IsAtEnd, LooksOnce, ReadsPast, RepresentsImage, SeesOn, words_of};
 ghost use Rattle.receiver.specs.Dealt.{TakesReaders};
 ghost use Rattle.receiver.specs.Seating.{AreSeated, MaySit, SitsAt, place_of};
 
+use crate::assembling::Joiner;
 use crate::dealing::{deal_all, only_reader, room_for};
 use crate::positions::Positions;
 use crate::readers::Readers;
-use block::Block;
 use frames::{Frame, Header};
 use image::{
     Image, ImageError, ImageReader, Insert, Inserter, Steps, first_gap, heartbeat, insert, least,
-    meet, read_past,
+    meet, read_past_with,
 };
 use position::{FrameHead, Gap, Geometry, Identity};
 use std::alloc::{AllocError, Global};
@@ -247,28 +247,25 @@ impl OpenImage {
         *reader = Some(first);
     }
 
-    /// Reads the frame where its one reader stands to the block's front, and moves the reader past it. There is none where it
-    /// stands at the contiguous end.
+    /// Joins the frame where its one reader stands, and moves the reader past it. There is none where it stands at the contiguous
+    /// end.
     pub(crate) fn read_past(
         &mut self,
         reader: &mut ImageReader,
-        block: &mut Block,
+        joiner: &mut Joiner,
     ) -> Option<FrameHead>
         requires alone { AreAlone (words_of self.old) self.old reader.old }
-        requires room { 65472 ≤ length block.old }
-        ensures none { IfNone result ((self.new ≡ self.old) × (block.new ≡ block.old) × ((o : Opened) → RepresentsImage self.old o → IsAtEnd o 0)) }
-        ensures read { IfSome result (λ head. (o : Opened) → RepresentsImage self.old o → ReadsPast o 0 block.old head block.new (RepresentsImage self.new)) }
+        ensures none { IfNone result ((self.new ≡ self.old) × (joiner.new ≡ joiner.old) × ((o : Opened) → RepresentsImage self.old o → IsAtEnd o 0)) }
+        ensures read { IfSome result (λ head. (payload : List ℕ) × ((o : Opened) → RepresentsImage self.old o → ReadsPast o 0 head payload (RepresentsImage self.new)) × Joins joiner.old.assembler head payload joiner.new.step joiner.new.assembler) }
         ensures alone { AreAlone (words_of self.new) self.new reader.new }
-        ensures length { length block.new ≡ length block.old }
         ensures shape { self.new ≡ record self.old { seen = self.new.seen } }
         ensures forward { OnSome result (GoesForward (slice_index self.old.seen 0) (slice_index self.new.seen 0)) }
-        ensures payload { IfSome result (λ head. head.kind ≡ Data → (32 ≤ head.frame_length) × (head.frame_length ≤ 65504)) }
     {
         // What always holds of it, for the proof.
         self.inserter.stored_apart();
         let _ = self.inserter.high_water();
         let _ = self.geometry();
         let image = &*self.image;
-        read_past(image, &mut self.inserter, reader, block)
+        read_past_with(image, &mut self.inserter, reader, joiner)
     }
 }

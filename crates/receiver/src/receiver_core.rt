@@ -4,7 +4,6 @@ ghost use Rattle.std.specs.Prelude.{◌≡◌, ◌≤◌, ◌<◌, ◌^◌, ◌+
 ghost use Rattle.std.specs.List.{AllByRecursion};
 ghost use Rattle.std.specs.Option.{ForSome, option_copied, option_map, option_to_list};
 ghost use Rattle.theory.specs.Insert.{AreApart, head_of};
-ghost use Rattle.position.specs.declared.head.FrameKind.TheVariants.{Data};
 ghost use Rattle.image.specs.Rebuilding.{geometry_of};
 ghost use Rattle.theory.specs.Control as control;
 ghost use Rattle.theory.specs.Control.{asking_at};
@@ -16,17 +15,18 @@ ghost use Rattle.frames.specs.Frames.{header_of, nak_of, setup_of, status_of, wi
 ghost use Rattle.image.specs.Seen.{IsCount};
 ghost use Rattle.image.specs.Stored.{IsOfStream, stream_frame};
 ghost use Rattle.receiver.specs.Representing.{last_status_of};
+ghost use Rattle.receiver.specs.Joining.{Joins};
 ghost use Rattle.receiver.specs.Polling.{TellsImage};
 ghost use Rattle.receiver.specs.Dealt.{HasNoReaders, ImageTakes, Learns, MayLearn};
 ghost use Rattle.receiver.specs.Seating.{AreSeated, MaySit, Sits};
 ghost use Rattle.receiver.specs.Texts.{outcome_text};
 
+use crate::assembling::Joiner;
 use crate::opened::{OpenImage, open};
 use crate::positions::Positions;
 use crate::readers::Readers;
 use crate::setup::fault::SetupError;
 use crate::setup::judgement::judge;
-use block::Block;
 use frames::{
     FaultCounts, Frame, FrameError, Header, Nak, Setup, Status, check_datagram, known_frame,
 };
@@ -204,26 +204,23 @@ impl ReceiverCore {
         image.meet(reader);
     }
 
-    /// Reads the frame where its image's one reader stands to the block's front, and moves the reader past it.
+    /// Joins the frame where its image's one reader stands, and moves the reader past it.
     pub(crate) fn read_past(
         &mut self,
         reader: &mut ImageReader,
-        block: &mut Block,
+        joiner: &mut Joiner,
     ) -> Option<FrameHead>
         requires seated { AreSeated self.old.image (Some reader.old) }
-        requires room { 65472 ≤ length block.old }
-        ensures none { IfNone result ((self.new ≡ self.old) × (block.new ≡ block.old) × ((r : Receiver) → Represents self.old r → HasNoFrame r.image 0)) }
-        ensures read { IfSome result (λ head. (r : Receiver) → Represents self.old r → PassesFrame r.image r 0 block.old head block.new self.new) }
+        ensures none { IfNone result ((self.new ≡ self.old) × (joiner.new ≡ joiner.old) × ((r : Receiver) → Represents self.old r → HasNoFrame r.image 0)) }
+        ensures read { IfSome result (λ head. (payload : List ℕ) × ((r : Receiver) → Represents self.old r → PassesFrame r.image r 0 head payload self.new) × Joins joiner.old.assembler head payload joiner.new.step joiner.new.assembler) }
         ensures seated { AreSeated self.new.image (Some reader.new) }
-        ensures length { length block.new ≡ length block.old }
         ensures forward { OnSome result (GoesForward (place_in self.old.image 0) (place_in self.new.image 0)) }
-        ensures payload { IfSome result (λ head. head.kind ≡ Data → (32 ≤ head.frame_length) × (head.frame_length ≤ 65504)) }
         ensures consumers { self.new.consumers ≡ self.old.consumers }
     {
         let Some(image) = &mut self.image else {
             return None;
         };
-        image.read_past(reader, block)
+        image.read_past(reader, joiner)
     }
 
     /// Sees its image's one reader where that stands, and tells it what was stored so far.

@@ -2,21 +2,17 @@
 
 ghost use Rattle.std.specs.Prelude.{◌≡◌, ◌≤◌, ◌<◌, ◌^◌, ◌+◌, ◌↔◌, ℕ, List, None, Some, false, length, option_map, IfErr, IfNone, IfOk, IfSome, OnErr, OnSome};
 ghost use Rattle.std.specs.List.{AllByRecursion};
-ghost use Rattle.block.specs.Bytes.{with_front};
-ghost use Rattle.position.specs.declared.head.FrameKind.TheVariants.{Data};
 ghost use Rattle.theory.specs.Placed.{Placed, is_padding, payload_of};
 ghost use Rattle.theory.specs.Wire.{IsFrame};
 ghost use Rattle.image.specs.Kinds.{head_at};
 ghost use Rattle.receiver.specs.Polling.{AsksMemory, IsTooLong};
 ghost use Rattle.receiver.specs.Subscribing.{heard_of};
 
-use crate::assembling::{GREATEST_PAYLOAD, assemble};
-use crate::denied::Denied;
+use crate::assembling::{Joiner, Step};
 use crate::poll_error::PollError;
 use crate::positions::Positions;
 use crate::receiver_core::{Outcome, ReceiverCore, Replies};
 use assembler::{Assembler, AssemblyError, Message};
-use block::Block;
 use frames::FaultCounts;
 use image::ImageReader;
 use std::alloc::{AllocError, Global};
@@ -28,20 +24,19 @@ pub struct Subscriber {
     core: ReceiverCore,
     /// The image's one reader, once there is an image.
     reader: Option<ImageReader>,
-    assembler: Assembler<Global>,
-    block: Block,
+    joiner: Joiner,
 }
 
 impl Model for Subscriber {
-    ghost use Rattle.std.specs.Prelude.{◌≡◌, ◌≤◌, length};
+    ghost use Rattle.std.specs.Prelude.{◌≡◌};
     ghost use Rattle.receiver.specs.Seating.{AreSeated};
     ghost use Rattle.receiver.specs.Subscribing.{Subscribing};
 
     ghost Value = { Subscribing };
 
-    ghost view = { λ s. record { core = s.core; assembler = s.assembler } };
+    ghost view = { λ s. record { core = s.core; assembler = s.joiner.assembler } };
 
-    ghost invariant = { λ s. (s.core.consumers ≡ 1) × (65472 ≤ length s.block) × AreSeated s.core.image s.reader };
+    ghost invariant = { λ s. (s.core.consumers ≡ 1) × AreSeated s.core.image s.reader };
 }
 
 impl Subscriber {
@@ -50,28 +45,19 @@ impl Subscriber {
     ghost use Rattle.receiver.specs.Representing.{GoesForward, HasNoFrame, Represents, place_in};
     ghost use Rattle.receiver.specs.Subscribing.{SubscriberBecomes, HearsFrame, answer_of, RefusesFrame, RepresentsSubscriber};
 
-    /// A subscriber to what this core will receive: one that has no image yet and will have one consumer. Messages are
-    /// of at most `greatest` bytes. The error comes only where memory was refused, and gives the core back.
-    pub fn new(
-        alloc: Global,
-        core: ReceiverCore,
-        greatest: usize,
-    ) -> Result<Subscriber, Denied<ReceiverCore>>
+    /// A subscriber to what this core will receive: one that has no image yet and will have one consumer. Messages are of at most
+    /// `greatest` bytes. It wants no memory.
+    pub fn new(alloc: Global, core: ReceiverCore, greatest: usize) -> Subscriber
         requires image { core.image ≡ None }
         requires consumers { core.consumers ≡ 1 }
-        ensures shown { IfOk result (λ s. (r : Receiver) → Represents core r → r.greatest ≡ greatest → RepresentsSubscriber s r) }
-        ensures greatest { IfOk result (λ s. s.assembler.greatest ≡ greatest) }
-        ensures denied { IfErr result (λ d. d.given ≡ core) }
+        ensures shown { (r : Receiver) → Represents core r → r.greatest ≡ greatest → RepresentsSubscriber result r }
+        ensures greatest { result.assembler.greatest ≡ greatest }
     {
-        let Ok(block) = Block::new(alloc, GREATEST_PAYLOAD) else {
-            return Err(Denied { given: core });
-        };
-        Ok(Subscriber {
+        Subscriber {
             core,
             reader: None,
-            assembler: Assembler::new(alloc, greatest),
-            block,
-        })
+            joiner: Joiner::new(Assembler::new(alloc, greatest)),
+        }
     }
 
     /// Takes a datagram at a moment, in nanoseconds, and says what became of each of its frames. At an error memory was refused and nothing has
@@ -127,7 +113,7 @@ impl Subscriber {
     }
 
     /// Hands the frame at the subscriber's position to the assembler, and moves past it.
-    fn poll_frame(&mut self) -> Option<Result<Option<Message<Global>>, AssemblyError>>
+    fn poll_frame(&mut self) -> Option<Step>
         ensures none { IfNone result (self.new ≡ self.old) }
         ensures end { IfNone result ((r : Receiver) → Represents self.old.core r → HasNoFrame r.image 0) }
         ensures heard { IfSome result (λ step. IfOk step (λ m. (r : Receiver) → Represents self.old.core r → HearsFrame r.image r self.old.assembler (option_map (λ x. x.bytes.items) m) self.new)) }
@@ -139,9 +125,9 @@ impl Subscriber {
         let Some(reader) = &mut self.reader else {
             return None;
         };
-        match self.core.read_past(reader, &mut self.block) {
+        match self.core.read_past(reader, &mut self.joiner) {
             None => None,
-            Some(head) => Some(assemble(&mut self.assembler, &head, &self.block)),
+            Some(_) => Some(self.joiner.take_step()),
         }
     }
 

@@ -132,17 +132,12 @@ fn prepare(alloc: Global, log: &LogLine, geometry: &Geometry) -> Result<Parts, A
 }
 
 /// A receiver with half a term as its window, and its subscriber.
-fn subscriber(
-    alloc: Global,
-    log: &LogLine,
-    geometry: &Geometry,
-    number: u32,
-) -> Result<Subscriber, AllocError>
-    ensures { IfOk result (λ s. RepresentsSubscriber s (listening_at (record { geometry = geometry.now; session = log.now.session; stream = log.now.stream }) number)) }
+fn subscriber(alloc: Global, log: &LogLine, geometry: &Geometry, number: u32) -> Subscriber
+    ensures { RepresentsSubscriber result (listening_at (record { geometry = geometry.now; session = log.now.session; stream = log.now.stream }) number) }
 {
     let window = geometry.term_length() / 2;
     let core = ReceiverCore::new(alloc, log.session, log.stream, window, i64::from(number), 1);
-    Ok(Subscriber::new(alloc, core, geometry.max_message() as usize)?)
+    Subscriber::new(alloc, core, geometry.max_message() as usize)
 }
 
 /// The eight receivers.
@@ -156,7 +151,7 @@ fn subscribers(
 {
     let mut subscribers = Vec::with_capacity(alloc, RECEIVERS)?;
     for number in 0..RECEIVERS {
-        subscribers.push(subscriber(alloc, log, geometry, number as u32)?)?;
+        subscribers.push(subscriber(alloc, log, geometry, number as u32))?;
     }
     Ok(subscribers)
 }

@@ -156,7 +156,7 @@ pub fn opened(
     ensures { IfOk result (HasMet plan.now number (setup_of setup.now) now) }
 {
     let core = invited(alloc, plan, number, setup);
-    let mut subscriber = Subscriber::new(alloc, core, GREATEST_MESSAGE)?;
+    let mut subscriber = Subscriber::new(alloc, core, GREATEST_MESSAGE);
     let datagram = datagram_of(*setup);
     subscriber.on_datagram(&datagram, now)?;
     Ok(subscriber)

@@ -1,16 +1,17 @@
 //! A reader reads the frame where it stands, and moves on.
 
-ghost use Rattle.std.specs.Prelude.{◌≡◌, ◌*◌, ◌^◌, ◌≤◌, ◌++◌, drop, length, IfNone, IfSome};
+ghost use Rattle.std.specs.Prelude.{◌≡◌, ℕ, ◌*◌, ◌^◌, ◌≤◌, [], List, length, IfNone, IfSome};
 ghost use Rattle.theory.specs.Placed.{payload_of};
 ghost use Rattle.position.specs.Heads.{head_of};
 ghost use Rattle.frame_words.specs.Contents.{head_by};
 ghost use Rattle.image_rule.specs.Frames.{Says, end_of, frame_said, ring};
 ghost use Rattle.image_rule.specs.Reads.{IsFound, first_of};
-ghost use Rattle.image.specs.Finding.{FindsHere, FindsNothing, PassesOn};
+ghost use Rattle.image.specs.Finding.{FindsFrame, FindsHere, FindsNothing, PassesOn};
 ghost use Rattle.image.specs.Handles.{IsReaderOf, position_of};
 ghost use Rattle.image.specs.Parts.{IsPartOf};
-ghost use Rattle.image.specs.Reading.{IsCopied, MayAdvance};
+ghost use Rattle.image.specs.Reading.{MayAdvance};
 
+use crate::handler::FrameHandler;
 use crate::reader::{ImageReader, Standing, look_as, move_as};
 use crate::words::{Image, Words};
 use block::Block;
@@ -49,75 +50,110 @@ fn shown_head<N: Picked>(image: &Words, part: &ReadAccess, unit: u64) -> FrameHe
     head_among(part.bytes(&image.region, image.start, at, 8), 32 * unit)
 }
 
-/// Copies the payload of the frame at a unit that a part shows, of so many bytes, to the front of others.
-fn copy_payload<N: Picked>(
-    image: &Words,
-    part: &ReadAccess,
+/// The payload of the frame at a unit that a part shows, which has so many bytes, where it lies.
+fn shown_payload<'a, N: Picked>(
+    image: &'a Words,
+    part: &'a ReadAccess,
     unit: u64,
     count: usize,
-    bytes: &mut [u8],
-)
+) -> &'a [u8]
     requires says { Says N.frame × (N.frame.unit ≡ unit) }
     requires few { unit ≤ 2 ^ 56 }
     requires part { IsPartOf (ring image.now.key) image.now.table.shared.key.region N.frame part.now }
     requires count { count ≡ length (payload_of (frame_said N.frame.bytes)) }
     requires low { count ≤ 65472 }
-    requires inside { count ≤ length bytes.old }
-    ensures copied { IsCopied (frame_said N.frame.bytes) bytes.old bytes.new }
-    ensures same_length { length bytes.new ≡ length bytes.old }
+    ensures { result.now ≡ payload_of (frame_said N.frame.bytes) }
 {
     let _ = &image.table;
     let at = image.byte(unit);
-    let whole = part.bytes(&image.region, image.start, at, 32 + count);
-    bytes[..count].copy_from_slice(&whole[32..]);
+    &part.bytes(&image.region, image.start, at, 32 + count)[32..]
 }
 
-/// Reads the frame at a unit that a part shows: its payload is copied to a block's front.
-fn read_part<N: Picked>(image: &Words, part: &ReadAccess, unit: u64, block: &mut Block) -> FrameHead
+/// The bytes of the payload of the frame that a head shows.
+fn payload_length<N: Picked>(head: &FrameHead) -> usize
+    requires says { Says N.frame }
+    requires head { head.now ≡ head_of head.now.start (frame_said N.frame.bytes) }
+    ensures count { result ≡ length (payload_of (frame_said N.frame.bytes)) }
+    ensures low { result ≤ 65472 }
+{
+    match head.kind {
+        FrameKind::Data => head.frame_length as usize - 32,
+        FrameKind::Pad => 0,
+    }
+}
+
+/// Hands the frame at a unit that a part shows to who takes it.
+fn read_part<N: Picked, H: FrameHandler>(
+    image: &Words,
+    part: &ReadAccess,
+    unit: u64,
+    handler: &mut H,
+) -> FrameHead
     requires says { Says N.frame × (N.frame.unit ≡ unit) }
     requires few { unit ≤ 2 ^ 56 }
     requires part { IsPartOf (ring image.now.key) image.now.table.shared.key.region N.frame part.now }
-    requires room { 65472 ≤ length block.old }
     ensures head { result ≡ head_of (32 * unit) (frame_said N.frame.bytes) }
-    ensures copied { IsCopied (frame_said N.frame.bytes) block.old block.new }
+    ensures handed { H.takes handler.old result (payload_of (frame_said N.frame.bytes)) handler.new }
 {
     let _ = &image.table;
     let head = shown_head::<N>(image, part, unit);
-    match head.kind {
-        FrameKind::Data => {
-            let count = head.frame_length as usize - 32;
-            copy_payload::<N>(image, part, unit, count, block.bytes_mut());
-        }
-        FrameKind::Pad => {}
-    }
+    let count = payload_length::<N>(&head);
+    handler.on_frame(&head, shown_payload::<N>(image, part, unit, count));
     head
 }
 
-/// Reads the frame that the reader found last, of which it has its part, to a block's front.
-fn read_held<N: Picked>(image: &Words, reader: &mut Standing, block: &mut Block) -> FrameHead
+/// Hands the frame that the reader found last, of which it has its part, to who takes it.
+fn read_held<N: Picked, H: FrameHandler>(
+    image: &Words,
+    reader: &mut Standing,
+    handler: &mut H,
+) -> FrameHead
     requires chosen { N.frame ≡ first_of reader.old.seat.me.0.reading.known }
     requires fits { reader.old.seat.table_id ≡ image.now.table.shared.table_id }
     requires ring { (reader.old.units ≡ ring image.now.key) × (reader.old.region ≡
         image.now.table.shared.key.region) }
     requires found { IsFound reader.old.seat.me.0 × (reader.old.seat.me.0.reading.holds ≡ 1) }
-    requires room { 65472 ≤ length block.old }
     ensures fits { reader.new.seat.table_id ≡ reader.old.seat.table_id }
     ensures same { (reader.new.seat.me.0 ≡ reader.old.seat.me.0) × (reader.new.units ≡
         reader.old.units) × (reader.new.region ≡ reader.old.region) }
     ensures ends { reader.new.read_to ≡ end_of (first_of reader.old.seat.me.0.reading.known) }
     ensures head { result ≡ head_of (32 * reader.old.unit) (frame_said (first_of
         reader.old.seat.me.0.reading.known).bytes) }
-    ensures copied { IsCopied (frame_said (first_of reader.old.seat.me.0.reading.known).bytes)
-        block.old block.new }
+    ensures handed { H.takes handler.old result (payload_of (frame_said (first_of
+        reader.old.seat.me.0.reading.known).bytes)) handler.new }
 {
     let _ = &image.table;
     let words = &image.table.shared;
     let slot = image.slot(reader.unit, reader.number);
     let part = words.exchange(&mut reader.seat, slot, ReadAccess::none());
-    let head = read_part::<N>(image, &part, reader.unit, block);
+    let head = read_part::<N, H>(image, &part, reader.unit, handler);
     let _none = words.exchange(&mut reader.seat, slot, part);
     reader.read_to = reader.unit + u64::from(align32(head.frame_length)) / 32;
     head
+}
+
+/// Hands the frame that was stored where the reader stands to who takes it, its payload where it lies, and the reader stays.
+/// There is none only where its held bit, loaded in this call, was zero: a look more is counted then, and nothing is handed
+/// over.
+pub fn read_with<H: FrameHandler>(
+    image: &Image,
+    reader: &mut ImageReader,
+    handler: &mut H,
+) -> Option<FrameHead>
+    requires fits { IsReaderOf image.now reader.old }
+    ensures fits { IsReaderOf image.now reader.new }
+    ensures found { IfSome result (λ head. (payload : List ℕ) × FindsFrame reader.old head payload
+        reader.new × H.takes handler.old head payload handler.new) }
+    ensures none { IfNone result (FindsNothing reader.old [] reader.new []
+        × (handler.new ≡ handler.old)) }
+    ensures may { IfSome result (λ _. MayAdvance reader.new) }
+{
+    let _ = &image.words;
+    let word = look_as::<Brand>(&image.words, &mut reader.standing);
+    if (word >> (reader.standing.unit % 64)) & 1 == 0 {
+        return None;
+    }
+    Some(read_held::<Brand, H>(&image.words, &mut reader.standing, handler))
 }
 
 /// Reads the frame that was stored where the reader stands: its payload is copied to the block's front, and the reader stays.
@@ -132,12 +168,7 @@ pub fn read(image: &Image, reader: &mut ImageReader, block: &mut Block) -> Optio
     ensures may { IfSome result (λ _. MayAdvance reader.new) }
     ensures same_length { length block.new ≡ length block.old }
 {
-    let _ = &image.words;
-    let word = look_as::<Brand>(&image.words, &mut reader.standing);
-    if (word >> (reader.standing.unit % 64)) & 1 == 0 {
-        return None;
-    }
-    Some(read_held::<Brand>(&image.words, &mut reader.standing, block))
+    read_with(image, reader, block)
 }
 
 /// Moves the reader behind the frame that it has read. The answer is its new position.

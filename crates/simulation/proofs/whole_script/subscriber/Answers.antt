@@ -9,7 +9,7 @@ returns c =
     let session : FitsSigned w32 c.args.log.now.session = search rules in
     let stream : FitsSigned w32 c.args.log.now.stream = search rules in
     let number : FitsSigned w64 c.from.result = search rules in
-    c.in_ok-new.ensures.shown _
+    c.new.ensures.shown _
     (shows_listening _ _ _ _ _ _ _ _ _ _
     (to_z-of_z w32 c.args.log.now.session session)
     (to_z-of_z w32 c.args.log.now.stream stream)

@@ -1,41 +1,11 @@
-use Rattle.std.proofs.Common.{◌≡◌, ℕ, List, refl, sym, ◌∙◌, subst}
-use Rattle.image_rule.specs.declared.view.Site.{Site}
-use Rattle.image_rule.specs.declared.view.View.{View}
-use Rattle.image_rule.specs.Steps.{FindsPart}
-use Rattle.image.specs.Handles.{ImageId, ReaderSeat}
-use Rattle.image.specs.Reading.{ReadsFrame, ReadsNone}
-use Rattle.image.proofs.Finds.{looked_none, looked_some, reads_frame}
-use Rattle.image.proofs.Here.{finds_here, finds_nothing}
+use Rattle.image.proofs.Here.{found_block, missed_block, same_length}
 use Rattle.image.proofs.reader.reading.read.Goals as goal
 
-pub returns-then-word-reader-eq0-clause-none : goal.returns-then-word-reader-eq0-clause-none
-returns-then-word-reader-eq0-clause-none c =
-    let i = c.image.inside.words in let s = c.reader.inside.standing in let w = c.look_as-word.new.reader in let t : Site = i.table.shared.key in
-    let told = c.look_as-word.ensures.told in let block : List ℕ = c.args.block.now in
-    let none = looked_none t s.seat.me w.seat.me w.unit c.look_as-word.result told (c.look_as-word.ensures.same.0 ∙ s.unit_is) c.if-word-reader-eq0.true in
-    let r : ReaderSeat = record { of = record { table = s.seat.table_id; region = s.region; units = s.units }; view = s.seat.me.0; read_to = s.read_to } in
-    let q : ReaderSeat = record { of = record { table = w.seat.table_id; region = w.region; units = w.units }; view = w.seat.me.0; read_to = w.read_to } in
-    let rests : q.read_to ≡ r.view.reading.unit = c.look_as-word.ensures.same.2 ∙ s.unit_is in
-    let reads : ReadsNone r block q block = record {
-      finds = record { none = none.2; after = none.0 };
-      same = (λ j. record { of = record { table = c.look_as-word.ensures.fits j; region = c.look_as-word.ensures.ring.1 j; units = c.look_as-word.ensures.ring.0 j }; view = q.view; read_to = rests j });
-      untouched = refl;
-    } in
-    finds_nothing c.args.reader.now q block block (subst (λ (x : ReaderSeat). ReadsNone x block q block) c.reader.view_is reads)
-
 pub returns-clause-found : goal.returns-clause-found
-returns-clause-found c =
-    let i = c.image.inside.words in let s = c.reader.inside.standing in let w = c.look_as-word.new.reader in let z = c.read_held.new.reader in let t : Site = i.table.shared.key in
-    let told = c.look_as-word.ensures.told in let at : w.unit ≡ s.seat.me.0.reading.unit = c.look_as-word.ensures.same.0 ∙ s.unit_is in
-    let found : FindsPart t s.seat.me w.seat.me = looked_some t s.seat.me w.seat.me w.unit c.look_as-word.result told at c.if-word-reader-eq0.false in
-    let of : ImageId = record { table = s.seat.table_id; region = s.region; units = s.units } in
-    let of' : ImageId = record { table = z.seat.table_id; region = z.region; units = z.units } in
-    let e = c.read_held.ensures in let l = c.look_as-word.ensures in
-    let same : of' ≡ of = (λ j. record { table = (e.fits ∙ l.fits) j; region = (e.same.2 ∙ l.ring.1) j; units = (e.same.1 ∙ l.ring.0) j }) in
-    let r : ReaderSeat = record { of = of; view = s.seat.me.0; read_to = s.read_to } in
-    let q : ReaderSeat = record { of = of'; view = z.seat.me.0; read_to = z.read_to } in
-    let reads : ReadsFrame r c.read_held.result c.args.block.now (record { of = of'; view = w.seat.me.0; read_to = z.read_to }) c.read_held.new.block =
-    reads_frame t s.seat.me w.seat.me found of of' s.read_to z.read_to w.unit c.read_held.result c.args.block.now c.read_held.new.block same at e.ends e.head e.copied in
-    finds_here c.args.reader.now q c.read_held.result c.args.block.now c.read_held.new.block
-    (subst (λ (x : ReaderSeat × View). ReadsFrame x.0 c.read_held.result c.args.block.now (record { of = of'; view = x.1; read_to = z.read_to }) c.read_held.new.block) (λ j. (c.reader.view_is j, sym e.same.0 j)) reads)
-    c.requires.room
+returns-clause-found c = found_block c.args.reader.now c.read_with.new.reader c.args.block.now c.read_with.new.handler c.read_with.result c.read_with.ensures.found c.requires.room
+
+pub returns-clause-none : goal.returns-clause-none
+returns-clause-none c = missed_block c.args.reader.now c.read_with.new.reader c.args.block.now c.read_with.new.handler c.read_with.result c.read_with.ensures.none
+
+pub returns-clause-same_length : goal.returns-clause-same_length
+returns-clause-same_length c = same_length c.args.reader.now c.read_with.new.reader c.args.block.now c.read_with.new.handler c.read_with.result c.read_with.ensures.found c.read_with.ensures.none c.requires.room

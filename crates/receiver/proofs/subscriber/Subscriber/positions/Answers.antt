@@ -6,7 +6,7 @@ use Rattle.receiver.proofs.subscriber.Subscriber.positions.Goals as goal
 stands : (c : goal.After-high_water) → (c.in-Some.image.now.seen ≡ position_of c.in-Some-reader.reader ∷ []) × (position_of c.in-Some-reader.reader ≤ c.rebuilt.result)
 stands c =
     let is : c.self.inside.core.image ≡ Some c.in-Some.image.now = search rules in
-    stands_below c.self.inside.core.image c.self.inside.reader c.in-Some.image.now c.in-Some-reader.reader c.rebuilt.result c.self.invariant.2 is c.in-Some-reader.is c.rebuilt.ensures.behind
+    stands_below c.self.inside.core.image c.self.inside.reader c.in-Some.image.now c.in-Some-reader.reader c.rebuilt.result c.self.invariant.1 is c.in-Some-reader.is c.rebuilt.ensures.behind
 
 pub returns-clause-told : goal.returns-clause-told
 returns-clause-told c =
