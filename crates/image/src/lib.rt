@@ -7,7 +7,6 @@
 //! were ever stored, the high-water mark, the floor below which nothing is held any more, and where it saw the consumers and
 //! how often it looked at each. Stored frames never overlap (`stored_apart`). The first gap is the defined one, and finding it
 //! takes at most two looks at words of bits and one for each 2,048 of its bytes (`first_gap`, `held_word`, `Steps`).
-//! `LossDetector::scan` says when a gap is told.
 //!
 //! The bytes of frames lie in plain memory, each as on the wire, and are copied in and out by plain copies. The words that
 //! are shared have a held bit and a start bit for each unit, and where the consumers stand. Who may write a frame's bytes, and
@@ -21,7 +20,6 @@
 #![tactic(auto)]
 
 mod answer;
-mod detector;
 mod fault;
 mod handler;
 mod held;
@@ -33,7 +31,6 @@ mod steps;
 mod words;
 
 pub use answer::Insert;
-pub use detector::LossDetector;
 pub use fault::{CONSUMERS, ImageError};
 pub use handler::FrameHandler;
 pub use inserter::gap::{first_gap, held_word};

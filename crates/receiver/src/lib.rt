@@ -19,6 +19,7 @@ mod assembling;
 mod dealing;
 mod denied;
 mod lives;
+mod loss_detector;
 mod message_reader;
 mod opened;
 mod poll_error;

@@ -22,6 +22,7 @@ ghost use Rattle.receiver.specs.Seating.{AreSeated, MaySit, Sits};
 ghost use Rattle.receiver.specs.Texts.{outcome_text};
 
 use crate::assembling::Joiner;
+use crate::loss_detector::LossDetector;
 use crate::opened::{OpenImage, open};
 use crate::positions::Positions;
 use crate::readers::Readers;
@@ -30,7 +31,7 @@ use crate::setup::judgement::judge;
 use frames::{
     FaultCounts, Frame, FrameError, Header, Nak, Setup, Status, check_datagram, known_frame,
 };
-use image::{ImageReader, Insert, LossDetector};
+use image::{ImageReader, Insert};
 use position::{FrameHead, Gap, Geometry, Identity};
 use std::alloc::{AllocError, Global};
 use std::fmt;

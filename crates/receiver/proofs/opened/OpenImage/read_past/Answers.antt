@@ -49,7 +49,7 @@ returns-clause-read c =
     if_some c.read_past_with.result (λ head e. (
       e.0,
       subst (λ (v : Inserting). (o : Opened) → RepresentsImage v o → ReadsPast o 0 head e.0 (RepresentsImage c.read_past_with.new.inserter)) c.self.view_is
-      (reads_past c.self.inside.inserter c.read_past_with.new.inserter c.args.reader.now c.read_past_with.new.reader head e.0 (alone c).met e.1),
+          (reads_past c.self.inside.inserter c.read_past_with.new.inserter c.args.reader.now c.read_past_with.new.reader head e.0 (alone c).met e.1),
       e.2,
     )) c.read_past_with.ensures.read
 

@@ -10,7 +10,7 @@ const DELAY: u64 = 1_000_000;
 
 /// Watches one gap, known by its start.
 #[derive(Drop)]
-pub struct LossDetector {
+pub(crate) struct LossDetector {
     /// The greatest moment that it has seen.
     clock: u64,
     /// The start of the gap that it watches.
@@ -29,7 +29,7 @@ impl Model for LossDetector {
 
 impl LossDetector {
     /// A detector that has seen no moment and watches nothing.
-    pub fn new() -> LossDetector
+    pub(crate) fn new() -> LossDetector
         ensures { result ≡ record { clock = 0; active = None; deadline = 0 } }
     {
         LossDetector {
@@ -42,7 +42,7 @@ impl LossDetector {
     /// Takes a moment, in nanoseconds, and the first gap at it. A gap with a new start is watched from now on and not
     /// told; one with the same start is told a millisecond later or more, with its present length, and watched anew.
     /// Without a gap nothing is watched. A moment before one that was seen counts as that one.
-    pub fn scan(&mut self, now: u64, gap: Option<Gap>) -> Option<Gap>
+    pub(crate) fn scan(&mut self, now: u64, gap: Option<Gap>) -> Option<Gap>
         ensures watch { self.new ≡ (scan self.old now (gap_of gap)).watch }
         ensures told { gap_of result ≡ (scan self.old now (gap_of gap)).told }
     {
