@@ -1,7 +1,7 @@
 //! Why a socket can't be had.
 
 ghost use Rattle.std.specs.Prelude.{◌≡◌, Some};
-ghost use Rattle.endpoint.specs.Texts.{device_of, open_text};
+ghost use Rattle.endpoint.specs.Texts.{open_text};
 
 use crate::device_error::DeviceError;
 use std::fmt;
@@ -20,17 +20,10 @@ impl fmt::Display for OpenError {
     ghost output = { λ error. Some (open_text error) };
 
     fn fmt<W: fmt::Write>(&self, f: &mut fmt::Formatter<W>) -> fmt::Result {
-        f.write_str(DeviceError::from(*self).text())
-    }
-}
-
-impl From<OpenError> for DeviceError {
-    ghost from_gives = { λ from error. error ≡ device_of from };
-
-    fn from(error: OpenError) -> DeviceError {
-        match error {
+        let error = match self {
             OpenError::Refused(_) => DeviceError::Device,
             OpenError::Memory => DeviceError::Memory,
-        }
+        };
+        f.write_str(error.text())
     }
 }

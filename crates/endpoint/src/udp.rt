@@ -6,7 +6,6 @@ ghost use Rattle.endpoint.specs.Devices.{HasGrown, NeverFall, fresh, with_failur
 
 use crate::datagrams::{Datagrams, DeviceFailed, GREATEST_DATAGRAM};
 use crate::device_error::DeviceError;
-use crate::open_error::OpenError;
 use std::alloc::Global;
 use std::io::ErrorKind;
 use std::marker::Model;
@@ -67,8 +66,12 @@ fn here(port: u16) -> SocketAddr {
     SocketAddr::V4(SocketAddrV4::new(Ipv4Addr::LOCALHOST, port))
 }
 
-/// A socket that is bound so, and its port.
-fn open<R: Net>(rt: &R, binding: &Binding) -> io::Result<(UdpSocket, u16)> {
+/// A socket at a port of 127.0.0.1 that the system chooses, and that port.
+fn open<R: Net>(rt: &R) -> io::Result<(UdpSocket, u16)> {
+    let binding = Binding {
+        address: here(0),
+        ttl: None,
+    };
     let socket = binding.open(rt)?;
     let port = socket.local_addr()?.port();
     Ok((socket, port))
@@ -88,21 +91,10 @@ impl UdpDevice {
     pub fn bind<R: Net>(rt: &R, alloc: Global) -> Result<UdpDevice, DeviceError>
         ensures { IfOk result (λ u. u.device ≡ fresh) }
     {
-        let binding = Binding {
-            address: here(0),
-            ttl: None,
+        let arrived = vec![in alloc; 0; GREATEST_DATAGRAM]?;
+        let Ok((socket, port)) = open(rt) else {
+            return Err(DeviceError::Device);
         };
-        Ok(UdpDevice::bind_at(rt, alloc, &binding)?)
-    }
-
-    /// A device that is bound so, with no peer yet.
-    fn bind_at<R: Net>(rt: &R, alloc: Global, binding: &Binding) -> Result<UdpDevice, OpenError>
-        ensures { IfOk result (λ u. u.device ≡ fresh) }
-    {
-        let arrived = vec![in alloc; 0; GREATEST_DATAGRAM].map_err(|_| OpenError::Memory)?;
-        let (socket, port) = open(rt, binding).map_err(|error| OpenError::Refused(
-            error.raw_os_error(),
-        ))?;
         Ok(UdpDevice {
             socket,
             port,
@@ -119,17 +111,6 @@ impl UdpDevice {
         let mut device = UdpDevice::bind(rt, alloc)?;
         device.connect(peer)?;
         Ok(device)
-    }
-
-    /// A device along a route.
-    pub fn bind_along<R: Net>(rt: &R, alloc: Global, route: &Route) -> Result<UdpDevice, OpenError>
-        ensures { IfOk result (λ u. u.device ≡ fresh) }
-    {
-        let device = UdpDevice::bind_at(rt, alloc, &route.binding)?;
-        match device.socket.connect(route.peer) {
-            Ok(()) => Ok(device),
-            Err(error) => Err(OpenError::Refused(error.raw_os_error())),
-        }
     }
 
     /// Two devices at ports of 127.0.0.1 that the system chooses, each the other's peer.
