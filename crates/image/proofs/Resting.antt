@@ -3,7 +3,6 @@ use Rattle.std.proofs.Common.{◌≡◌, ℕ, ◌+◌, ◌*◌, ◌%◌, ◌≤�
 use Rattle.std.specs.Prelude.{slice_set, take}
 use Rattle.std.specs.Int.{to_le_bytes, w64}
 use Rattle.region.specs.declared.access.RegionKey.{RegionKey}
-use Rattle.region.specs.Identity.{Identity}
 use Rattle.region.specs.Pooled.{stands}
 use Rattle.image_rule.specs.declared.view.Frame.{Frame}
 use Rattle.image_rule.specs.declared.view.Held.{Held}

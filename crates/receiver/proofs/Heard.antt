@@ -4,16 +4,15 @@ use Rattle.std.specs.Prelude.{◌+◌, ◌-◌, ◌<◌, ◌^◌, IfErr, IfOk, R
 use Rattle.assembler.specs.declared.assembler.Message.{Message}
 use Rattle.std.specs.Option.{option_to_list}
 use Rattle.std.proofs.lemmas.List.{map-append}
-use Rattle.theory.specs.Placed.{Among, Chain, Data, Frame, Pad, Placed, is_padding, payload_of}
+use Rattle.theory.specs.Placed.{Among, Chain, Data, Frame, Pad, Placed}
 use Rattle.theory.specs.Assembly.{Assembly, after, after_all, on_frame}
 use Rattle.theory.proofs.Follow.{Chain-append, Chain-push}
 use Rattle.theory.proofs.Lists.{all_append, all_pushed, all_weaker}
 use Rattle.theory.proofs.Stays.{after_last}
 use Rattle.assembler.specs.Assembling.{Assembling}
 use Rattle.assembler.specs.declared.fault.AssemblyError.{AssemblyError}
-use Rattle.assembler.specs.declared.fault.AssemblyError.TheVariants.{Memory, TooLong}
+use Rattle.assembler.specs.declared.fault.AssemblyError.TheVariants.{TooLong}
 use Rattle.receiver.specs.Polling.{AsksMemory, IsTooLong}
-use Rattle.image.specs.Kinds.{head_at}
 use Rattle.position.specs.declared.head.FrameHead.{FrameHead}
 use Rattle.image.specs.Finding as finding
 use Rattle.image.specs.Finding.{FindsNothing, PassesOn, read_end}

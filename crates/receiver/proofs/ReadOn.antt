@@ -6,12 +6,9 @@ use Rattle.theory.specs.Position.{IsGeometry, max_position}
 use Rattle.theory.specs.Placed.{Among, Placed, end_of, frame_length}
 use Rattle.theory.specs.Units.{IsContiguous}
 use Rattle.theory.specs.Consumer.{Consumer}
-use Rattle.theory.specs.Insert.{AreApart, head_of}
 use Rattle.theory.proofs.Lists.{all_at}
-use Rattle.theory.proofs.Parted.{one_frame}
 use Rattle.position.specs.declared.head.FrameHead.{FrameHead}
-use Rattle.image.specs.Kinds.{head_at}
-use Rattle.image.specs.Seen.{IsFit, IsShown}
+use Rattle.image.specs.Seen.{IsFit}
 use Rattle.image.specs.Handles.{ImageWords, ReaderSeat, position_of}
 use Rattle.image.specs.Meeting as hand
 use Rattle.image.specs.Meeting.{AreAlone, StandsAtEnd}

@@ -1,4 +1,4 @@
-use Rattle.std.proofs.Common.{[], refl}
+use Rattle.std.proofs.Common.{[]}
 use Rattle.image.proofs.OneHand.{alone_at_end, alone_past, passes_frame, stands_at_end}
 use Rattle.image.proofs.meeting.read_past_with.Goals as goal
 

@@ -5,7 +5,6 @@ use Rattle.image_rule.specs.Frames.{frame_said}
 use Rattle.image_rule.specs.Reads.{first_of}
 use Rattle.image_rule.specs.Steps.{FindsPart}
 use Rattle.theory.specs.Placed.{payload_of}
-use Rattle.image.specs.Finding.{FindsFrame}
 use Rattle.image.specs.Handles.{ImageId, ReaderSeat}
 use Rattle.image.specs.Reading.{ReadsNone, ShowsFrame}
 use Rattle.image.proofs.Finds.{looked_none, looked_some, shows_frame}

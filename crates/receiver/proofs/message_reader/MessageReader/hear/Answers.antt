@@ -1,9 +1,8 @@
-use Rattle.std.proofs.Common.{◌≡◌, sym, ap, subst}
+use Rattle.std.proofs.Common.{◌≡◌, sym, subst}
 use Rattle.std.specs.Prelude.{IfErr, IfOk, option_map}
 use Rattle.std.specs.Arc.{arc_value}
 use Rattle.assembler.specs.Assembling.{Assembling}
 use Rattle.image.specs.Handles.{position_of}
-use Rattle.receiver.specs.declared.assembling.Joiner.{Joiner}
 use Rattle.receiver.specs.Reading.{FindsNone, HearsOne, Reading, RefusesOne, heard_to_of}
 use Rattle.receiver.proofs.Heard.{found_by, hears_if, missed, refuses_if, taken_joins}
 use Rattle.receiver.proofs.message_reader.MessageReader.hear.Goals as goal

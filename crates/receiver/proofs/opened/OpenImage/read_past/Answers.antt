@@ -1,5 +1,5 @@
 use Rattle.std.specs.Prelude.{IfNone, IfSome, OnSome}
-use Rattle.std.proofs.Common.{◌≡◌, ℕ, ◌≤◌, List, Option, None, Some, ◌∙◌, sym, ap, subst}
+use Rattle.std.proofs.Common.{◌≡◌, ◌≤◌, Option, None, Some, ◌∙◌, sym, ap, subst}
 use Rattle.theory.specs.Position.{IsGeometry, max_position}
 use Rattle.std.specs.Arc.{arc_value}
 use Rattle.position.specs.declared.head.FrameHead.{FrameHead}
