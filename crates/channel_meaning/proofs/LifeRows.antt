@@ -35,7 +35,7 @@ subscribed plan = record plan { end = record plan.end { stream = pos 1001; form 
 
 abbrev pub inserter : List Placed → ℕ → ℕ → Inserting
 inserter stored high at = record {
-  of = table;
+  of = record { table = table; region = record { identity = record { life = 0; names = []; block = 0; first = 0 } }; units = 6144 };
   key = record { identity = identity; join = 0; consumers = 1 };
   window = 32768;
   stored = stored;
