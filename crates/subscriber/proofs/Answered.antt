@@ -1,5 +1,5 @@
 -- That a subscriber answers the end of its stream.
-use Rattle.std.proofs.Common.{◌≡◌, ◌∙◌, ◌⊎◌, ◌+◌, ◌%◌, ◌^◌, ℕ, List, [], ◌∷◌, ◌++◌, map, Bool, IsTrue, Option, None, Some, inl, inr, refl, sym, ap, subst, false, true}
+use Rattle.std.proofs.Common.{◌≡◌, ◌∙◌, ◌⊎◌, ◌+◌, ◌%◌, ◌^◌, ℕ, List, [], ◌++◌, map, Bool, if◌then◌else◌, IsTrue, Option, None, Some, inl, inr, refl, sym, ap, subst}
 use Rattle.std.specs.declared.net.SocketAddr.{SocketAddr}
 use Rattle.agents.specs.Cycles.{Cycle}
 use Rattle.agents.specs.Parties.{ReceiverHears, ReceiverTicks}
@@ -10,8 +10,8 @@ use Rattle.options.specs.declared.ends.plans.SubscribePlan.{SubscribePlan}
 use Rattle.receiver.specs.Lives.{Act, ActsSo, Hears, Lives, Ticks}
 use Rattle.receiver.specs.Subscribing.{Subscribing}
 use Rattle.peer.specs.Ties.{Offer}
-use Rattle.subscription.specs.Offers.{SubscriberDevice, setup_taken}
-use Rattle.subscription.specs.Watches.{AttendsEach, IsWithinTurn, Seen, looking}
+use Rattle.subscription.specs.Offers.{setup_taken}
+use Rattle.subscription.specs.Watches.{AttendsEach, IsWithinTurn, JudgesEach, Seen, looking}
 use Rattle.subscription.specs.declared.images.Images.{Images}
 use Rattle.subscription.specs.declared.joined.Joined.{Joined}
 use Rattle.subscription.specs.declared.meeting.Meeting.{Meeting}
@@ -20,7 +20,7 @@ use Rattle.subscriber.proofs.Lived.{all_heard, follows_on, lives_on, same_life}
 use Rattle.subscriber.specs.Answering.{AnswersEnd, HasAnswered, IsTicked, TellsPlace, ahead_of}
 use Rattle.subscriber.specs.Leavings.{ListensOn, LivesUnpolled}
 use Rattle.subscriber.specs.Living.{Follows, LivesOn, WritesActs}
-use Rattle.subscriber.specs.Standing.{HasAll, Stands}
+use Rattle.subscriber.specs.Losing.{JudgesTurn}
 use Rattle.subscriber.specs.Turning.{Attends, Considers, ConsidersOffer, Passes, Renews, Resumes, with_device}
 use Rattle.subscriber.specs.declared.standing.Stand.{Stand}
 
@@ -107,33 +107,58 @@ attended_answered plan s t j k p h = offered plan s p.2 p.0 (with_device j (setu
 -- ---- turns
 
 turned_within : (plan : SubscribePlan) (s t : Seen) (m : Meeting) (rebuilt : ℕ) (j k : Joined) → Passes s m rebuilt j k t ⊎ Resumes s m rebuilt j k t ⊎ Renews plan s m rebuilt j k t → IsWithinTurn s t
-turned_within plan s t m rebuilt j k (inl p) = record { turns = ap (λ x. x.turns) p.seen; attended = ap (λ x. x.attended) p.seen }
-turned_within plan s t m rebuilt j k (inr (inl p)) = record { turns = ap (λ x. x.turns) p.seen; attended = ap (λ x. x.attended) p.seen }
-turned_within plan s t m rebuilt j k (inr (inr p)) = record { turns = ap (λ x. x.turns) p.seen; attended = ap (λ x. x.attended) p.seen }
+turned_within plan s t m rebuilt j k (inl p) = record { turns = ap (λ x. x.turns) p.seen; attended = ap (λ x. x.attended) p.seen; judged = ap (λ x. x.judged) p.seen }
+turned_within plan s t m rebuilt j k (inr (inl p)) = record { turns = ap (λ x. x.turns) p.seen; attended = ap (λ x. x.attended) p.seen; judged = ap (λ x. x.judged) p.seen }
+turned_within plan s t m rebuilt j k (inr (inr p)) = record { turns = ap (λ x. x.turns) p.seen; attended = ap (λ x. x.attended) p.seen; judged = ap (λ x. x.judged) p.seen }
 
 considered_within : (plan : SubscribePlan) (from : SocketAddr) (f : Setup) (s t : Seen) (j k : Joined) → Considers plan s from f j k t → IsWithinTurn s t
-considered_within plan from f s t j k (inl p) = record { turns = ap (λ x. x.turns) p.2; attended = ap (λ x. x.attended) p.2 }
+considered_within plan from f s t j k (inl p) = record { turns = ap (λ x. x.turns) p.2; attended = ap (λ x. x.attended) p.2; judged = ap (λ x. x.judged) p.2 }
 considered_within plan from f s t j k (inr p) = turned_within plan s t p.0 p.2.0 j k p.2.2
 
 offered_within : (plan : SubscribePlan) (s t : Seen) (offer : Offer) (j k : Joined) → ConsidersOffer plan s offer j k t → IsWithinTurn s t
-offered_within plan s t None j k p = record { turns = ap (λ x. x.turns) p.1; attended = ap (λ x. x.attended) p.1 }
+offered_within plan s t None j k p = record { turns = ap (λ x. x.turns) p.1; attended = ap (λ x. x.attended) p.1; judged = ap (λ x. x.judged) p.1 }
 offered_within plan s t (Some offer) j k p = considered_within plan offer.0 offer.1 s t j k p
 
+-- in a turn it was judged once whether the image is lost, and nothing was attended yet
+pub record HasJudged (s t : Seen) : Type 0 where
+  pub turns : t.turns ≡ s.turns
+  pub attended : t.attended ≡ s.attended
+  pub judged : t.judged ≡ (s.judged + 1) % 2 ^ 64
+
+-- and then nothing else was but that lines were told
+pub has_judged : (s t u : Seen) (j k : Joined) → JudgesTurn s j k t → IsWithinTurn t u → HasJudged s u
+has_judged s t u j k h told = record {
+  turns = told.turns ∙ ap (λ x. x.turns) h.counted ∙ h.within.turns;
+  attended = told.attended ∙ ap (λ x. x.attended) h.counted ∙ h.within.attended;
+  judged = told.judged ∙ ap (λ x. x.judged) h.counted ∙ ap (λ (b : Bool). if b then (h.noted.judged + 1) % 2 ^ 64 else h.noted.judged) h.still ∙ ap (λ (n : ℕ). (n + 1) % 2 ^ 64) h.within.judged;
+}
+
 -- a turn begins, and what came of SETUPs in it is attended
-pub turn_attended : (plan : SubscribePlan) (r s a t : Seen) (now : ℕ) (j k : Joined) → r.turns ≡ r.attended → s ≡ looking r now → IsWithinTurn s a → Attends plan a j k t → t.turns ≡ t.attended
-turn_attended plan r s a t now j k before looks within p =
+pub turn_attended : (plan : SubscribePlan) (r s a t : Seen) (now : ℕ) (j k : Joined) → r.turns ≡ r.attended → s ≡ looking r now → HasJudged s a → Attends plan a j k t → t.turns ≡ t.attended
+turn_attended plan r s a t now j k before looks once p =
     let u = p.2 in
     let so = offered_within plan a u p.0 (with_device j (setup_taken j.duty.device)) k p.3 in
-    ap (λ x. x.turns) p.4 ∙ so.turns ∙ within.turns ∙ ap (λ x. x.turns) looks
-    ∙ ap (λ (n : ℕ). (n + 1) % 2 ^ 64) (before ∙ sym (ap (λ x. x.attended) looks) ∙ sym within.attended ∙ sym so.attended) ∙ sym (ap (λ x. x.attended) p.4)
+    ap (λ x. x.turns) p.4 ∙ so.turns ∙ once.turns ∙ ap (λ x. x.turns) looks
+    ∙ ap (λ (n : ℕ). (n + 1) % 2 ^ 64) (before ∙ sym (ap (λ x. x.attended) looks) ∙ sym once.attended ∙ sym so.attended) ∙ sym (ap (λ x. x.attended) p.4)
 
 -- before that it is one turn ahead
-pub turn_ahead : (r s a : Seen) (now : ℕ) → r.turns ≡ r.attended → s ≡ looking r now → IsWithinTurn s a → AttendsEach a
-turn_ahead r s a now before looks within =
-    within.turns ∙ ap (λ x. x.turns) looks ∙ ap (λ (n : ℕ). (n + 1) % 2 ^ 64) (before ∙ sym (ap (λ x. x.attended) looks) ∙ sym within.attended)
+pub turn_ahead : (r s a : Seen) (now : ℕ) → r.turns ≡ r.attended → s ≡ looking r now → HasJudged s a → AttendsEach a
+turn_ahead r s a now before looks once =
+    once.turns ∙ ap (λ x. x.turns) looks ∙ ap (λ (n : ℕ). (n + 1) % 2 ^ 64) (before ∙ sym (ap (λ x. x.attended) looks) ∙ sym once.attended)
+
+-- and it is judged in it
+pub turn_judged : (r s a : Seen) (now : ℕ) → JudgesEach r → s ≡ looking r now → HasJudged s a → JudgesEach a
+turn_judged r s a now before looks once =
+    once.turns ∙ ap (λ x. x.turns) looks ∙ ap (λ (n : ℕ). (n + 1) % 2 ^ 64) (before ∙ sym (ap (λ x. x.judged) looks)) ∙ sym once.judged
+
+-- what comes of SETUPs is no judgement of that
+pub attended_judged : (plan : SubscribePlan) (s t : Seen) (j k : Joined) → JudgesEach s → Attends plan s j k t → JudgesEach t
+attended_judged plan s t j k each p =
+    let so = offered_within plan s p.2 p.0 (with_device j (setup_taken j.duty.device)) k p.3 in
+    ap (λ x. x.turns) p.4 ∙ so.turns ∙ each ∙ sym so.judged ∙ sym (ap (λ x. x.judged) p.4)
 
 pub within_on : (s t u : Seen) → IsWithinTurn s t → IsWithinTurn t u → IsWithinTurn s u
-within_on s t u a b = record { turns = b.turns ∙ a.turns; attended = b.attended ∙ a.attended }
+within_on s t u a b = record { turns = b.turns ∙ a.turns; attended = b.attended ∙ a.attended; judged = b.judged ∙ a.judged }
 
 pub within_told : (s t : Seen) → t ≡ record s { told = t.told; written = t.written } → IsWithinTurn s t
-within_told s t same = record { turns = ap (λ x. x.turns) same; attended = ap (λ x. x.attended) same }
+within_told s t same = record { turns = ap (λ x. x.turns) same; attended = ap (λ x. x.attended) same; judged = ap (λ x. x.judged) same }

@@ -35,7 +35,7 @@ all_kept form acts a b h = record {
   part = refl;
 }
 
-acts_kept : (form : Form) (s t u : Subscribing) (a b : Option (List ℕ)) (acts : List Act) (messages : List (List ℕ)) → Lives s acts t → StopsAt t u → given_in acts ≡ messages → Appends a b (spelling form messages) → BreaksActs form s a u b
+pub acts_kept : (form : Form) (s t u : Subscribing) (a b : Option (List ℕ)) (acts : List Act) (messages : List (List ℕ)) → Lives s acts t → StopsAt t u → given_in acts ≡ messages → Appends a b (spelling form messages) → BreaksActs form s a u b
 acts_kept form s t u a b acts messages lives stops given h = record {
   acts = acts;
   last = t;

@@ -6,5 +6,7 @@ pub mod Leaving
 pub mod Told
 pub mod Breaking
 pub mod Answered
+pub mod Looked
+pub mod Lost
 pub mod EndRows
 pub mod TurnRows

@@ -46,6 +46,10 @@ pub record HasAnswered (t : Subscribing) : Type 0 where
   pub since : List Act
   pub lived : Lives teller since t
 
+-- where it has answered the end that was noted before, it has the one that is noted now
+abbrev pub StaysAnswered : Joined → Joined → Type 0
+StaysAnswered old new = (IsTrue old.ended → HasAnswered old.follower.subscriber) → IsTrue new.ended → HasAnswered new.follower.subscriber
+
 -- whether it has all of its stream is noted, and where that is new it tells where it stands; what is heard then is no poll
 pub record AnswersEnd (moment : ℕ) (old new : Joined) (x : Stand) : Type 0 where
   pub before : Stand

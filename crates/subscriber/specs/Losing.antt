@@ -1,31 +1,58 @@
 -- What a subscriber makes of an image that lacks what doesn't come.
-use Rattle.std.specs.Prelude.{◌≡◌, ◌≢◌, ◌⊎◌, ◌↔◌, ℕ, IsTrue, Option, None, Some}
+use Rattle.std.specs.Prelude.{◌≡◌, ℕ, IsTrue, List, Option, None, Some}
 use Rattle.theory.specs.Control.{asking_at}
 use Rattle.frames.specs.Frames.{header_of}
 use Rattle.frames.specs.declared.frame.Header.{Header}
 use Rattle.options.specs.declared.ends.plans.SubscribePlan.{SubscribePlan}
+use Rattle.receiver.specs.Lives.{Act, Lives}
 use Rattle.subscription.specs.Images.{next}
+use Rattle.subscription.specs.Losses.{IsLeft, NotesKept, NotesLoss}
 use Rattle.subscription.specs.Meetings.{id_of}
 use Rattle.subscription.specs.Offers.{asked_by}
-use Rattle.subscription.specs.Places.{lacks}
-use Rattle.subscription.specs.Watches.{IsHearing, Seen, keeping}
+use Rattle.subscription.specs.Places.{RebuiltTo, lacks}
+use Rattle.subscription.specs.Watches.{IsHearing, IsWithinTurn, Seen, judging}
 use Rattle.subscription.specs.declared.joined.Joined.{Joined}
-use Rattle.subscriber.specs.Standing.{RebuiltTo}
-use Rattle.subscriber.specs.Turning.{IsLeft, with_device}
+use Rattle.subscriber.specs.Answering.{IsTicked}
+use Rattle.subscriber.specs.Leavings.{ListensOn, NotesHeard, NotesWork}
+use Rattle.subscriber.specs.Turning.{with_device}
 
--- where the image was rebuilt further, or lacks nothing, that is noted
-pub record NotesKeptAt (before rebuilt : ℕ) (j : Joined) (old new : Seen) : Type 0 where
-  pub stands : RebuiltTo j.follower.subscriber rebuilt
-  pub moved : rebuilt ≢ before → new ≡ keeping old
-  pub whole : ¬ IsTrue (lacks j.opening.geometry j.duty.device.notes.last rebuilt) → new ≡ keeping old
-  pub behind : rebuilt ≡ before → IsTrue (lacks j.opening.geometry j.duty.device.notes.last rebuilt) → new ≡ old
+-- a turn's cycle: what its image's subscriber lived through, last the moment, and what was noted of it. First whether its session
+-- was heard, and a call of its socket worked; then, by how far the image was rebuilt before it and how far it is now, whether the
+-- image lacks nothing, or something that it lacked came
+pub record NotesCycle (s : Seen) (old cycled : Joined) (kept : Seen) : Type 0 where
+  pub acts : List Act
+  pub lived : Lives old.follower.subscriber acts cycled.follower.subscriber
+  pub ticked : IsTicked s.moment cycled.follower.subscriber
+  pub same : cycled ≡ record old { follower = cycled.follower; duty = cycled.duty }
+  pub heard : Seen
+  pub hears : NotesHeard old.duty.device.notes.frames cycled.duty.device.notes.frames s heard
+  pub worked : Seen
+  pub works : NotesWork old.duty.device.inner.inner.worked cycled.duty.device.inner.inner.worked heard worked
+  pub before : ℕ
+  pub rebuilt : RebuiltTo old.follower.subscriber before
+  pub keeps : NotesKept before cycled worked kept
 
-abbrev pub NotesKept : ℕ → Joined → Seen → Seen → Type 0
-NotesKept before j old new = (rebuilt : ℕ) × NotesKeptAt before rebuilt j old new
+-- and then, behind the answer to the stream's end, in which the session may be heard again, it is judged once, by what was noted,
+-- whether the image is lost
+pub record JudgesTurn (s : Seen) (old new : Joined) (t : Seen) : Type 0 where
+  pub cycled : Joined
+  pub kept : Seen
+  pub cycle : NotesCycle s old cycled kept
+  pub answered : Joined
+  pub listens : ListensOn cycled.follower answered.follower
+  pub same : answered ≡ record cycled { follower = answered.follower; duty = answered.duty; ended = answered.ended; silent = answered.silent }
+  pub noted : Seen
+  pub hears : NotesHeard cycled.duty.device.notes.frames answered.duty.device.notes.frames kept noted
+  pub within : IsWithinTurn s noted
+  pub still : IsTrue noted.noted
+  pub judges : NotesLoss noted answered new
+  pub kept_else : new ≡ record answered { lost = new.lost }
+  pub counted : t ≡ judging noted
 
--- an image that is left so is noted as lost, once and for all
-abbrev pub NotesLoss : Seen → Joined → Joined → Type 0
-NotesLoss s old new = IsTrue new.lost ↔ (IsTrue old.lost ⊎ IsLeft s old)
+-- so an image is newly taken for lost only where its cycle rebuilt nothing more, and what it lacks was heard of
+abbrev pub LacksWhereLost : Type 0
+LacksWhereLost = (s t : Seen) (old new : Joined) → (h : JudgesTurn s old new t) → IsTrue new.lost → ¬ IsTrue old.lost
+    → RebuiltTo h.cycled.follower.subscriber h.cycle.before × IsTrue (lacks h.cycled.opening.geometry h.cycled.duty.device.notes.last h.cycle.before)
 
 -- at each frame of its session its peer is asked for a SETUP, with the frame's place, under the id of the next image
 pub record IsAskedFor (s : Seen) (j : Joined) : Type 0 where

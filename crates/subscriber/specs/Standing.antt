@@ -2,18 +2,14 @@
 use Rattle.std.specs.Prelude.{◌≡◌, ◌≤◌, ℕ, Option, None, Some}
 use Rattle.receiver.specs.Receiving.{Receiver}
 use Rattle.receiver.specs.Subscribing.{RepresentsSubscriber, Subscribing}
-use Rattle.subscription.specs.Places.{IsRebuiltTo, StandsAt}
+use Rattle.subscription.specs.Places.{RebuiltTo, StandsAt}
 use Rattle.subscriber.specs.declared.standing.Stand.{Stand}
 
 -- its consumer stands here
 abbrev pub StandsHere : Subscribing → ℕ → Type 0
 StandsHere s at = (r : Receiver) → RepresentsSubscriber s r → StandsAt r.image at
 
--- its image is rebuilt up to here
-abbrev pub RebuiltTo : Subscribing → ℕ → Type 0
-RebuiltTo s at = (r : Receiver) → RepresentsSubscriber s r → IsRebuiltTo r.image at
-
--- both, and the greatest end that it was told
+-- there, with its image rebuilt up to here, and the greatest end that it was told
 pub record Stands (s : Subscribing) (end : Option ℕ) (x : Stand) : Type 0 where
   pub place : StandsHere s x.place
   pub rebuilt : RebuiltTo s x.rebuilt

@@ -20,9 +20,11 @@ use Rattle.subscription.specs.Offers.{IsOffered, SubscriberDevice, setup_taken, 
 use Rattle.subscription.specs.Unheards.{IsUnnamed}
 use Rattle.subscription.specs.Watches.{IsBehind, IsSilent, Seen, attending, hearing, keeping}
 use Rattle.subscription.specs.Images.{loss_between, next, next_images}
+use Rattle.subscription.specs.Losses.{IsLeft}
+use Rattle.subscription.specs.Places.{RebuiltTo}
 use Rattle.subscription.specs.Texts.{missing_line}
 use Rattle.subscription.specs.declared.images.Loss.{Loss}
-use Rattle.subscriber.specs.Standing.{RebuiltTo, StandsHere}
+use Rattle.subscriber.specs.Standing.{StandsHere}
 use Rattle.subscription.specs.declared.joined.Joined.{Joined}
 use Rattle.subscription.specs.declared.opening.Opening.{Opening}
 use Rattle.subscription.specs.declared.meeting.Meeting.{Meeting}
@@ -62,11 +64,6 @@ pub record IsAhead (m : Meeting) (rebuilt : ℕ) (j : Joined) : Type 0 where
   pub peer : ¬ IsNext m j
   pub own : GoesOn j.opening rebuilt m.opening
   pub ahead : rebuilt < m.opening.position
-
--- an image whose stream hasn't ended lacks what doesn't come
-pub record IsLeft (s : Seen) (j : Joined) : Type 0 where
-  pub going : ¬ IsTrue j.ended
-  pub behind : IsBehind s
 
 -- an image whose stream has ended gives way to the next publisher's, and one that hasn't ended while its session is silent, or
 -- where what it lacks doesn't come, to its own

@@ -66,6 +66,7 @@ pub(crate) fn answer_end<E: Write>(
     requires { joined.old.duty.mtu ≡ REPLY }
     ensures size { joined.new.duty.mtu ≡ joined.old.duty.mtu }
     ensures images { joined.new.images ≡ joined.old.images }
+    ensures same { joined.new ≡ record joined.old { follower = joined.new.follower; duty = joined.new.duty; ended = joined.new.ended } }
     ensures unpolled { LivesUnpolled joined.old.follower.subscriber joined.new.follower.subscriber }
     ensures listens { OnOk result (ListensOn joined.old.follower joined.new.follower) }
     ensures answers { IfOk result (AnswersEnd watch.old.moment joined.old joined.new) }

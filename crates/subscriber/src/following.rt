@@ -4,12 +4,13 @@ ghost use Rattle.std.specs.Prelude.{◌≡◌, ◌≢◌, ◌≤◌, ◌↔◌, 
 ghost use Rattle.std.specs.Io.KnownBytes.{Appends};
 ghost use Rattle.endpoint.specs.declared.device_error.DeviceError.TheVariants.{Device};
 ghost use Rattle.subscriber.specs.Breaking.{BreaksActs, BreaksLife};
-ghost use Rattle.subscriber.specs.Answering.{BidsFarewell, IsTicked, NotesSilence};
+ghost use Rattle.subscriber.specs.Answering.{BidsFarewell, IsTicked, NotesSilence, StaysAnswered};
 ghost use Rattle.subscriber.specs.Endings.{EndsSo};
 ghost use Rattle.subscriber.specs.Leavings.{HasEnough, IsEnding, IsQuietEnding, IsSettled, enough_ending, LeavesFrom, LivesUnpolled, NotesHeard, NotesWork, StandsStill};
-ghost use Rattle.subscriber.specs.Standing.{StandsHere, Stands};
+ghost use Rattle.subscriber.specs.Losing.{JudgesTurn};
+ghost use Rattle.subscriber.specs.Standing.{HasAll, StandsHere, Stands};
 ghost use Rattle.subscriber.specs.declared.standing.Stand.{Stand as Standing};
-ghost use Rattle.subscription.specs.Watches.{AttendsEach, IsBroken, IsWithinTurn, TellsWhereDue};
+ghost use Rattle.subscription.specs.Watches.{AttendsEach, IsBroken, IsWithinTurn, JudgesEach, TellsWhereDue};
 ghost use Rattle.subscriber.specs.declared.fault.SubscribeFault.TheVariants.{Failed};
 ghost use Rattle.subscriber.specs.Living.{Follows, LivesOn};
 ghost use Rattle.subscriber.specs.Telling.{AreCounts, TellsCounters, TellsLine, TellsNow};
@@ -24,7 +25,7 @@ use crate::delivery::cycle;
 use crate::delivery::polling::CYCLE_MESSAGES;
 use crate::ended::Ending;
 use crate::fault::SubscribeFault;
-use crate::losing::{ask_anew, note_kept, tell_loss};
+use crate::losing::{ask_anew, tell_loss};
 use crate::repeating::Slot;
 use crate::standing::{Stand, has_all, stand_of};
 use crate::turning::attend;
@@ -86,6 +87,13 @@ fn cycle_once<W: Write>(
     Ok((all, (done.messages > 0) | moved | stirred))
 }
 
+/// How many calls of the socket have worked.
+fn calls_worked(joined: &Joined) -> u64
+    ensures { result ≡ joined.now.duty.device.inner.inner.worked }
+{
+    joined.duty.device().inner().inner().worked()
+}
+
 /// Notes whether a call of the socket worked in a cycle, before which so many had. The fault comes where none has for 5
 /// seconds.
 fn check_works(joined: &Joined, watch: &mut Watch, before: u64) -> Result<(), DeviceError>
@@ -95,7 +103,7 @@ fn check_works(joined: &Joined, watch: &mut Watch, before: u64) -> Result<(), De
     ensures works { OnOk result (¬ IsBroken watch.new) }
     ensures broken { IfErr result (λ fault. (fault ≡ Device) × IsBroken watch.new) }
 {
-    if joined.duty.device().inner().inner().worked() != before {
+    if calls_worked(joined) != before {
         watch.work();
     }
     watch.check_works()
@@ -172,6 +180,42 @@ fn tell_change<E: Write>(errors: &mut E, silent: bool, session: i32, place: u64)
     } else {
         tell_again(errors, session, place)
     }
+}
+
+/// A turn up to where it is judged whether the image is lost: a cycle is noted, and the answer to the stream's end; then silence and
+/// a loss are told. The answer is how many messages were written in all, whether there was work, and where the subscriber stands.
+fn look<W: Write, E: Write>(
+    plan: &SubscribePlan,
+    joined: &mut Joined,
+    output: &mut W,
+    errors: &mut E,
+    watch: &mut Watch,
+    written: u64,
+) -> Result<(u64, bool, Stand), SubscribeFault>
+    requires size { joined.old.duty.mtu ≡ REPLY }
+    requires few { written ≤ plan.now.messages }
+    ensures size { joined.new.duty.mtu ≡ REPLY }
+    ensures images { joined.new.images ≡ joined.old.images }
+    // What the cycle showed was noted, and the loss judged by that, once.
+    ensures judges { OnOk result (JudgesTurn watch.old joined.old joined.new watch.new) }
+    ensures writes { IfOk result (λ r. (r.0 ≤ plan.now.messages) × Writes plan.now.end.form written (W.contents output.old) r.0 (W.contents output.new)) }
+    ensures lives { IfOk result (λ r. LivesOn plan.now.end.form written joined.old.follower (W.contents output.old) r.0 joined.new.follower (W.contents output.new)) }
+    ensures stands { IfOk result (λ r. Stands joined.new.follower.subscriber joined.new.follower.end r.2) }
+    ensures still { IfOk result (λ r. HasAll r.2 → IsTrue joined.new.ended) }
+    // Where it has all of its stream it has told that.
+    ensures answered { OnOk result (StaysAnswered joined.old joined.new) }
+    // At a fault all that was told is written.
+    ensures broken { OnErr result (BreaksActs plan.now.end.form joined.old.follower.subscriber (W.contents output.old) joined.new.follower.subscriber (W.contents output.new)) }
+{
+    let worked = calls_worked(joined);
+    let rebuilt = joined.rebuilt();
+    let (all, busy) = cycle_once(plan, joined, output, watch, written)?;
+    check_works(joined, watch, worked)?;
+    joined.note_kept(watch, rebuilt);
+    let stand = answer_end(joined, errors, watch)?;
+    let _ = tell_silence(joined, errors, watch);
+    let _ = tell_loss(joined, errors, watch);
+    Ok((all, busy, stand))
 }
 
 /// How many datagrams of strangers there were in all.
@@ -280,6 +324,8 @@ pub(crate) fn follow<R: Wait + Clock, W: Write, E: Write>(
     ensures writes { IfOk result (λ r. Writes plan.now.end.form 0 (W.contents output.old) r.0 (W.contents output.new)) }
     // In each turn, but in the last one, what came of SETUPs was attended.
     ensures attended { IfOk result (λ _. AttendsEach watch.new) }
+    // In each turn, the last one too, it was noted what the image lacks, and judged by that whether it is lost.
+    ensures judged { IfOk result (λ _. JudgesEach watch.new) }
     // What its images gave, each in its turn.
     ensures lives { IfOk result (λ r. Follows plan.now (W.contents output.old) r.0 joined.new.images joined.new.follower (W.contents output.new)) }
     ensures broken { OnErr result (BreaksLife plan.now (W.contents output.old) joined.new.follower.subscriber (W.contents output.new)) }
@@ -289,15 +335,8 @@ pub(crate) fn follow<R: Wait + Clock, W: Write, E: Write>(
     watch.begin();
     for _ in rt.forever() {
         watch.see(rt)?;
-        let worked = joined.duty.device().inner().inner().worked();
-        let rebuilt = joined.rebuilt();
-        let (all, busy) = cycle_once(plan, joined, output, watch, written)?;
+        let (all, busy, stand) = look(plan, joined, output, errors, watch, written)?;
         written = all;
-        check_works(joined, watch, worked)?;
-        note_kept(joined, watch, rebuilt);
-        let stand = answer_end(joined, errors, watch)?;
-        let _ = tell_silence(joined, errors, watch);
-        let _ = tell_loss(joined, errors, watch);
         let _ = tell(plan, joined, errors, watch, written);
         if let Some(ending) = ending_of(plan, watch, written, &stand, joined.has_lost()) {
             return Ok((written, ending));

@@ -18,7 +18,9 @@
 //!
 //! Where the last frame that was heard of a session begins above what its image has rebuilt, something is lacking; where nothing
 //! that is lacking has come for ten seconds, and the session was heard in each of them, the image is lost (`note_kept`,
-//! `tell_loss`). Its peer is asked for a SETUP under the next image's id, at each frame (`ask_anew`), and the peer's own SETUP, if
+//! `tell_loss`). Each turn notes what its own cycle showed and judges by that, once (`look`, by `JudgesTurn`; `follow`, by
+//! `JudgesEach`), so an image is newly taken for lost only where that cycle rebuilt nothing more, and something is lacking
+//! (`lacks_where_lost`). Its peer is asked for a SETUP under the next image's id, at each frame (`ask_anew`), and the peer's own SETUP, if
 //! it lies above what is rebuilt, takes the place (`GivesWay`). What is missing is told, and is what lies between where the old
 //! image's consumer stood and where the new one joined (`IsLoss`); the images' lives keep it. A subscriber ends whole only where
 //! no image before its last one was lost (`AreUnlost`), and this one wasn't told as lost. Which frames were heard isn't said.
@@ -56,5 +58,6 @@ mod turning;
 pub use delivery::Delivered;
 pub use ended::{Ending, Subscribed};
 pub use fault::SubscribeFault;
+pub use losing::lacks_where_lost;
 pub use standing::Stand;
 pub use subscribing::subscribe;

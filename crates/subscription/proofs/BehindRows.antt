@@ -1,8 +1,8 @@
--- Rows: when a subscriber is behind, what is lacking, and what is missing between images.
+-- Rows: when a subscriber is behind, in which turns that is judged, what is lacking, and what is missing between images.
 use Rattle.std.proofs.Common.{◌≡◌, ◌≤◌, ◌<◌, ◌-◌, ℕ, ℤ, pos, negsuc, true, false, Option, None, Some, refl, arith}
 use Rattle.subscription.specs.Images.{first_image, has_lost, loss_between, next_images}
 use Rattle.subscription.specs.Places.{lies_above}
-use Rattle.subscription.specs.Watches.{IsBehind, IsSilent, Seen, begun, hearing, keeping, looking}
+use Rattle.subscription.specs.Watches.{IsBehind, IsSilent, JudgesEach, Seen, attending, beginning, begun, hearing, judging, keeping, looking, noting}
 
 -- a nanosecond before ten seconds it isn't behind, and then it is
 not_yet : (s : Seen) → s.moment ≡ 12000000000 → s.kept ≡ 2000000001 → IsBehind s → ⊥
@@ -31,6 +31,31 @@ unseen = refl
 
 kept_now : (keeping (record begun { moment = 7 })).kept ≡ 7
 kept_now = refl
+
+-- two turns, in each of which it was noted and judged; a third that begins, and in which neither was
+judged_twice : JudgesEach (judging (noting false (looking (attending (judging (noting true (looking (beginning begun) 5)))) 9)))
+judged_twice = refl
+
+third_unjudged : JudgesEach (noting true (looking (judging (noting false (looking (attending (judging (noting true (looking (beginning begun) 5)))) 9))) 12)) → ⊥
+third_unjudged h = omega (arith, h)
+
+-- a turn that judged and didn't note what is lacking, or noted that in the turn before
+unnoted : JudgesEach (judging (looking (beginning begun) 5)) → ⊥
+unnoted h = omega (arith, h)
+
+noted_before : JudgesEach (judging (looking (judging (noting true (looking (beginning begun) 5))) 9)) → ⊥
+noted_before h = omega (arith, h)
+
+-- one that only attended
+attended_only : JudgesEach (attending (noting true (looking (beginning begun) 5))) → ⊥
+attended_only h = omega (arith, h)
+
+-- nothing is lacking at the moment, or something still is
+noted_whole : (noting true (record begun { moment = 7 })).kept ≡ 7
+noted_whole = refl
+
+noted_behind : (noting false (record begun { moment = 7 })).kept ≡ 0
+noted_behind = refl
 
 -- a frame at what is rebuilt, or below it, lies above nothing; one before the first term neither
 at_it : lies_above (pos 64) 64 ≡ false

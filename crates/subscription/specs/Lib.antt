@@ -12,3 +12,4 @@ pub mod Repeats
 pub mod Texts
 pub mod Unheards
 pub mod Followers
+pub mod Losses

@@ -6,7 +6,8 @@ use Rattle.theory.specs.Position.{Geometry}
 use Rattle.theory.specs.Units.{IsContiguous}
 use Rattle.frames.specs.Frames.{header_of}
 use Rattle.frames.specs.declared.frame.Header.{Header}
-use Rattle.receiver.specs.Receiving.{Opened}
+use Rattle.receiver.specs.Receiving.{Opened, Receiver}
+use Rattle.receiver.specs.Subscribing.{RepresentsSubscriber, Subscribing}
 
 -- where the consumer of an image stands, the least one; 0 without an image
 abbrev pub StandsAt : Option Opened → ℕ → Type 0
@@ -17,6 +18,10 @@ StandsAt (Some o) at = at ≡ least_of o.image.consumers
 abbrev pub IsRebuiltTo : Option Opened → ℕ → Type 0
 IsRebuiltTo None at = at ≡ 0
 IsRebuiltTo (Some o) at = IsContiguous o.image.stored o.image.join at
+
+-- the image of a subscriber is
+abbrev pub RebuiltTo : Subscribing → ℕ → Type 0
+RebuiltTo s at = (r : Receiver) → RepresentsSubscriber s r → IsRebuiltTo r.image at
 
 -- a position lies above this one
 abbrev pub lies_above : ℤ → ℕ → Bool

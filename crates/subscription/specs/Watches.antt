@@ -1,5 +1,5 @@
 -- What a subscriber has seen of the time, and what comes of it.
-use Rattle.std.specs.Prelude.{◌≡◌, Result, Ok, Err, ◌+◌, ◌-◌, ◌%◌, ◌^◌, ◌≤◌, ◌<◌, ℕ, nat_lt, Bool, IsTrue, min, if◌then◌else◌}
+use Rattle.std.specs.Prelude.{◌≡◌, Result, Ok, Err, ◌+◌, ◌-◌, ◌%◌, ◌^◌, ◌≤◌, ◌<◌, ℕ, nat_lt, Bool, true, false, IsTrue, min, if◌then◌else◌}
 use Rattle.endpoint.specs.Devices.{counted}
 use Rattle.endpoint.specs.declared.datagrams.DeviceFailed.{DeviceFailed}
 use Rattle.options.specs.declared.ends.plans.SubscribePlan.{SubscribePlan}
@@ -24,14 +24,17 @@ pub record Seen : Type 0 where
   pub calls : ℕ
   -- how many calls of its socket failed before an image
   pub lost : ℕ
-  -- how often it has looked at the clock since the first image's turns began, and how often what came of SETUPs was attended
-  -- since; modulo 2 ^ 64
+  -- how often it has looked at the clock since the first image's turns began, how often what came of SETUPs was attended
+  -- since, and how often it was judged whether the image is lost; modulo 2 ^ 64
   pub turns : ℕ
   pub attended : ℕ
+  pub judged : ℕ
+  -- whether it was noted in this turn what the image lacks
+  pub noted : Bool
 
 -- it has seen its begin
 abbrev pub begun : Seen
-begun = record { moment = 0; heard = 0; kept = 0; worked = 0; told = 0; written = 0; strangers = 0; calls = 0; lost = 0; turns = 0; attended = 0 }
+begun = record { moment = 0; heard = 0; kept = 0; worked = 0; told = 0; written = 0; strangers = 0; calls = 0; lost = 0; turns = 0; attended = 0; judged = 0; noted = false }
 
 -- a second or more in which it didn't look at the clock is no silence of others, and no failing of its socket: it heard nobody
 -- then and called nothing, and couldn't have. So what was earlier counts as later by that time
@@ -40,7 +43,7 @@ later_by s now earlier = if nat_lt (now - s.moment) 1000000000 then earlier else
 
 -- it looks at the clock
 abbrev pub looking : Seen → ℕ → Seen
-looking s now = record s { moment = now; heard = later_by s now s.heard; kept = later_by s now s.kept; worked = later_by s now s.worked; turns = (s.turns + 1) % 2 ^ 64 }
+looking s now = record s { moment = now; heard = later_by s now s.heard; kept = later_by s now s.kept; worked = later_by s now s.worked; turns = (s.turns + 1) % 2 ^ 64; noted = false }
 
 -- what it waits for came at the moment; a second or more without it doesn't count as time in which something is lacking
 abbrev pub hearing : Seen → Seen
@@ -52,7 +55,7 @@ keeping s = record s { kept = s.moment }
 
 -- an image is there, and its turns begin
 abbrev pub beginning : Seen → Seen
-beginning s = record s { kept = s.moment; turns = 0; attended = 0 }
+beginning s = record s { kept = s.moment; turns = 0; attended = 0; judged = 0; noted = false }
 
 -- in a turn
 abbrev pub attending : Seen → Seen
@@ -62,10 +65,23 @@ attending s = record s { attended = (s.attended + 1) % 2 ^ 64 }
 abbrev pub AttendsEach : Seen → Type 0
 AttendsEach s = s.turns ≡ (s.attended + 1) % 2 ^ 64
 
--- no turn begins, and nothing is attended
+-- what the image lacks is noted: nothing at the moment, or something that was lacking came at it, or neither
+abbrev pub noting : Bool → Seen → Seen
+noting kept s = record s { kept = if kept then s.moment else s.kept; noted = true }
+
+-- whether the image is lost is judged, in a turn; that counts where it was noted in it before what the image lacks
+abbrev pub judging : Seen → Seen
+judging s = record s { judged = if s.noted then (s.judged + 1) % 2 ^ 64 else s.judged }
+
+-- in each turn, the last one too
+abbrev pub JudgesEach : Seen → Type 0
+JudgesEach s = s.turns ≡ s.judged
+
+-- no turn begins, nothing is attended, and nothing is judged
 pub record IsWithinTurn (s t : Seen) : Type 0 where
   pub turns : t.turns ≡ s.turns
   pub attended : t.attended ≡ s.attended
+  pub judged : t.judged ≡ s.judged
 
 -- what came at the moment calls for a SETUP
 abbrev pub called : Seen → Seen

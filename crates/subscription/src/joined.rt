@@ -1,11 +1,13 @@
 //! A subscriber with an image.
 
-ghost use Rattle.std.specs.Prelude.{◌≡◌};
+ghost use Rattle.std.specs.Prelude.{◌≡◌, ◌≢◌, ◌↔◌, IsTrue};
 ghost use Rattle.theory.specs.Wire.{SM};
 ghost use Rattle.frames.specs.Frames.{status_of};
 ghost use Rattle.receiver.specs.Receiving.{Receiver};
 ghost use Rattle.receiver.specs.Subscribing.{RepresentsSubscriber};
 ghost use Rattle.subscription.specs.Images.{has_lost};
+ghost use Rattle.subscription.specs.Losses.{NotesKept, NotesLoss};
+ghost use Rattle.subscription.specs.Watches.{IsWithinTurn, judging};
 ghost use Rattle.subscription.specs.Places.{IsRebuiltTo, StandsAt, lacks, lies_above};
 ghost use Rattle.subscription.specs.Offers.{IsOffered, asked_by, offer_taken, setup_taken, tied_anew};
 
@@ -14,6 +16,7 @@ use crate::follower::Follower;
 use crate::images::Images;
 use crate::opening::Opening;
 use crate::unheard::Unheard;
+use crate::watch::Watch;
 use agents::Duty;
 use frames::{Setup, Status};
 use loss_injector::Lossy;
@@ -69,6 +72,34 @@ impl Joined {
         ensures { result ≡ has_lost self.now.lost self.now.images }
     {
         self.lost || self.images.missing > 0
+    }
+
+    /// Notes what the image lacks: where nothing is lacking, or something that was lacking came, that counts as the moment. The
+    /// image was rebuilt up to here before.
+    pub fn note_kept(&self, watch: &mut Watch, before: u64)
+        ensures notes { NotesKept before self.now watch.old watch.new }
+        ensures noted { IsTrue watch.new.noted }
+        ensures moment { watch.new.moment ≡ watch.old.moment }
+        ensures turn { IsWithinTurn watch.old watch.new }
+    {
+        let rebuilt = self.rebuilt();
+        watch.note(rebuilt != before || !self.lacks(rebuilt));
+    }
+
+    /// Judges whether the image is lost, which counts where it was noted in this turn what it lacks. The answer is whether that
+    /// is new.
+    pub fn judge(&mut self, watch: &mut Watch) -> bool
+        ensures noted { NotesLoss watch.old self.old self.new }
+        ensures is_new { IsTrue result ↔ (self.new.lost ≢ self.old.lost) }
+        ensures same { self.new ≡ record self.old { lost = self.new.lost } }
+        ensures counted { watch.new ≡ judging watch.old }
+    {
+        watch.judge();
+        if self.lost || self.ended || !watch.is_behind() {
+            return false;
+        }
+        self.lost = true;
+        true
     }
 
     /// Whether the last frame that was heard of its session begins above this position, up to which its image is rebuilt.

@@ -20,7 +20,8 @@
 //! for each such frame its sender is asked once, with the frame's place, and nobody else is. Until a SETUP opens the first image
 //! nothing else happens (`listen`). When a subscriber is silent, quiet, behind or broken is
 //! exact (`Watch`), and so is each line that it tells (`Texts`). Something is lacking where the last frame that was heard begins
-//! above what is rebuilt (`Joined::lacks`), and what is missing behind a lost image is counted (`Images`).
+//! above what is rebuilt (`Joined::lacks`); where that was noted in a turn (`Joined::note_kept`), it counts that it is judged then
+//! whether the image is lost (`Joined::judge`). What is missing behind a lost image is counted (`Images`).
 #![tactic(auto)]
 
 mod followed;

@@ -2,7 +2,7 @@
 
 ghost use Rattle.std.specs.Prelude.{◌≡◌, ◌≤◌, ◌-◌, ◌↔◌, is_some, IfErr, IfSome, IsSome, IsTrue, OnOk};
 ghost use Rattle.endpoint.specs.declared.device_error.DeviceError.TheVariants.{Device};
-ghost use Rattle.subscription.specs.Watches.{IsBehind, IsBroken, IsDue, IsHearing, IsQuiet, IsSilent, attending, beginning, begun, called, hearing, keeping, later_by, looking, losing, told_if, with_stranger, working};
+ghost use Rattle.subscription.specs.Watches.{IsBehind, IsBroken, IsDue, IsHearing, IsQuiet, IsSilent, attending, beginning, begun, called, hearing, judging, keeping, later_by, looking, losing, noting, told_if, with_stranger, working};
 
 use agents::nanoseconds;
 use endpoint::DeviceError;
@@ -38,6 +38,8 @@ pub struct Watch {
     lost: u64,
     turns: u64,
     attended: u64,
+    judged: u64,
+    noted: bool,
 }
 
 impl Model for Watch {
@@ -45,7 +47,7 @@ impl Model for Watch {
 
     ghost Value = { Seen };
 
-    ghost view = { λ w. record { moment = w.moment; heard = w.heard; kept = w.kept; worked = w.worked; told = w.told; written = w.written; strangers = w.strangers; calls = w.calls; lost = w.lost; turns = w.turns; attended = w.attended } };
+    ghost view = { λ w. record { moment = w.moment; heard = w.heard; kept = w.kept; worked = w.worked; told = w.told; written = w.written; strangers = w.strangers; calls = w.calls; lost = w.lost; turns = w.turns; attended = w.attended; judged = w.judged; noted = w.noted } };
 }
 
 impl Watch {
@@ -65,6 +67,8 @@ impl Watch {
             lost: 0,
             turns: 0,
             attended: 0,
+            judged: 0,
+            noted: false,
         }
     }
 
@@ -75,6 +79,8 @@ impl Watch {
         self.kept = self.moment;
         self.turns = 0;
         self.attended = 0;
+        self.judged = 0;
+        self.noted = false;
     }
 
     /// What came of SETUPs in this turn was attended.
@@ -82,6 +88,25 @@ impl Watch {
         ensures { self.new ≡ attending self.old }
     {
         self.attended = self.attended.wrapping_add(1);
+    }
+
+    /// It was noted in this turn what the image lacks: nothing at the moment, or something that was lacking came at it, or neither.
+    pub(crate) fn note(&mut self, kept: bool)
+        ensures { self.new ≡ noting kept self.old }
+    {
+        if kept {
+            self.kept = self.moment;
+        }
+        self.noted = true;
+    }
+
+    /// Whether the image is lost was judged in this turn. That counts where it was noted before what the image lacks.
+    pub(crate) fn judge(&mut self)
+        ensures { self.new ≡ judging self.old }
+    {
+        if self.noted {
+            self.judged = self.judged.wrapping_add(1);
+        }
     }
 
     /// Notes the moment, which never falls. A clock that can't be read is a device that failed.
@@ -99,6 +124,7 @@ impl Watch {
         self.worked = self.later_by(now, self.worked);
         self.moment = now;
         self.turns = self.turns.wrapping_add(1);
+        self.noted = false;
         Ok(())
     }
 

@@ -1,0 +1,57 @@
+-- When an image is newly taken for lost.
+use Rattle.std.proofs.Common.{◌≡◌, ◌≢◌, ◌⊎◌, ◌∙◌, ◌-◌, ℕ, Bool, true, false, if◌then◌else◌, IsTrue, inl, inr, refl, sym, ap, subst, arith}
+use Rattle.std.specs.Prelude.{nat_lt}
+use Rattle.subscription.specs.Losses.{IsLeft}
+use Rattle.subscription.specs.Places.{RebuiltTo, lacks}
+use Rattle.subscription.specs.Watches.{IsBehind, Seen, noting}
+use Rattle.subscription.specs.declared.joined.Joined.{Joined}
+use Rattle.subscriber.proofs.Looked.{same_or_not}
+use Rattle.subscriber.specs.Leavings.{NotesHeard}
+use Rattle.subscriber.specs.Losing.{LacksWhereLost}
+
+-- something that was lacking came at the moment, or nothing was lacking
+abbrev IsKept : Seen → Type 0
+IsKept s = s.kept ≡ s.moment
+
+kept_heard : (s : Seen) (b : Bool) → IsKept s → (if b then s.kept else s.moment) ≡ s.moment
+kept_heard s true k = k
+kept_heard s false k = refl
+
+-- that stays so in a turn
+still_kept : (before after : ℕ) (s t : Seen) → NotesHeard before after s t → IsKept s → IsKept t
+still_kept before after s t h k = by_case (same_or_not after before)
+  where
+    by_case : (after ≡ before) ⊎ (after ≢ before) → IsKept t
+    by_case (inl same) = subst IsKept (sym (h.still same)) k
+    by_case (inr other) = subst IsKept (sym (h.heard other)) (kept_heard s (nat_lt (s.moment - s.heard) 1000000000) k)
+
+-- then it isn't behind
+not_behind : (s : Seen) → IsKept s → IsBehind s → ⊥
+not_behind s k b = let long = b.long in omega (arith, long, k)
+
+kept_in : (s t : Seen) → t ≡ noting true s → IsKept t
+kept_in s t is = subst IsKept (sym is) refl
+
+pub lacking : LacksWhereLost
+lacking s t old new h lost fresh = by_loss (h.judges.0 lost)
+  where
+    behind : IsTrue h.answered.lost ⊎ IsLeft h.noted h.answered → IsBehind h.noted
+    behind (inl was) = absurd (fresh (subst IsTrue (ap (λ (j : Joined). j.lost) h.same ∙ ap (λ (j : Joined). j.lost) h.cycle.same) was))
+    behind (inr left) = left.behind
+
+    never : IsBehind h.noted → IsKept h.kept → ⊥
+    never b k = not_behind h.noted (still_kept _ _ h.kept h.noted h.hears k) b
+
+    by_lack : (b : Bool) → lacks h.cycled.opening.geometry h.cycled.duty.device.notes.last h.cycle.keeps.0 ≡ b → IsBehind h.noted → IsTrue (lacks h.cycled.opening.geometry h.cycled.duty.device.notes.last h.cycle.keeps.0)
+    by_lack true is b = is
+    by_lack false is b = absurd (never b (kept_in h.cycle.worked h.kept (h.cycle.keeps.1.whole (λ so. let not = is in cc))))
+
+    by_place : IsBehind h.noted → (h.cycle.keeps.0 ≡ h.cycle.before) ⊎ (h.cycle.keeps.0 ≢ h.cycle.before) → RebuiltTo h.cycled.follower.subscriber h.cycle.before × IsTrue (lacks h.cycled.opening.geometry h.cycled.duty.device.notes.last h.cycle.before)
+    by_place b (inl same) = (
+      subst (RebuiltTo h.cycled.follower.subscriber) same h.cycle.keeps.1.stands,
+      subst (λ (n : ℕ). IsTrue (lacks h.cycled.opening.geometry h.cycled.duty.device.notes.last n)) same (by_lack _ refl b),
+    )
+    by_place b (inr other) = absurd (never b (kept_in h.cycle.worked h.kept (h.cycle.keeps.1.moved other)))
+
+    by_loss : IsTrue h.answered.lost ⊎ IsLeft h.noted h.answered → RebuiltTo h.cycled.follower.subscriber h.cycle.before × IsTrue (lacks h.cycled.opening.geometry h.cycled.duty.device.notes.last h.cycle.before)
+    by_loss x = by_place (behind x) (same_or_not h.cycle.keeps.0 h.cycle.before)
