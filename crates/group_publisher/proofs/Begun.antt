@@ -6,10 +6,14 @@ use Rattle.agents.specs.Duties.{Agent}
 use Rattle.agents.specs.LogSenders.{SendsLog}
 use Rattle.shared_log.specs.Handles.{LogValue}
 use Rattle.shared_log.specs.declared.reader.source.LogFrames.{LogFrames}
-use Rattle.std.proofs.Common.{◌≡◌, ◌∙◌, ℕ, ◌<◌, ◌≤◌, ◌^◌, ◌&&◌, ◌||◌, Bool, true, false, not, nat_le, nat_lt, if◌then◌else◌, [], length, Some, ap, arith, refl, subst, sym}
+use Rattle.std.proofs.Common.{◌≡◌, ◌∙◌, ℕ, ◌<◌, ◌≤◌, ◌^◌, ◌&&◌, ◌||◌, Bool, true, false, not, nat_le, nat_lt, if◌then◌else◌, [], ◌∷◌, length, Some, ap, arith, refl, subst, sym}
 use Rattle.std.specs.Prelude.{⊤}
 use Rattle.std.proofs.lemmas.Bool.{leb-true, ltb-true}
 use Rattle.flow_control.specs.Stream.{flow_after}
+use Rattle.flow_control.specs.declared.stream.StreamFlow.{StreamFlow}
+use Rattle.sender_meaning.specs.Moments.{StreamCore}
+use Rattle.sender_meaning.specs.StreamLives.{Regroups, StreamLived}
+use Rattle.sender_meaning.proofs.StreamLiving.{lived_on, lived_same}
 use Rattle.group_publisher.specs.Beginnings.{begins_now, heard_count, numbered_from, with_flow}
 use Rattle.group_publisher.specs.Turns.{Begins}
 use Rattle.group_publisher.specs.declared.sender_thread.GroupSender.{GroupSender}
@@ -95,3 +99,22 @@ pub may_begin : (begun begins : Bool) (wait now heard all at : ℕ) → begins �
 may_begin begun begins wait now heard all at is test =
     let both = can_begin begun (nat_le wait now) (nat_lt 0 heard) (nat_le heard 8) (nat_lt at (2 ^ 63)) (sym is ∙ (some_out begins heard all test).0) in
     (leb-true heard 8 both.0, ltb-true at (2 ^ 63) both.1)
+
+-- ---- its life goes on
+
+by_flow : (s t : StreamCore) (out : Bool) (size : ℕ) (flow : StreamFlow) → t ≡ record s { flow = flow } → flow ≡ (if out then flow_after (Some size) s.handler.at [] else s.flow) → StreamLived s t
+by_flow s t true size flow same is = record { acts = Regroups size ∷ []; lives = (t, same ∙ ap (λ (f : StreamFlow). record s { flow = f }) is, refl) }
+by_flow s t false size flow same is = lived_same s t (same ∙ ap (λ (f : StreamFlow). record s { flow = f }) is)
+
+-- with the group that it had, or by another
+lived_with : {D : Type 0} (wait now : ℕ) (begun result : Bool) (old new : GroupSender D) → Begins wait now begun old result new → new.agent ≡ with_flow old.agent new.agent.core.flow → StreamLived old.agent.core new.agent.core
+lived_with {D} wait now begun result old new begins same =
+    let ways = old.passes.duty.device.ways in
+    by_flow old.agent.core new.agent.core (begins.begins && nat_lt (heard_count ways) (length ways)) (heard_count ways) new.agent.core.flow (ap (λ (a : Agent LogFrames StreamFlow). a.core) same) begins.flow
+
+-- a cycle, what it begins with then, and an end that is told
+pub turn_lived : {D : Type 0} (wait now : ℕ) (begun result : Bool) (first old cycled beginning new : GroupSender D) → StreamLived first.agent.core old.agent.core → StreamLived old.agent.core cycled.agent.core
+    → Begins wait now begun cycled result beginning → beginning.agent ≡ with_flow cycled.agent beginning.agent.core.flow → new.agent ≡ beginning.agent → StreamLived first.agent.core new.agent.core
+turn_lived {D} wait now begun result first old cycled beginning new before cycle begins same still =
+    subst (λ (a : Agent LogFrames StreamFlow). StreamLived first.agent.core a.core) (sym still)
+    (lived_on first.agent.core old.agent.core beginning.agent.core before (lived_on old.agent.core cycled.agent.core beginning.agent.core cycle (lived_with wait now begun result cycled beginning begins same)))

@@ -8,5 +8,6 @@ pub mod Ends
 pub mod Given
 pub mod Begun
 pub mod Short
+pub mod Sent
 pub mod Numbered
 mod BeginRows

@@ -12,14 +12,21 @@
 //! get the numbers from 0 on (`begin_with_heard`, by `Begins`; `EndsBehind` has its cycles from the first one on).
 //!
 //! Its reading and what is left of its input are as with one subscriber (`publish_group_over`, by `EndsInput`, over any reader
-//! and any devices); its log isn't closed. Where it ends whole, the reading has ended at the input's end, and what was accepted
-//! of it has arrived along as many ways as it began with (`AllHaveArrived`; `publish_group`, by `PublishesAllAlong`). In a
-//! cycle it keeps the log (`KeepsLog`), and its core hears what came along the ways and is told the moment last (`CyclesAt`); a
-//! fault is the devices' or the reading's, and no other (`FailsBy`). The lines that name a way are exact, and so is how often
-//! the stream's end is told along each, one by one. Where it ends whole each end that a way's device was given to tell is where
-//! the reading's messages end (`are_told_alone`). Where it ends short none was given another, and a line was given that says of
-//! a way why (`publish_group`, by `SaysItsShortfall`). That ways keep their numbers while datagrams go along them isn't said, nor
-//! that what a group's sender gives out is honest for its stream.
+//! and any devices). Where it ends whole, the reading has ended at the input's end, and what was accepted of it has arrived along
+//! as many ways as it began with (`AllHaveArrived`; `publish_group`, by `PublishesAllAlong`). In a cycle it keeps the log
+//! (`KeepsLog`), and its core hears what came along the ways and is told the moment last (`CyclesAt`); a fault is the devices' or
+//! the reading's, and no other (`FailsBy`). However its cycles end, its core has lived by datagrams and moments as a sender does,
+//! going on by another group at the most (`send_all`, by `StreamLived`), and without a fault up to a moment that it was told last.
+//!
+//! Its log comes back with all its passes (`publish_group_over`, by `LeavesLogAlong`), and is closed where it ends whole: what its
+//! one publisher has claimed, in the order of the stream, tiles that from the log's start to its tail, nobody else has claimed
+//! anything, and what its sender knew of the log are frames that were committed to it (`PublishesAllAlong`). So what that gave out
+//! is honest for the stream, whatever goes along which way (`channel_meaning`).
+//!
+//! The lines that name a way are exact, and so is how often the stream's end is told along each, one by one. Where it ends whole
+//! each end that a way's device was given to tell is where the reading's messages end (`are_told_alone`). Where it ends short none
+//! was given another, and a line was given that says of a way why, or that its log couldn't be closed (`publish_group`, by
+//! `SaysItsShortfall`). That ways keep their numbers while datagrams go along them isn't said.
 #![tactic(auto)]
 
 mod ending;

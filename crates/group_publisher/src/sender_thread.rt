@@ -4,10 +4,11 @@ ghost use Rattle.std.specs.Prelude.{◌≡◌, ◌≤◌, ◌||◌, nat_le, not,
 ghost use Rattle.std.specs.List.{list_all};
 ghost use Rattle.agents.specs.LogSenders.{SendsLog};
 ghost use Rattle.sender_meaning.specs.Moments.{CyclesAt};
+ghost use Rattle.sender_meaning.specs.StreamLives.{StreamLived, StreamLivedTo, StreamLivedToLast};
 ghost use Rattle.endpoint.specs.declared.device_error.DeviceError.TheVariants.{Device};
 ghost use Rattle.publisher.specs.Judging.{FailsBy};
 ghost use Rattle.publisher.specs.Keeping.{KeepsLog};
-ghost use Rattle.publisher.specs.Openings.{ArePasses};
+ghost use Rattle.publisher.specs.Openings.{ArePasses, IsKept};
 ghost use Rattle.publisher.specs.Progress.{end_to_tell, with_end_told};
 ghost use Rattle.publisher.specs.declared.fault.PublishFault.TheVariants.{Failed};
 ghost use Rattle.group_publisher.specs.Beginnings.{begins_now, heard_count, is_heard_along, next_number, numbered_from, unnumbered, with_flow, with_number};
@@ -121,8 +122,10 @@ fn run_cycle<R: Wait + Clock, D: Datagrams>(
     requires agent { SendsLog context.now.state.now.log sender.old.agent }
     requires passes { ArePasses context.now.state.now.log context.now.conductor.now sender.old.passes }
     ensures agent { SendsLog context.now.state.now.log sender.new.agent }
+    ensures lives { StreamLived sender.old.agent.core sender.new.agent.core }
     ensures passes { ArePasses context.now.state.now.log context.now.conductor.now sender.new.passes }
     ensures told { IfOk result (λ _. CyclesAt now sender.old.agent.core sender.new.agent.core) }
+    ensures lived { IfOk result (λ _. StreamLivedTo now sender.old.agent.core sender.new.agent.core) }
     ensures keeps { IfOk result (λ busy. KeepsLog context.now.state.now.log sender.old.passes busy sender.new.passes) }
 {
     let before = work_of(sender);
@@ -146,8 +149,10 @@ fn cycle<R: Wait + Clock, D: Datagrams, E: Write>(
     requires agent { SendsLog context.now.state.now.log sender.old.agent }
     requires passes { ArePasses context.now.state.now.log context.now.conductor.now sender.old.passes }
     ensures agent { SendsLog context.now.state.now.log sender.new.agent }
+    ensures lives { StreamLived sender.old.agent.core sender.new.agent.core }
     ensures passes { ArePasses context.now.state.now.log context.now.conductor.now sender.new.passes }
     ensures told { IfOk result (λ _. CyclesAt now sender.old.agent.core sender.new.agent.core) }
+    ensures lived { IfOk result (λ _. StreamLivedTo now sender.old.agent.core sender.new.agent.core) }
     ensures keeps { IfOk result (λ busy. KeepsLog context.now.state.now.log sender.old.passes busy sender.new.passes) }
     ensures cycles { IfOk result (λ _. Cycles context.now.plan.now.linger now sender.old sender.new) }
 {
@@ -334,7 +339,7 @@ fn begin_with_heard<D: Datagrams, E: Write>(
 }
 
 /// Sends and keeps until the publisher ends. The answer is how, by the receivers that its ways have heard, and by how the
-/// reading had ended then.
+/// reading had ended then. However it ends, its core has lived on, and its log is kept.
 #[tactic(auto, using(crate::proofs::Begun::sends_still))]
 pub(crate) fn send_all<R: Wait + Clock, D: Datagrams, E: Write>(
     context: &PublisherContext<'_, R>,
@@ -343,7 +348,11 @@ pub(crate) fn send_all<R: Wait + Clock, D: Datagrams, E: Write>(
 ) -> Result<Judged, PublishFault>
     requires agent { SendsLog context.now.state.now.log sender.old.agent }
     requires passes { ArePasses context.now.state.now.log context.now.conductor.now sender.old.passes }
-    ensures { IfOk result (EndsBehind context.now.plan.now sender.old sender.new) }
+    ensures agent { SendsLog context.now.state.now.log sender.new.agent }
+    ensures lives { StreamLived sender.old.agent.core sender.new.agent.core }
+    ensures told { IfOk result (λ _. StreamLivedToLast sender.old.agent.core sender.new.agent.core) }
+    ensures keeper { IsKept context.now.state.now.log sender.new.passes.keeper }
+    ensures ends { IfOk result (EndsBehind context.now.plan.now sender.old sender.new) }
 {
     let mut progress = Progress::new();
     let mut begun = false;

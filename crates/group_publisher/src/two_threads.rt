@@ -5,11 +5,12 @@ ghost use Rattle.std.specs.Prelude.{◌≡◌, [], Err, IfOk, IfSome, Ok, Some, 
 ghost use Rattle.shared_log.specs.Readers.{ReaderValue};
 ghost use Rattle.flow_control.specs.Stream.{flow_after};
 ghost use Rattle.agents.specs.LogSenders.{IsNewSenderBy, SendsLog};
+ghost use Rattle.sender_meaning.specs.StreamLives.{StreamLived};
 ghost use Rattle.peer.specs.declared.ending.Ending.TheVariants.{Short, Whole};
 ghost use Rattle.offering.specs.Ended.{EndsInput};
 ghost use Rattle.publisher.specs.Ended.{reading_left};
 ghost use Rattle.publisher.specs.Judging.{end_in, fault_in};
-ghost use Rattle.publisher.specs.Openings.{ArePasses};
+ghost use Rattle.publisher.specs.Openings.{ArePasses, IsKept};
 ghost use Rattle.group_publisher.specs.Ended.{AllHaveArrived, ending_with};
 ghost use Rattle.group_publisher.specs.Endings.{heard_along};
 ghost use Rattle.group_publisher.specs.Farewells.{AreGiven, AreTold, TellsFarewell, are_told_alone, are_told_no_other, ends_along, ends_with, given_along, given_with};
@@ -167,6 +168,9 @@ pub(crate) fn run<R: Threads + Wait + Clock, I: BufRead + Drop, D: Datagrams, E:
     requires new { (r : ReaderValue) × IsNewSenderBy (flow_after (Some ways) context.now.state.now.log.start []) context.now.state.now.log r sender.old.agent }
     requires agent { SendsLog context.now.state.now.log sender.old.agent }
     requires passes { ArePasses context.now.state.now.log context.now.conductor.now sender.old.passes }
+    ensures agent { SendsLog context.now.state.now.log sender.new.agent }
+    ensures lives { StreamLived sender.old.agent.core sender.new.agent.core }
+    ensures keeper { IsKept context.now.state.now.log sender.new.passes.keeper }
     ensures input { IfOk result (λ p. IfSome p.input (λ e. EndsInput reader.handle.promise.form reader.handle.promise.log.value (I.remaining reader.handle.promise.input.value) (I.remaining e.input) reader.handle.promise.publisher.value.pass e.publisher e.reading)) }
     ensures whole { IfOk result (λ p. p.ending ≡ Ok Whole → AllHaveArrived (reading_left p.input) ways p.attendances.items) }
     ensures faulted { IfOk result (λ p. IfSome (fault_in (reading_left p.input)) (λ fault. p.ending ≡ Err fault)) }

@@ -20,19 +20,19 @@ use Rattle.offering.specs.declared.reading.ReadingEnd.{ReadingEnd}
 use Rattle.offering.specs.declared.reading.ReadingEnd.TheVariants.{All}
 use Rattle.peer.specs.declared.watch.ToldEnds.{ToldEnds}
 use Rattle.publisher.proofs.Sent.{sends_committed}
-use Rattle.publisher.specs.Ended.{AllArrived, CanClose, IsClosed, LeavesLog, PublishesAll, ShowsAll, reading_left}
+use Rattle.publisher.specs.Ended.{AllArrived, CanClose, IsClosed, LeavesLog, LeavesPasses, PublishesAll, ShowsAll, reading_left}
 use Rattle.publisher.specs.Farewells.{has_told_alone}
 use Rattle.publisher.specs.Judging.{end_by, end_in}
 use Rattle.publisher.specs.Openings.{IsPlanned}
 use Rattle.publisher.specs.declared.log_end.LogEnd.{LogEnd}
 
 -- the log that was closed is this one
-shown : (o : Option LogValue) (others : List PublisherValue) (p : PublisherValue) (book : Book) (log : LogValue) → ShowsAll o others p book → IfSome o (λ m. m ≡ log) → ShowsBook log (others ++ p ∷ []) book
+pub shown : (o : Option LogValue) (others : List PublisherValue) (p : PublisherValue) (book : Book) (log : LogValue) → ShowsAll o others p book → IfSome o (λ m. m ≡ log) → ShowsBook log (others ++ p ∷ []) book
 shown None others p book log shows is = absurd shows
 shown (Some m) others p book log shows is = subst (λ (l : LogValue). ShowsBook l (others ++ p ∷ []) book) is shows
 
 -- a reading that has read all ends where its messages do
-ends_there : (r : Reading) → r.ended ≡ Ok All → end_in (Some r) ≡ Some r.offered.tail
+pub ends_there : (r : Reading) → r.ended ≡ Ok All → end_in (Some r) ≡ Some r.offered.tail
 ends_there r all = ap (λ (ended : Result ReadingEnd ReadingFault). end_by ended r.offered.tail) all
 
 pub all_published : {I : Type 0} (remaining : I → Option (List ℕ)) (p : PublishPlan) (log : LogValue) (first : PublisherValue) (old given : Option (List ℕ)) (left : Option (InputEnd I)) (a : Attendance) (ends : Option ToldEnds) (e : LogEnd)
@@ -57,9 +57,12 @@ all_published {I} remaining p log first old given (Some left) a told e planned n
   sends = sends_committed log e.reader (e.others.items ++ left.publisher ∷ []) leaves.sent closed.2;
 })
 
+pub passes_left : (l : LogValue) (e : LogEnd) → LeavesLog l e → LeavesPasses l e
+passes_left l e leaves = record { log = leaves.log; others = leaves.others; keeper = leaves.keeper; reader = leaves.reader }
+
 -- its passes are all there
 pub can_close : {I : Type 0} (remaining : I → Option (List ℕ)) (form : Form) (log : LogValue) (first : PublisherValue) (old : Option (List ℕ)) (left : Option (InputEnd I)) (e : LogEnd)
-    → IsNew log 0 first → IfSome left (λ l. EndsInput form log old (remaining l.input) first.pass l.publisher l.reading) → LeavesLog log e → CanClose left e
+    → IsNew log 0 first → IfSome left (λ l. EndsInput form log old (remaining l.input) first.pass l.publisher l.reading) → LeavesPasses log e → CanClose left e
 can_close {I} remaining form log first old None e new ends leaves = record { log = log; leaves = leaves; first = tt }
 can_close {I} remaining form log first old (Some left) e new ends leaves = record {
   log = log;
@@ -67,7 +70,7 @@ can_close {I} remaining form log first old (Some left) e new ends leaves = recor
   first = (ends.done, ends.publishes.publishes.parts ∙ (λ i. (new.pass i).right.parts));
 }
 
-pub all_there : (l : LogValue) (e : LogEnd) (p : PublisherValue) → LeavesLog l e → IsDone l p → p.pass.right.parts ≡ 176 → AreAll l (e.others.items ++ p ∷ []) e.keeper
+pub all_there : (l : LogValue) (e : LogEnd) (p : PublisherValue) → LeavesPasses l e → IsDone l p → p.pass.right.parts ≡ 176 → AreAll l (e.others.items ++ p ∷ []) e.keeper
 all_there l e p leaves done parts = record {
   publishers_are = All-from_recursion (IsDone l) (e.others.items ++ p ∷ []) (all_append (IsDone l) e.others.items (p ∷ []) leaves.others.done (done, tt));
   keeper_is = leaves.keeper.done;
@@ -79,13 +82,13 @@ all_there l e p leaves done parts = record {
     sums all others p k a b c d = omega arith
 
 -- so the log that is left can be closed
-pub closes : (m l : LogValue) (e : LogEnd) (p : PublisherValue) (all : List PublisherValue) → e.log ≡ Some m → LeavesLog l e → IsDone l p → p.pass.right.parts ≡ 176 → all ≡ e.others.items ++ p ∷ [] → AreAll m all e.keeper
+pub closes : (m l : LogValue) (e : LogEnd) (p : PublisherValue) (all : List PublisherValue) → e.log ≡ Some m → LeavesPasses l e → IsDone l p → p.pass.right.parts ≡ 176 → all ≡ e.others.items ++ p ∷ [] → AreAll m all e.keeper
 closes m l e p all is leaves done parts items =
     let same : m ≡ l = subst (λ (o : Option LogValue). IfSome o (λ x. x ≡ l)) is leaves.log in
     subst (λ (x : LogValue). AreAll x all e.keeper) (sym same) (subst (λ (xs : List PublisherValue). AreAll l xs e.keeper) (sym items) (all_there l e p leaves done parts))
 
 -- and its reader is one of it
-pub reads : (m l : LogValue) (e : LogEnd) → e.log ≡ Some m → LeavesLog l e → IsReaderOf m e.reader
+pub reads : (m l : LogValue) (e : LogEnd) → e.log ≡ Some m → LeavesPasses l e → IsReaderOf m e.reader
 reads m l e is leaves = subst (λ (x : LogValue). IsReaderOf x e.reader) (sym (subst (λ (o : Option LogValue). IfSome o (λ x. x ≡ l)) is leaves.log)) leaves.reader
 
 -- what a thread has promised, by what it was given

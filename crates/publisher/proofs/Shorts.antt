@@ -29,7 +29,7 @@ use Rattle.publisher.specs.declared.sender_thread.SenderPasses.{SenderPasses}
 use Rattle.publisher.specs.declared.telling.Shortfall.TheVariants.{Unclosed}
 use Rattle.publisher.specs.declared.telling.ToldShortfall.{ToldShortfall}
 
-abbrev IsOk : Result Ending PublishFault → Type 0
+abbrev pub IsOk : Result Ending PublishFault → Type 0
 IsOk (Ok ending) = ⊤
 IsOk (Err fault) = ⊥
 
@@ -44,18 +44,18 @@ ends_short {D} l r passes p peer first told new are same why = record {
   why = why;
 }
 
-is_ok : (sent ending : Result Ending PublishFault) → (ending ≡ sent) ⊎ (ending ≡ unclosed sent) → ending ≡ Ok Short → IsOk sent
+pub is_ok : (sent ending : Result Ending PublishFault) → (ending ≡ sent) ⊎ (ending ≡ unclosed sent) → ending ≡ Ok Short → IsOk sent
 is_ok (Ok e) ending or short = tt
 is_ok (Err fault) ending (inl same) short = subst IsOk (sym short ∙ same) tt
 is_ok (Err fault) ending (inr same) short = subst IsOk (sym short ∙ same) tt
 
-why : {D : Type 0} (l : LogValue) (passes : SenderPasses (Watching (Losing (Patient D)))) (p : PublishPlan) (peer : SocketAddr) (sent ending : Result Ending PublishFault) (told after : Option ToldShortfall)
-    → IsOk sent → (sent ≡ Ok Short → EndsShort l passes p peer told) → SaysUnclosed peer told sent ending after → ending ≡ Ok Short → EndsShort l passes p peer after ⊎ IsTold peer Unclosed after
-why {D} l passes p peer (Ok Whole) ending told after ok short says is = inr (subst (λ (e : Result Ending PublishFault). UnclosedBy peer told e after) is says)
-why {D} l passes p peer (Ok Short) ending told after ok short says is = inl (subst (EndsShort l passes p peer) (sym says) (short refl))
-why {D} l passes p peer (Err fault) ending told after ok short says is = absurd ok
+-- it ended short, and said so, or its log couldn't be closed
+pub why : (Ends : Option ToldShortfall → Type 0) (peer : SocketAddr) (sent ending : Result Ending PublishFault) (told after : Option ToldShortfall) → IsOk sent → (sent ≡ Ok Short → Ends told) → SaysUnclosed peer told sent ending after → ending ≡ Ok Short → Ends after ⊎ IsTold peer Unclosed after
+why Ends peer (Ok Whole) ending told after ok short says is = inr (subst (λ (e : Result Ending PublishFault). UnclosedBy peer told e after) is says)
+why Ends peer (Ok Short) ending told after ok short says is = inl (subst Ends (sym says) (short refl))
+why Ends peer (Err fault) ending told after ok short says is = absurd ok
 
-no_other : (sent : Result Ending PublishFault) (P : Type 0) → IsOk sent → IfOk sent (λ _. P) → P
+pub no_other : (sent : Result Ending PublishFault) (P : Type 0) → IsOk sent → IfOk sent (λ _. P) → P
 no_other (Ok e) P ok so = so
 no_other (Err fault) P ok so = absurd ok
 
@@ -69,7 +69,7 @@ says l passes p peer at sent ending told after reading ends planned same short o
       log_is = planned;
       passes = passes;
       told = after;
-      why = why l passes p peer sent ending told after ok (λ so. subst (λ (a : SocketAddr). EndsShort l passes p a told) same (short so)) line is;
+      why = why (EndsShort l passes p peer) peer sent ending told after ok (λ so. subst (λ (a : SocketAddr). EndsShort l passes p a told) same (short so)) line is;
       reading = reading;
       ends = ends;
       no_other = no_other sent (has_told_no_other ends p.geometry (end_in reading) ≡ true) ok other;

@@ -54,6 +54,13 @@ pub record SendsCommitted (l : LogValue) (publishers : List PublisherValue) : Ty
   pub lived : Lived first last
   pub known : AllByRecursion (IsCommittedBy publishers) (known_of last.reads.reader)
 
+-- of this log the others and the keeper came back, with a reader of it, and the log, unless a thread still has it
+pub record LeavesPasses (l : LogValue) (e : LogEnd) : Type 0 where
+  pub log : IfSome e.log (λ m. m ≡ l)
+  pub others : AreOthers l e.others.items
+  pub keeper : IsKept l e.keeper
+  pub reader : IsReaderOf l e.reader
+
 -- of this log the others and the keeper came back, with the reader by which it was sent, and the log, unless a thread still has it
 pub record LeavesLog (l : LogValue) (e : LogEnd) : Type 0 where
   pub log : IfSome e.log (λ m. m ≡ l)
@@ -65,7 +72,7 @@ pub record LeavesLog (l : LogValue) (e : LogEnd) : Type 0 where
 -- the first publisher came back too, where the reading has ended
 pub record CanClose {I : Type 0} (left : Option (InputEnd I)) (e : LogEnd) : Type 0 where
   pub log : LogValue
-  pub leaves : LeavesLog log e
+  pub leaves : LeavesPasses log e
   pub first : IfSome left (λ l. IsDone log l.publisher × (l.publisher.pass.right.parts ≡ 176))
 
 -- it was closed, with this book

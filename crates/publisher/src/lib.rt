@@ -47,7 +47,7 @@ pub use channel_publisher::{
 pub use fault::PublishFault;
 pub use judged::Judged;
 pub use judging::{check_reading, end_in, messages_in, tail_in};
-pub use log_end::LogEnd;
+pub use log_end::{LogEnd, ending_closed, log_of};
 pub use looking::{Calls, ChannelDevice, Seen, calls_of, look};
 pub use peer::Ending;
 pub use progress::{Progress, told_in};
@@ -55,7 +55,8 @@ pub use publisher_context::PublisherContext;
 pub use sender_thread::{SenderPasses, end_unless_judged, keep};
 pub use telling::{
     Counts, Shortfall, ToldShortfall, Totals, shortfall_of, tell_alone, tell_change, tell_counters,
-    tell_if_elsewhere, tell_refused, tell_shortfall, tell_totals, tell_whole, tell_why,
+    tell_if_elsewhere, tell_if_unclosed, tell_refused, tell_shortfall, tell_totals, tell_whole,
+    tell_why,
 };
 pub use two_threads::{
     FAREWELL_PAUSE, FAREWELLS, Published, ended, ending_in_all, ending_told, ending_unless_another,

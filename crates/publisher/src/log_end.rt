@@ -7,12 +7,12 @@ ghost use Rattle.peer.specs.declared.ending.Ending.TheVariants.{Whole};
 ghost use Rattle.shared_log.specs.Books.{IsCommittedBy, IsDone};
 ghost use Rattle.shared_log.specs.Handles.{LogValue};
 ghost use Rattle.shared_log.specs.Readers.{known_of};
-ghost use Rattle.publisher.specs.Ended.{CanClose, IsClosed, LeavesLog, ShowsAll};
+ghost use Rattle.publisher.specs.Ended.{CanClose, IsClosed, LeavesPasses, ShowsAll};
 ghost use Rattle.publisher.specs.Shorts.{unclosed};
 
 use crate::fault::PublishFault;
 use crate::two_threads::Published;
-use offering::OfferingState;
+use offering::{InputEnd, OfferingState};
 use peer::Ending;
 use shared_log::{Book, Keeper, Log, LogReader, Publisher, close_read};
 use std::sync::Arc;
@@ -28,7 +28,7 @@ pub struct LogEnd {
 }
 
 /// The log of what threads shared, where the others have let it go.
-pub(crate) fn log_of(state: Arc<OfferingState>) -> Option<Log>
+pub fn log_of(state: Arc<OfferingState>) -> Option<Log>
     ensures { IfSome result (λ l. l ≡ (arc_value state).log) }
 {
     match Arc::try_unwrap(state) {
@@ -39,7 +39,7 @@ pub(crate) fn log_of(state: Arc<OfferingState>) -> Option<Log>
 
 /// Closes a log, whose first publisher this is. There is no book where a thread still has the log, or memory is refused.
 fn closed(end: LogEnd, publisher: Publisher) -> Option<Book>
-    requires { (l : LogValue) × LeavesLog l end × IsDone l publisher × (publisher.pass.right.parts ≡ 176) }
+    requires { (l : LogValue) × LeavesPasses l end × IsDone l publisher × (publisher.pass.right.parts ≡ 176) }
     ensures book { IfSome result (ShowsAll end.log end.others.items publisher) }
     ensures known { IfSome result (λ _. AllByRecursion (IsCommittedBy (end.others.items ++ publisher ∷ [])) (known_of end.reader)) }
 {
@@ -69,6 +69,25 @@ fn unclosed(ending: Result<Ending, PublishFault>) -> Result<Ending, PublishFault
     }
 }
 
+/// How one ended of whose input and log this is left: whole only where the log was closed.
+pub fn ending_closed<I: Drop>(
+    ending: Result<Ending, PublishFault>,
+    input: Option<InputEnd<I>>,
+    end: LogEnd,
+) -> Result<Ending, PublishFault>
+    requires { CanClose input end }
+    ensures whole { result ≡ Ok Whole → (ending ≡ Ok Whole) × IsClosed input end }
+    ensures kept { (result ≡ ending) ⊎ (result ≡ unclosed ending) }
+{
+    let Some(left) = input else {
+        return unclosed(ending);
+    };
+    match closed(end, left.publisher) {
+        Some(_) => ending,
+        None => unclosed(ending),
+    }
+}
+
 /// How it ended: whole only where its log was closed. What else is left is let go.
 pub(crate) fn ending_of<I: Drop>(
     published: Published<I>,
@@ -85,11 +104,5 @@ pub(crate) fn ending_of<I: Drop>(
         ends: _,
         input,
     } = published;
-    let Some(left) = input else {
-        return unclosed(ending);
-    };
-    match closed(end, left.publisher) {
-        Some(_) => ending,
-        None => unclosed(ending),
-    }
+    ending_closed(ending, input, end)
 }

@@ -280,7 +280,7 @@ pub fn tell_if_elsewhere<E: Write>(
 }
 
 /// Where all was sent and its log couldn't be closed, a line says so.
-pub(crate) fn tell_if_unclosed<E: Write>(
+pub fn tell_if_unclosed<E: Write>(
     errors: &mut E,
     peer: SocketAddr,
     told: Option<ToldShortfall>,

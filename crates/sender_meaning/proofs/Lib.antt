@@ -6,3 +6,4 @@ mod Both
 pub mod Cycles
 pub mod Moments
 pub mod StreamRows
+pub mod StreamLiving

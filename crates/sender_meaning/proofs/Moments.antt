@@ -17,7 +17,7 @@ hears_on now s m t (x ∷ xs) ys a b first then =
     (first.0, first.1, first.2 ++ b, first.3, hears_on now first.0 m t xs ys first.2 b first.4 then, ap (λ (g : List (List ℕ)). g ++ b) first.5 ∙ append_assoc first.1 first.2 b)
 
 -- along all ways it heard datagrams at the moment, one after the other
-ways_heard : {D : Type 0} (now : ℕ) (device : D → Device) (tells : D → Type 0) (turned : D → ℕ → D) (ways : ℕ) (any : Bool) (s t : StreamCore) (d e : D) → HearsWays HearsThere TicksThere now device tells turned ways any s d t e → (datagrams : List (List ℕ)) × (answers : List (List ℕ)) × HearsAll HearsThere now s datagrams t answers
+pub ways_heard : {D : Type 0} (now : ℕ) (device : D → Device) (tells : D → Type 0) (turned : D → ℕ → D) (ways : ℕ) (any : Bool) (s t : StreamCore) (d e : D) → HearsWays HearsThere TicksThere now device tells turned ways any s d t e → (datagrams : List (List ℕ)) × (answers : List (List ℕ)) × HearsAll HearsThere now s datagrams t answers
 ways_heard now device tells turned zero any s t d e h = ([], [], (h.0, refl))
 ways_heard now device tells turned (suc way) any s t d e h =
     let below = ways_heard now device tells turned way h.0 s h.2 d h.3 h.4 in

@@ -12,6 +12,7 @@ use Rattle.theory.proofs.Rows.{abc, identity}
 use Rattle.theory.proofs.UnitRows.{legal}
 use Rattle.receiver.specs.Lives.{IsStream, Stream}
 use Rattle.sender.specs.Sending.{begun}
+use Rattle.flow_control.specs.Unicast.{Unicast}
 use Rattle.shared_log.specs.declared.reader.source.LogFrames.{LogFrames}
 use Rattle.sender_meaning.specs.Lives.{IsSpelled, SendsStream}
 
@@ -56,10 +57,10 @@ spelled = record { ids = record { session = record { sfits = omega arith }; stre
 
 -- ---- a sender begins to send it, and not one that stands within a unit, nor one behind its last position
 
-sends : (r : LogFrames) → SendsStream two (begun identity 0 r (record { limit = 0; heard = false }))
+sends : (r : LogFrames) → SendsStream {F = Unicast} two (begun identity 0 r (record { limit = 0; heard = false }))
 sends r = record { identity = refl; unit = refl; low = omega arith }
 
-within_a_unit : (r : LogFrames) → SendsStream two (begun identity 16 r (record { limit = 16; heard = false })) → ⊥
+within_a_unit : (r : LogFrames) → SendsStream {F = Unicast} two (begun identity 16 r (record { limit = 16; heard = false })) → ⊥
 within_a_unit r s = let unit = s.unit in omega arith
 
 -- ---- a stream with a gap at its end, and one that is told shorter than it is, are none

@@ -108,7 +108,7 @@ given_in (Ticks now given ∷ acts) = given ++ given_in acts
 -- ---- the law
 
 -- it sends this stream, from a position of it
-pub record SendsStream (x : Stream) (s : LogCore) : Type 0 where
+pub record SendsStream {F : Type 0} (x : Stream) (s : Sending LogFrames F) : Type 0 where
   pub identity : s.identity ≡ x.identity
   pub unit : s.handler.at % 32 ≡ 0
   pub low : s.handler.at ≤ max_position x.identity.geometry

@@ -8,12 +8,16 @@
 //! a committed frame of it, in its place, and each SETUP names its shape. So a subscriber that was handed nothing but such
 //! datagrams, in any order and each any number of times, polls a run of the stream (`polls_what_is_sent`).
 //!
-//! A cycle without a fault ends with a moment that the core is told: to one receiver its life goes up to there (`LivedTo`), and
-//! to one or a group it has heard datagrams at that moment before (`CyclesAt`). A sender doesn't sleep: where a moment's new frames
+//! To one receiver or to a group, a sender lives so too (`StreamLives`), where it may go on by another group in between; what it
+//! gives out is honest by the same premises (`stream_gives_honest`).
+//!
+//! A cycle without a fault ends with a moment that the core is told: to one receiver its life goes up to there (`LivedTo`,
+//! `StreamLivedTo`), and to one or a group it has heard datagrams at that moment before (`CyclesAt`). A sender doesn't sleep: where a moment's new frames
 //! don't end at the flow limit or after 16 datagrams, its reader has looked and found none (`looks_at_its_end`).
 #![tactic(auto)]
 
 ghost use Rattle.sender_meaning.specs.Lives.{GivesHonest, KeepsItsReader, LooksAtItsEnd, PollsWhatIsSent, SetupsAreHonest};
+ghost use Rattle.sender_meaning.specs.StreamLives.{StreamGivesHonest, StreamKeepsItsReader};
 
 use receiver::polls_a_run;
 use theory::one_spelling;
@@ -37,6 +41,19 @@ pub fn setups_are_honest()
 /// A law: a sender reads the log that it began with, by the same reader.
 pub fn keeps_its_reader()
     ensures { KeepsItsReader }
+{}
+
+/// A law: what a sender to one receiver or to a group gives out is honest for its stream, whatever groups it goes on by.
+pub fn stream_gives_honest()
+    ensures { StreamGivesHonest }
+{
+    // A law that the proof cites.
+    one_spelling();
+}
+
+/// A law: so, too, it reads the log that it began with, by the same reader.
+pub fn stream_keeps_its_reader()
+    ensures { StreamKeepsItsReader }
 {}
 
 /// A law: a moment's new frames end at a look that found none, unless they end at a frame that may not go: its reader has missed

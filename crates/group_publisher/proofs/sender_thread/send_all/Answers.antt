@@ -1,14 +1,27 @@
 use Rattle.std.proofs.Common.{◌≡◌, ◌∙◌, zero, suc, IfSome, List, Option, ap, refl, subst}
+use Rattle.sender_meaning.proofs.StreamLiving.{lived_on, lived_same, lived_to_on}
 use Rattle.publisher.specs.Progress.{end_to_tell}
 use Rattle.publisher.specs.declared.judged.Judged.{Judged}
 use Rattle.group_publisher.specs.Judging.{HasToldAlong}
 use Rattle.group_publisher.specs.Seeing.{ChannelWay}
-use Rattle.group_publisher.proofs.Begun.{passes_on, sends_on}
+use Rattle.group_publisher.proofs.Begun.{passes_on, sends_on, turn_lived}
 use Rattle.group_publisher.proofs.Ends.{ends}
 use Rattle.group_publisher.proofs.sender_thread.send_all.Goals as goal
 
-pub returns-in-Some-judged : goal.returns-in-Some-judged
-returns-in-Some-judged g c =
+pub returns-in_err-busy-clause-lives : goal.returns-in_err-busy-clause-lives
+returns-in_err-busy-clause-lives g c = lived_on _ _ _ c.loop.invariant.lives c.cycle.ensures.lives
+
+pub returns-in_err-judged-clause-lives : goal.returns-in_err-judged-clause-lives
+returns-in_err-judged-clause-lives g c = lived_on _ _ _ c.loop.invariant.lives c.cycle.ensures.lives
+
+pub returns-in-Some-judged-clause-lives : goal.returns-in-Some-judged-clause-lives
+returns-in-Some-judged-clause-lives g c = lived_on _ _ _ c.loop.invariant.lives c.cycle.ensures.lives
+
+pub returns-in-Some-judged-clause-told : goal.returns-in-Some-judged-clause-told
+returns-in-Some-judged-clause-told g c = (c.in_ok-now.now, lived_to_on _ _ _ _ c.loop.invariant.lives c.in_ok-busy.ensures.lived)
+
+pub returns-in-Some-judged-clause-ends : goal.returns-in-Some-judged-clause-ends
+returns-in-Some-judged-clause-ends g c =
     let plan = c.args.context.now.plan.now in let last = c.cycle.new.sender in let is = c.in-Some-judged.judged in
     let shown : c.each-ways.result.now ≡ last.passes.duty.device.ways = c.each-ways.ensures ∙ ap (λ d. d.ways) c.device.ensures in
     record {
@@ -23,13 +36,14 @@ returns-in-Some-judged g c =
     }
 
 pub loop-init : goal.loop-init
-loop-init g c = record { agent = c.requires.agent; passes = c.requires.passes; turns = (zero, (refl, refl)) }
+loop-init g c = record { agent = c.requires.agent; lives = lived_same _ _ refl; passes = c.requires.passes; turns = (zero, (refl, refl)) }
 
 pub loop-preserved : goal.loop-preserved
 loop-preserved g c =
     let beginning = c.begin_with_heard-begun.new.sender in
     record {
       agent = sends_on _ _ _ _ _ c.cycle.ensures.agent c.begin_with_heard-begun.ensures.agent c.tell_end_where_due.ensures.agent;
+      lives = turn_lived _ _ _ _ c.args.sender.now c.loop.sender c.cycle.new.sender beginning c.tell_end_where_due.new.sender c.loop.invariant.lives c.cycle.ensures.lives c.begin_with_heard-begun.ensures.begins c.begin_with_heard-begun.ensures.agent c.tell_end_where_due.ensures.agent;
       passes = passes_on _ _ _ _ _ _ _ c.cycle.ensures.passes c.begin_with_heard-begun.ensures.passes c.tell_end_where_due.ensures.passes;
       turns = (
         suc c.loop.invariant.turns.0,

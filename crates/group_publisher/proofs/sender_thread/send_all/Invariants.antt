@@ -1,5 +1,6 @@
 use Rattle.std.proofs.Common.{ℕ}
 use Rattle.agents.specs.LogSenders.{SendsLog}
+use Rattle.sender_meaning.specs.StreamLives.{StreamLived}
 use Rattle.publisher.specs.Openings.{ArePasses}
 use Rattle.group_publisher.specs.Turns.{TurnsMany}
 use Rattle.group_publisher.proofs.sender_thread.send_all.Given as goal
@@ -7,6 +8,7 @@ use Rattle.group_publisher.proofs.sender_thread.send_all.Given as goal
 abbrev pub invariant-loop : goal.invariant-loop
 invariant-loop g l = record {
   agent : SendsLog l.context.state.now.log l.sender.agent;
+  lives : StreamLived l.fn.sender.agent.core l.sender.agent.core;
   passes : ArePasses l.context.state.now.log l.context.conductor.now l.sender.passes;
   turns : (count : ℕ) × TurnsMany l.context.plan.now count l.fn.sender l.begun l.sender;
 }

@@ -15,7 +15,7 @@ returns-clause-whole g c = λ whole.
     let plan = c.args.context.now.plan.now in
     let there : c.each-2.result.now ≡ c.send_all-sent.new.sender.passes.duty.device.ways = c.each-2.ensures ∙ ap (λ f. f.ways) c.device-2.ensures in
     let ends : IfOk c.send_all-sent.result (λ judged. Ends c.each-2.result.now plan.linger plan.wait judged) =
-    subst (λ (ws : List (ChannelWay g.row.D.Denot)). IfOk c.send_all-sent.result (λ judged. Ends ws plan.linger plan.wait judged)) (sym there) (behind_ends plan c.args.sender.now c.send_all-sent.new.sender c.send_all-sent.result c.send_all-sent.ensures) in
+    subst (λ (ws : List (ChannelWay g.row.D.Denot)). IfOk c.send_all-sent.result (λ judged. Ends ws plan.linger plan.wait judged)) (sym there) (behind_ends plan c.args.sender.now c.send_all-sent.new.sender c.send_all-sent.result c.send_all-sent.ensures.ends) in
     let still = whole_still c.ending_told.result c.ending_unless_another-ending.result _ c.ending_unless_another-ending.ensures whole in
     subst (λ (r : Option Reading). AllHaveArrived r c.args.ways c.in-Ok.attendances.items) c.reading_left-reading.ensures
     (all_arrived c.reading_left-reading.result c.send_all-sent.result c.ended-ending.result c.ending_with-known.result plan.linger plan.wait (length c.as_slice-3.result.now) c.args.ways c.each-2.result.now c.in-Ok.attendances.items
@@ -50,4 +50,4 @@ pub returns-clause-short : goal.returns-clause-short
 returns-clause-short g c = λ short.
     let plan = c.args.context.now.plan.now in let last = c.send_all-sent.new.sender in
     says_why last.peer plan c.reading_left-reading.result c.args.sender.now last c.send_all-sent.result c.ended-ending.result c.ending_with-known.result c.ending_told.result c.ending_unless_another-ending.result (length c.as_slice-3.result.now) c.args.ways c.are_told_alone-told_alone.result c.are_told_no_other-no_other.result c.told_of-line.result c.tell_if_elsewhere.result
-    c.send_all-sent.ensures c.ended-ending.ensures c.ending_with-known.ensures c.ending_told.ensures c.ending_unless_another-ending.ensures c.told_of-line.ensures c.tell_if_elsewhere.ensures short
+    c.send_all-sent.ensures.ends c.ended-ending.ensures c.ending_with-known.ensures c.ending_told.ensures c.ending_unless_another-ending.ensures c.told_of-line.ensures c.tell_if_elsewhere.ensures short
