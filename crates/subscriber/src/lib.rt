@@ -20,10 +20,10 @@
 //! that is lacking has come for ten seconds, and the session was heard in each of them, the image is lost (`note_kept`,
 //! `tell_loss`). Each turn notes what its own cycle showed and judges by that, once (`look`, by `JudgesTurn`; `follow`, by
 //! `JudgesEach`), so an image is newly taken for lost only where that cycle rebuilt nothing more, and something is lacking
-//! (`lacks_where_lost`). Its peer is asked for a SETUP under the next image's id, at each frame (`ask_anew`), and the peer's own SETUP, if
-//! it lies above what is rebuilt, takes the place (`GivesWay`). What is missing is told, and is what lies between where the old
-//! image's consumer stood and where the new one joined (`IsLoss`); the images' lives keep it. A subscriber ends whole only where
-//! no image before its last one was lost (`AreUnlost`), and this one wasn't told as lost. Which frames were heard isn't said.
+//! (`lacks_where_lost`). Its peer is asked for a SETUP under the next image's id, at each frame (`ask_anew`), and the peer's own
+//! SETUP, if it lies above what is rebuilt, takes the place (`GivesWay`). What is missing is told, and is what lies between where
+//! the old image's consumer stood and where the new one joined (`IsLoss`); the images' lives keep it. A subscriber ends whole only
+//! where no image before its last one was lost (`AreUnlost`), and this one wasn't told as lost. Which frames were heard isn't said.
 //!
 //! A cycle that succeeds has polled up to 256 messages and as many as were asked for, all that were there if they are
 //! fewer, and a writer that tells what it holds has grown by exactly these, in order, each spelled by its form; then
