@@ -4,12 +4,15 @@ use Rattle.std.specs.Prelude.{⊤}
 use Rattle.std.specs.List.{AllByRecursion, flat_map}
 use Rattle.theory.specs.Bytes.{Identity}
 use Rattle.theory.specs.Entry.{Entry, IsEntry, committed, entry_end}
+use Rattle.theory.specs.Messages.{messages}
 use Rattle.theory.specs.Placed.{AllAmong}
 use Rattle.theory.specs.Position.{IsGeometry, span}
 use Rattle.theory.specs.Tiling.{InOneTerm, Tiles}
 use Rattle.theory.proofs.Lists.{all_behind}
 use Rattle.model.proofs.Commits.{pieces_are}
+use Rattle.position.specs.Openings.{IsStart}
 use Rattle.publication.specs.declared.pass.ClaimRange.{ClaimRange}
+use Rattle.publication.specs.declared.pass.FrameWords.{FrameWords}
 use Rattle.publication.specs.declared.pass.Pass.{Pass}
 use Rattle.publication.specs.Orders.{AreInOrder, claim_end}
 use Rattle.log_rule.specs.Claims.Handles.{PublisherValue}
@@ -17,17 +20,22 @@ use Rattle.log_rule.specs.Claims.Rule.{IsClaimEntry, weight}
 use Rattle.log_rule.specs.Claims.Rule as rules
 use Rattle.log_rule.specs.Claims.Sums.{total}
 use Rattle.log_rule.proofs.Claimed.Totals.{extent_of, none_behind, tiles_up}
-use Rattle.shared_log.specs.Books.{HasEntries, weight_in}
-use Rattle.shared_log.specs.Handles.{LogValue}
+use Rattle.shared_log.specs.Books.{HasEntries, IsCommittedBy, ShowsBook, weight_in}
+use Rattle.shared_log.specs.Handles.{IsNew, LogValue}
 use Rattle.shared_log.specs.Readers.{known_of}
-use Rattle.sender_meaning.specs.Lives.{IsSpelled, LogCore, SendsStream, source_in}
+use Rattle.shared_log.specs.Sourced.{placed}
+use Rattle.shared_log.specs.declared.book.Book.{Book}
+use Rattle.shared_log.specs.declared.reader.source.LogFrames.{LogFrames}
+use Rattle.sender.specs.Sending.{Sending, begun}
+use Rattle.receiver.specs.Lives.{IsStream, Stream}
+use Rattle.sender_meaning.specs.Lives.{IsSpelled, SendsStream, source_in}
 use Rattle.options.specs.declared.ends.plans.PublishPlan.{PublishPlan}
 use Rattle.offering.specs.Published.{Publishes, Taken, claim_of, frames_in}
 use Rattle.offering.specs.Published.Taken.{Message, Padding}
 use Rattle.publisher.specs.Ended.{PublishesAll}
 use Rattle.publisher.specs.Openings.{HasNone}
-use Rattle.channel_meaning.specs.Books.{IsAllOfIt, PublishesAllOfIt, WritesAllOfIt, entries_in, stream_in}
-use Rattle.channel_meaning.specs.Streams.{WritesWhatIsRead, entry_of}
+use Rattle.channel_meaning.specs.Books.{PublishesAllOfIt, WritesAllOfIt, entries_in, stream_in}
+use Rattle.channel_meaning.specs.Streams.{IsItsStream, WritesWhatIsRead, entry_of}
 use Rattle.channel_meaning.proofs.Committed.{all_known}
 use Rattle.channel_meaning.proofs.Streams.{all_messages}
 
@@ -143,80 +151,93 @@ entries_are i number (Message start message ∷ ts) legal all =
     (record { owner = all.0.entry.owner; cuts = all.0.entry.cuts; long = all.0.entry.long; frames = pieces_are i.geometry message legal }, entries_are i number ts legal all.1)
 entries_are i number (Padding start bytes ∷ ts) legal all = (record { owner = all.0.entry.owner; cuts = all.0.entry.cuts; long = all.0.entry.long; frames = refl }, entries_are i number ts legal all.1)
 
-module _ (p : PublishPlan) (given : Option (List ℕ)) (all : PublishesAll p given) where
-  abbrev l : LogValue
-  l = all.log
+-- a log that was closed, of which its first publisher alone, just opened then, has claimed anything
+module _ (l : LogValue) (first last : PublisherValue) (tail : ℕ) (read : List (List ℕ)) (others : List PublisherValue) (book : Book) (opened : IsNew l 0 first) (published : Publishes first.pass l.start read last.pass tail) (unclaimed : AllByRecursion HasNone others) (shows : ShowsBook l (others ++ last ∷ []) book) where
+  abbrev all_entries : List Entry
+  all_entries = map (entry_of l.identity 0) published.taken
 
-  abbrev published : Publishes all.first.pass all.log.start all.ends.publishes.messages all.last.pass all.reading.offered.tail
-  published = all.ends.publishes.publishes
+  abbrev pub whole_stream : Stream
+  whole_stream = record { identity = l.identity; start = l.start; tail = book.tail; entries = all_entries }
 
   legal : IsGeometry l.identity.geometry
-  legal = all.shows.geometry
+  legal = shows.geometry
 
-  none_first : all.first.pass.right.claims ≡ []
-  none_first = ap (λ (v : Pass). v.right.claims) all.opened.pass
+  none_first : first.pass.right.claims ≡ []
+  none_first = ap (λ (v : Pass). v.right.claims) opened.pass
 
-  number_first : all.first.pass.number ≡ 0
-  number_first = ap (λ (v : Pass). v.number) all.opened.pass
+  number_first : first.pass.number ≡ 0
+  number_first = ap (λ (v : Pass). v.number) opened.pass
 
-  claims : all.last.pass.right.claims ≡ map (claim_of l.identity 0) published.taken
-  claims = published.claims ∙ (λ j. none_first j ++ map (claim_of (all.opened.of.identity j) (number_first j)) published.taken)
+  claims : last.pass.right.claims ≡ map (claim_of l.identity 0) published.taken
+  claims = published.claims ∙ (λ j. none_first j ++ map (claim_of (opened.of.identity j) (number_first j)) published.taken)
 
   -- by its shape, what was claimed weighs what the stream does
-  claimed : (f : ℕ → List ℕ → ℕ) → total (by_shape f) (map rules.entry_of (map (claim_of l.identity 0) published.taken)) ≡ total (by_shape f) all.shows.tiled.log
+  claimed : (f : ℕ → List ℕ → ℕ) → total (by_shape f) (map rules.entry_of (map (claim_of l.identity 0) published.taken)) ≡ total (by_shape f) shows.tiled.log
   claimed f =
       sym (ap (λ (cs : List ClaimRange). total (by_shape f) (map rules.entry_of cs)) claims)
-      ∙ sym (alone (by_shape f) all.others all.last all.others_are.unclaimed)
-      ∙ all.shows.tiled.fair (by_shape f)
+      ∙ sym (alone (by_shape f) others last unclaimed)
+      ∙ shows.tiled.fair (by_shape f)
 
   in_order : AreInOrder (map (claim_of l.identity 0) published.taken)
   in_order = subst AreInOrder claims (published.ordered (subst AreInOrder (sym none_first) tt))
 
-  tiles : Tiles l.identity.geometry.term_length l.start all.book.tail (entries_in all)
+  tiles : Tiles l.identity.geometry.term_length l.start book.tail all_entries
   tiles =
-      let from = begin_from l.start (map (claim_of l.identity 0) published.taken) (claimed (below l.start) ∙ none_below l.identity.geometry.term_length l.start l.start all.book.tail all.shows.tiled.log all.shows.tiled.tiles (omega arith)) in
-      tiles_so l.identity.geometry.term_length l.start all.book.tail (entries_in all) all.shows.tiled.log (follows l.identity 0 l.start published.taken in_order from) all.shows.tiled.tiles
+      let from = begin_from l.start (map (claim_of l.identity 0) published.taken) (claimed (below l.start) ∙ none_below l.identity.geometry.term_length l.start l.start book.tail shows.tiled.log shows.tiled.tiles (omega arith)) in
+      tiles_so l.identity.geometry.term_length l.start book.tail all_entries shows.tiled.log (follows l.identity 0 l.start published.taken in_order from) shows.tiled.tiles
       (λ f. same_shape f l.identity 0 published.taken ∙ claimed f)
 
   entries : AllByRecursion IsClaimEntry (map rules.entry_of (map (claim_of l.identity 0) published.taken))
-  entries = subst (λ (cs : List ClaimRange). AllByRecursion IsClaimEntry (map rules.entry_of cs)) claims (all_behind HasEntries all.others (all.last ∷ []) all.shows.entries).0
+  entries = subst (λ (cs : List ClaimRange). AllByRecursion IsClaimEntry (map rules.entry_of cs)) claims (all_behind HasEntries others (last ∷ []) shows.entries).0
 
-  is_all : IsAllOfIt p given all
-  is_all = record {
-    stream = record {
-      geometry = legal;
-      tiles = tiles;
-      entries = entries_are l.identity 0 published.taken legal entries;
-      tail_low = all.shows.low;
-    };
-    its = record {
-      identity = sym all.opened.of.identity;
-      entries = λ j. map (entry_of (sym all.opened.of.identity j) (sym number_first j)) published.taken;
-    };
-    are = all_messages l.identity 0 l.start l.start all.book.tail published.taken legal tiles (omega arith) ∙ published.are;
+  pub is_stream : IsStream whole_stream
+  is_stream = record {
+    geometry = legal;
+    tiles = tiles;
+    entries = entries_are l.identity 0 published.taken legal entries;
+    tail_low = shows.low;
   }
 
-pub publishes_all_of_it : PublishesAllOfIt
-publishes_all_of_it p given all = is_all p given all
+  pub is_its : IsItsStream first.pass published.taken whole_stream
+  is_its = record {
+    identity = sym opened.of.identity;
+    entries = λ j. map (entry_of (sym opened.of.identity j) (sym number_first j)) published.taken;
+  }
 
--- its sender sends that stream
-sends_it : (p : PublishPlan) (given : Option (List ℕ)) (all : PublishesAll p given) → SendsStream (stream_in all) all.sends.first
-sends_it p given all =
-    let made = all.sends.begun.made in
-    let at : all.sends.first.handler.at ≡ all.log.start = ap (λ (s : LogCore). s.handler.at) made in
-    let start = all.sends.start in record {
-      identity = ap (λ (s : LogCore). s.identity) made;
+  pub are_read : messages l.start book.tail all_entries ≡ read
+  are_read = all_messages l.identity 0 l.start l.start book.tail published.taken legal tiles (omega arith) ∙ published.are
+
+  -- frames that were committed to it are the stream's
+  pub known_in : (known : List FrameWords) → IsSpelled whole_stream → AllByRecursion (IsCommittedBy (others ++ last ∷ [])) known → AllAmong (committed all_entries) (map placed known)
+  known_in known spelled all =
+      let frames : last.pass.work.frames ≡ flat_map (frames_in l.identity) published.taken = published.frames ∙ (λ j. (opened.pass j).work.frames ++ flat_map (frames_in (opened.of.identity j)) published.taken) in
+      all_known l.identity 0 published.taken others last known spelled.frames unclaimed frames all
+
+-- a sender that begins at its log's start sends the log's stream
+pub sends_from_start : {F : Type 0} (flow : F) (l : LogValue) (s : Sending LogFrames F) (tail : ℕ) (es : List Entry) → IsStart l.identity.geometry l.start → s ≡ begun l.identity l.start s.reads flow → SendsStream (record { identity = l.identity; start = l.start; tail = tail; entries = es }) s
+sends_from_start {F} flow l s tail es start made =
+    let at : s.handler.at ≡ l.start = ap (λ (x : Sending LogFrames F). x.handler.at) made in record {
+      identity = ap (λ (x : Sending LogFrames F). x.identity) made;
       unit = subst (λ (n : ℕ). n % 32 ≡ 0) (sym at) start.0;
       low = (let below = start.1 in omega (arith, at, below));
     }
 
+pub publishes_all_of_it : PublishesAllOfIt
+publishes_all_of_it p given all =
+    let published = all.ends.publishes.publishes in record {
+      stream = is_stream all.log all.first all.last _ _ all.others all.book all.opened published all.others_are.unclaimed all.shows;
+      its = is_its all.log all.first all.last _ _ all.others all.book all.opened published all.others_are.unclaimed all.shows;
+      are = are_read all.log all.first all.last _ _ all.others all.book all.opened published all.others_are.unclaimed all.shows;
+    }
+
+-- its sender sends that stream
+sends_it : (p : PublishPlan) (given : Option (List ℕ)) (all : PublishesAll p given) → SendsStream (stream_in all) all.sends.first
+sends_it p given all = sends_from_start _ all.log all.sends.first all.book.tail (entries_in all) all.sends.start all.sends.begun.made
+
 -- and knew no other frames
 known_of_it : (p : PublishPlan) (given : Option (List ℕ)) (all : PublishesAll p given) → IsSpelled (stream_in all) → AllAmong (committed (entries_in all)) (source_in all.sends.last.reads).frames
 known_of_it p given all spelled =
-    let i = all.log.identity in
-    let published = all.ends.publishes.publishes in
-    let frames : all.last.pass.work.frames ≡ flat_map (frames_in i) published.taken = published.frames ∙ (λ j. (all.opened.pass j).work.frames ++ flat_map (frames_in (all.opened.of.identity j)) published.taken) in
-    all_known i 0 published.taken all.others all.last (known_of all.sends.last.reads.reader) spelled.frames all.others_are.unclaimed frames all.sends.known
+    known_in all.log all.first all.last _ _ all.others all.book all.opened all.ends.publishes.publishes all.others_are.unclaimed all.shows (known_of all.sends.last.reads.reader) spelled all.sends.known
 
 pub writes_all_of_it : PublishesAllOfIt → WritesWhatIsRead → WritesAllOfIt
 writes_all_of_it law writes p given all spelled plan before after count w from =

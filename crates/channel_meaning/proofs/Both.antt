@@ -12,8 +12,8 @@ use Rattle.receiver.specs.Lives as meant
 use Rattle.receiver.specs.Lives.{IsHonest, IsStream, PollsARun, Stream}
 use Rattle.sender_meaning.specs.Lives.{GivesHonest, IsSpelled, SetupsAreHonest, given_in}
 use Rattle.subscription.specs.Meetings.{id_of, window_in}
-use Rattle.subscriber.specs.Living.{AreLives, Life}
-use Rattle.channel_meaning.specs.Streams.{GivesRun, IsFromIt, PublishesItsStream, StandsFrom, WritesWhatIsRead, farewell}
+use Rattle.subscriber.specs.Living.{AreLives, Life, WritesLives}
+use Rattle.channel_meaning.specs.Streams.{GivesRun, IsFromIt, PublishesItsStream, StandsFrom, WritesWhatIsRead, farewell, GoesThrough}
 use Rattle.channel_meaning.proofs.Runs.{run_in}
 
 stands : (x : Stream) → IsStream x → (read : List (List ℕ)) → messages x.start x.tail x.entries ≡ read → (image : Option Opened) (given : List (List ℕ)) → meant.IsRunOf x image given → StandsFrom x read image given
@@ -55,9 +55,14 @@ each_runs law x is read same sent last honest plan (l ∷ older) all from =
       each_runs law x is read same sent last honest plan older all.3 from.1,
     )
 
+-- where what was given out is honest for the stream that was published
+pub writes_honest : SetupsAreHonest → PollsARun → (x : Stream) → IsStream x → IsSpelled x → (read : List (List ℕ)) → messages x.start x.tail x.entries ≡ read → (sent : List (List ℕ)) → AllByRecursion (IsHonest x) sent
+    → (plan : SubscribePlan) (before after : Option (List ℕ)) (count : ℕ) (w : WritesLives plan before count after) → AllByRecursion (IsFromIt x sent) w.images → GoesThrough x read plan w.images
+writes_honest one law x is spelled read same sent honest plan before after count w from = record {
+  published = same;
+  runs = each_runs law x is read same sent (farewell_honest one x is spelled) honest plan w.images w.lives from;
+}
+
 pub writes_what_is_read : SetupsAreHonest → PublishesItsStream → GivesHonest → PollsARun → WritesWhatIsRead
 writes_what_is_read one published gives law x is spelled p q tail to read h its s t sent sends lives known plan before after count w from =
-    let same = published p q tail to read h x is its in record {
-      published = same;
-      runs = each_runs law x is read same (given_in sent) (farewell_honest one x is spelled) (gives x is spelled s t sent sends lives known).0 plan w.images w.lives from;
-    }
+    writes_honest one law x is spelled read (published p q tail to read h x is its) (given_in sent) (gives x is spelled s t sent sends lives known).0 plan before after count w from

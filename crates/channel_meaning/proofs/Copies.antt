@@ -75,13 +75,13 @@ lines_read : (greatest : ℕ) (ms : List (List ℕ)) (old : List ℕ) (between n
 lines_read greatest [] old between new read taken ended = inl (sym (at_end old between new read taken ended))
 lines_read greatest (m ∷ ms) old between new read taken ended = line_more greatest m ms old read.0 between read.1.0.1 read.2 (λ ys rest. lines_read greatest ms ys between new rest taken ended)
 
-is_copy : (form : Form) (greatest : ℕ) (ms : List (List ℕ)) (old : List ℕ) (between new : Option (List ℕ)) → Reads form greatest (Some old) ms between → Consumes between new [] → IsAtEnd new → IsCopy form old (spelling form ms)
+pub is_copy : (form : Form) (greatest : ℕ) (ms : List (List ℕ)) (old : List ℕ) (between new : Option (List ℕ)) → Reads form greatest (Some old) ms between → Consumes between new [] → IsAtEnd new → IsCopy form old (spelling form ms)
 is_copy Lines greatest ms old between new read taken ended = lines_read greatest ms old between new read taken ended
 is_copy Blocks greatest ms old between new read taken ended = blocks_read greatest ms old between new read taken ended
 
 -- ---- as many as were read are all of them
 
-all_given : (x : Stream) (read : List (List ℕ)) (image : Option Opened) (given : List (List ℕ)) → StandsFrom x read image given → length read ≤ length given → given ≡ read
+pub all_given : (x : Stream) (read : List (List ℕ)) (image : Option Opened) (given : List (List ℕ)) → StandsFrom x read image given → length read ≤ length given → given ≡ read
 all_given x read None given none many = none ∙ no_message read (subst (λ (ms : List (List ℕ)). length read ≤ length ms) none many)
 all_given x read (Some o) given stands many = sym (stands.parts ∙ no_more stands.before given stands.behind (subst (λ (ms : List (List ℕ)). length ms ≤ length given) stands.parts many))
 

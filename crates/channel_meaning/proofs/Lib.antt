@@ -5,6 +5,7 @@ mod Committed
 mod Tallies
 mod Books
 mod Copies
+mod Groups
 mod WorldRows
 mod SentRows
 mod LifeRows

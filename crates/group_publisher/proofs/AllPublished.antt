@@ -1,5 +1,5 @@
 -- What was published in all, where a publisher to several subscribers has ended whole.
-use Rattle.std.proofs.Common.{◌≡◌, ◌⊎◌, inl, inr, length, ◌<◌, List, [], ◌∷◌, ◌++◌, ℕ, true, Option, None, Some, IfOk, IfSome, Result, Ok, Err, subst, arith}
+use Rattle.std.proofs.Common.{◌≡◌, ◌⊎◌, inl, inr, length, ◌<◌, List, [], ◌∷◌, ◌++◌, ℕ, true, Option, None, Some, IfOk, IfSome, Result, Ok, subst, arith}
 use Rattle.log_rule.specs.Claims.Handles.{PublisherValue}
 use Rattle.shared_log.specs.Handles.{IsNew, LogValue}
 use Rattle.shared_log.specs.Readers.{ReaderValue}

@@ -7,3 +7,4 @@ pub mod Cycles
 pub mod Moments
 pub mod StreamRows
 pub mod StreamLiving
+mod StreamLifeRows

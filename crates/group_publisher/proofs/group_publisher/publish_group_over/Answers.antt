@@ -1,4 +1,4 @@
-use Rattle.std.proofs.Common.{◌≡◌, ◌∙◌, ℕ, IfSome, length, subst}
+use Rattle.std.proofs.Common.{◌≡◌, ◌∙◌, ℕ, IfSome, subst}
 use Rattle.shared_log.specs.Readers.{IsReaderOf}
 use Rattle.offering.specs.declared.offering_state.OfferingState.{OfferingState}
 use Rattle.publisher.specs.Openings.{IsKept}
