@@ -1,17 +1,17 @@
 -- What was published in all, where a publisher to several subscribers has ended whole.
-use Rattle.std.proofs.Common.{◌≡◌, ◌⊎◌, inl, inr, length, ◌<◌, List, [], ◌∷◌, ◌++◌, ℕ, true, Option, None, Some, IfOk, IfSome, Result, Ok, subst, arith}
+use Rattle.std.proofs.Common.{◌≡◌, ◌⊎◌, inl, inr, length, ◌<◌, List, [], ◌∷◌, ◌++◌, ℕ, true, Option, None, Some, IfOk, IfSome, Result, Ok, Err, refl, sym, subst, arith}
+use Rattle.std.specs.Prelude.{slice_index_or}
 use Rattle.log_rule.specs.Claims.Handles.{PublisherValue}
 use Rattle.shared_log.specs.Handles.{IsNew, LogValue}
 use Rattle.shared_log.specs.Readers.{ReaderValue}
 use Rattle.flow_control.specs.Stream.{flow_after}
 use Rattle.agents.specs.LogSenders.{IsNewSenderBy}
-use Rattle.std.specs.declared.net.SocketAddr.{SocketAddr}
 use Rattle.endpoint.specs.Fans.{Fanned}
 use Rattle.endpoint.specs.declared.udp.Route.{Route}
 use Rattle.peer.specs.Ties.{Tied}
 use Rattle.peer.specs.declared.ending.Ending.{Ending}
 use Rattle.offering.specs.declared.reading.Reading.{Reading}
-use Rattle.peer.specs.declared.ending.Ending.TheVariants.{Short}
+use Rattle.peer.specs.declared.ending.Ending.TheVariants.{Whole, Short}
 use Rattle.options.specs.declared.ends.plans.PublishPlan.{PublishPlan}
 use Rattle.peer.specs.declared.attendance.Attendance.{Attendance}
 use Rattle.offering.specs.Ended.{EndsInput}
@@ -22,15 +22,14 @@ use Rattle.publisher.specs.Judging.{end_in}
 use Rattle.group_publisher.specs.Farewells.{are_told_alone, are_told_no_other}
 use Rattle.publisher.specs.Openings.{IsPlanned}
 use Rattle.publisher.specs.Shorts.{unclosed}
-use Rattle.publisher.specs.Whys.{IsTold, SaysUnclosed}
-use Rattle.publisher.specs.declared.telling.Shortfall.TheVariants.{Unclosed}
+use Rattle.publisher.specs.Whys.{SaysUnclosed, UnclosedBy}
 use Rattle.publisher.specs.declared.telling.ToldShortfall.{ToldShortfall}
 use Rattle.group_publisher.specs.Beginnings.{AreWaysAlong}
 use Rattle.publisher.specs.declared.sender_thread.SenderPasses.{SenderPasses}
 use Rattle.publisher.specs.declared.fault.PublishFault.{PublishFault}
 use Rattle.publisher.specs.declared.log_end.LogEnd.{LogEnd}
 use Rattle.publisher.proofs.AllPublished.{shown}
-use Rattle.publisher.proofs.Shorts.{is_ok, no_other, why}
+use Rattle.publisher.proofs.Shorts.{IsOk, is_ok, no_other}
 use Rattle.group_publisher.specs.Ended.{AllHaveArrived, LeavesLogAlong, PublishesAllAlong}
 use Rattle.group_publisher.proofs.Sent.{sends_committed}
 use Rattle.group_publisher.specs.Seeing.{ChannelWay}
@@ -71,28 +70,27 @@ pub ends_short : {D : Type 0} (l : LogValue) (reader : ReaderValue) (passes : Se
     → IsNewSenderBy (flow_after (Some ways) l.start []) l reader first.agent → first.passes ≡ passes → SaysWhy p first told → EndsShort l passes ways p told
 ends_short {D} l reader passes ways p first told new are why = record { first = first; reader = reader; begun = new; passes_are = are; why = why }
 
-unclosed_line : (peer : SocketAddr) (told : Option ToldShortfall) → IsTold peer Unclosed told → IsUnclosed told
-unclosed_line peer None told = told
-unclosed_line peer (Some line) told = told.1
+-- it ended short, and has said so, or all had arrived, and its log couldn't be closed
+said : (routes : List Route) (first : Route) (reading : Option Reading) (heard : List Attendance) (Ends : Option ToldShortfall → Type 0) (sent ending : Result Ending PublishFault) (told after : Option ToldShortfall)
+    → first ≡ slice_index_or routes 0 first → (sent ≡ Ok Whole → AllHaveArrived reading (length routes) heard) → IsOk sent → (sent ≡ Ok Short → Ends told) → SaysUnclosed first.peer told sent ending after → ending ≡ Ok Short → Ends after ⊎ IsUnclosed routes reading after
+said routes first reading heard Ends (Ok Whole) ending told after stands arrived ok short says is =
+    inr (record { heard = heard; arrived = arrived refl; first = first; stands = stands; line = subst (λ (e : Result Ending PublishFault). UnclosedBy first.peer told e after) is says })
+said routes first reading heard Ends (Ok Short) ending told after stands arrived ok short says is = inl (subst Ends (sym says) (short refl))
+said routes first reading heard Ends (Err fault) ending told after stands arrived ok short says is = absurd ok
 
-said : (Ends : Type 0) (peer : SocketAddr) (told : Option ToldShortfall) → Ends ⊎ IsTold peer Unclosed told → Ends ⊎ IsUnclosed told
-said Ends peer told (inl ends) = inl ends
-said Ends peer told (inr line) = inr (unclosed_line peer told line)
-
-pub says : (l : LogValue) (passes : SenderPasses (Fanned (ChannelWay Tied))) (p : PublishPlan) (routes : List Route) (peer : SocketAddr) (sent ending : Result Ending PublishFault) (told after : Option ToldShortfall) (reading : Option Reading) (ends : List (Option ToldEnds))
-    → IsPlanned p l → AreWaysAlong p routes passes.duty.device.ways → (sent ≡ Ok Short → EndsShort l passes (length passes.duty.device.ways) p told) → IfOk sent (λ _. are_told_no_other p.geometry (end_in reading) ends ≡ true) → (ending ≡ sent) ⊎ (ending ≡ unclosed sent)
-    → SaysUnclosed peer told sent ending after → ending ≡ Ok Short → SaysItsShortfall p routes
-says l passes p routes peer sent ending told after reading ends planned along short other kept line is =
+pub says : (l : LogValue) (passes : SenderPasses (Fanned (ChannelWay Tied))) (p : PublishPlan) (routes : List Route) (first : Route) (sent ending : Result Ending PublishFault) (told after : Option ToldShortfall) (reading : Option Reading) (heard : List Attendance) (ends : List (Option ToldEnds))
+    → IsPlanned p l → AreWaysAlong p routes passes.duty.device.ways → first ≡ slice_index_or routes 0 first → (sent ≡ Ok Whole → AllHaveArrived reading (length routes) heard) → (sent ≡ Ok Short → EndsShort l passes (length passes.duty.device.ways) p told)
+    → IfOk sent (λ _. are_told_no_other p.geometry (end_in reading) ends ≡ true) → (ending ≡ sent) ⊎ (ending ≡ unclosed sent) → SaysUnclosed first.peer told sent ending after → ending ≡ Ok Short → SaysItsShortfall p routes
+says l passes p routes first sent ending told after reading heard ends planned along stands arrived short other kept line is =
     let ok = is_ok sent ending kept is in
-    let Ends = EndsShort l passes (length passes.duty.device.ways) p in
     record {
       log = l;
       log_is = planned;
       passes = passes;
       ways = along;
       told = after;
-      why = said (Ends after) peer after (why Ends peer sent ending told after ok short line is);
       reading = reading;
+      why = said routes first reading heard (EndsShort l passes (length passes.duty.device.ways) p) sent ending told after stands arrived ok short line is;
       ends = ends;
       no_other = no_other sent (are_told_no_other p.geometry (end_in reading) ends ≡ true) ok other;
     }

@@ -1,6 +1,7 @@
 -- What the cycles of a sender to several subscribers have shown, with whom it began, and how it ends by that.
 use Rattle.std.specs.Prelude.{◌≡◌, ◌⊎◌, ◌||◌, ℕ, zero, suc, Bool, false, List, map, Option, None, Some}
 use Rattle.sender_meaning.specs.Moments.{CyclesAt}
+use Rattle.sender_meaning.specs.StreamLives.{StreamLivedTo, StreamLivedToLast}
 use Rattle.options.specs.declared.ends.plans.PublishPlan.{PublishPlan}
 use Rattle.peer.specs.declared.ending.Ending.TheVariants.{Short}
 use Rattle.publisher.specs.declared.judged.Judged.{Judged}
@@ -11,6 +12,14 @@ use Rattle.group_publisher.specs.Farewells.{TellsWhereDue}
 use Rattle.group_publisher.specs.Judging.{Ends, HasToldAlong}
 use Rattle.group_publisher.specs.Seeing.{ChannelWay, seen_along}
 use Rattle.group_publisher.specs.declared.sender_thread.GroupSender.{GroupSender}
+
+-- its core lived on up to this moment, which it was told last
+abbrev pub LivedAt : {D : Type 0} → ℕ → GroupSender D → GroupSender D → Type 0
+LivedAt now old new = StreamLivedTo now old.agent.core new.agent.core
+
+-- up to some moment that it was told last
+abbrev pub LivedToLast : {D : Type 0} → GroupSender D → GroupSender D → Type 0
+LivedToLast old new = StreamLivedToLast old.agent.core new.agent.core
 
 -- a cycle, whose moment its core was told last; what it has shown along each way was seen at that moment
 pub record Cycles {D : Type 0} (linger now : ℕ) (old new : GroupSender D) : Type 0 where

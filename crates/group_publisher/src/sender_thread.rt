@@ -4,7 +4,7 @@ ghost use Rattle.std.specs.Prelude.{◌≡◌, ◌≤◌, ◌||◌, nat_le, not,
 ghost use Rattle.std.specs.List.{list_all};
 ghost use Rattle.agents.specs.LogSenders.{SendsLog};
 ghost use Rattle.sender_meaning.specs.Moments.{CyclesAt};
-ghost use Rattle.sender_meaning.specs.StreamLives.{StreamLived, StreamLivedTo, StreamLivedToLast};
+ghost use Rattle.sender_meaning.specs.StreamLives.{StreamLived};
 ghost use Rattle.endpoint.specs.declared.device_error.DeviceError.TheVariants.{Device};
 ghost use Rattle.publisher.specs.Judging.{FailsBy};
 ghost use Rattle.publisher.specs.Keeping.{KeepsLog};
@@ -16,7 +16,7 @@ ghost use Rattle.group_publisher.specs.Endings.{is_broken_along};
 ghost use Rattle.group_publisher.specs.Farewells.{TellsWhereDue};
 ghost use Rattle.group_publisher.specs.Judging.{HasToldAlong, Judges};
 ghost use Rattle.group_publisher.specs.Seeing.{begun, seen_along};
-ghost use Rattle.group_publisher.specs.Turns.{Begins, Cycles, EndsBehind};
+ghost use Rattle.group_publisher.specs.Turns.{Begins, Cycles, EndsBehind, LivedAt, LivedToLast};
 
 use crate::ending::{are_broken, group_ending};
 use crate::seeing::begin_all;
@@ -125,7 +125,7 @@ fn run_cycle<R: Wait + Clock, D: Datagrams>(
     ensures lives { StreamLived sender.old.agent.core sender.new.agent.core }
     ensures passes { ArePasses context.now.state.now.log context.now.conductor.now sender.new.passes }
     ensures told { IfOk result (λ _. CyclesAt now sender.old.agent.core sender.new.agent.core) }
-    ensures lived { IfOk result (λ _. StreamLivedTo now sender.old.agent.core sender.new.agent.core) }
+    ensures lived { IfOk result (λ _. LivedAt now sender.old sender.new) }
     ensures keeps { IfOk result (λ busy. KeepsLog context.now.state.now.log sender.old.passes busy sender.new.passes) }
 {
     let before = work_of(sender);
@@ -152,7 +152,7 @@ fn cycle<R: Wait + Clock, D: Datagrams, E: Write>(
     ensures lives { StreamLived sender.old.agent.core sender.new.agent.core }
     ensures passes { ArePasses context.now.state.now.log context.now.conductor.now sender.new.passes }
     ensures told { IfOk result (λ _. CyclesAt now sender.old.agent.core sender.new.agent.core) }
-    ensures lived { IfOk result (λ _. StreamLivedTo now sender.old.agent.core sender.new.agent.core) }
+    ensures lived { IfOk result (λ _. LivedAt now sender.old sender.new) }
     ensures keeps { IfOk result (λ busy. KeepsLog context.now.state.now.log sender.old.passes busy sender.new.passes) }
     ensures cycles { IfOk result (λ _. Cycles context.now.plan.now.linger now sender.old sender.new) }
 {
@@ -350,7 +350,7 @@ pub(crate) fn send_all<R: Wait + Clock, D: Datagrams, E: Write>(
     requires passes { ArePasses context.now.state.now.log context.now.conductor.now sender.old.passes }
     ensures agent { SendsLog context.now.state.now.log sender.new.agent }
     ensures lives { StreamLived sender.old.agent.core sender.new.agent.core }
-    ensures told { IfOk result (λ _. StreamLivedToLast sender.old.agent.core sender.new.agent.core) }
+    ensures told { IfOk result (λ _. LivedToLast sender.old sender.new) }
     ensures keeper { IsKept context.now.state.now.log sender.new.passes.keeper }
     ensures ends { IfOk result (EndsBehind context.now.plan.now sender.old sender.new) }
 {

@@ -50,7 +50,7 @@ is_ok (Err fault) ending (inl same) short = subst IsOk (sym short ∙ same) tt
 is_ok (Err fault) ending (inr same) short = subst IsOk (sym short ∙ same) tt
 
 -- it ended short, and said so, or its log couldn't be closed
-pub why : (Ends : Option ToldShortfall → Type 0) (peer : SocketAddr) (sent ending : Result Ending PublishFault) (told after : Option ToldShortfall) → IsOk sent → (sent ≡ Ok Short → Ends told) → SaysUnclosed peer told sent ending after → ending ≡ Ok Short → Ends after ⊎ IsTold peer Unclosed after
+why : (Ends : Option ToldShortfall → Type 0) (peer : SocketAddr) (sent ending : Result Ending PublishFault) (told after : Option ToldShortfall) → IsOk sent → (sent ≡ Ok Short → Ends told) → SaysUnclosed peer told sent ending after → ending ≡ Ok Short → Ends after ⊎ IsTold peer Unclosed after
 why Ends peer (Ok Whole) ending told after ok short says is = inr (subst (λ (e : Result Ending PublishFault). UnclosedBy peer told e after) is says)
 why Ends peer (Ok Short) ending told after ok short says is = inl (subst Ends (sym says) (short refl))
 why Ends peer (Err fault) ending told after ok short says is = absurd ok

@@ -1,8 +1,10 @@
-use Rattle.std.proofs.Common.{length, subst}
+use Rattle.std.proofs.Common.{get_or, length, subst}
+use Rattle.std.proofs.lemmas.List.{get_or_default}
 use Rattle.std.specs.Io.Buffered.{reader_remaining}
 use Rattle.messages.specs.Fused.{fused_remaining}
 use Rattle.publisher.specs.Ended.{reading_left}
 use Rattle.group_publisher.specs.Ended.{AllHaveArrived, LeavesLogAlong}
+use Rattle.group_publisher.proofs.Along.{none}
 use Rattle.group_publisher.proofs.AllPublished.{all_published, says}
 use Rattle.group_publisher.proofs.group_publisher.publish_group.Goals as goal
 
@@ -17,5 +19,6 @@ returns-clause-whole g c = λ whole.
 pub returns-clause-short : goal.returns-clause-short
 returns-clause-short g c = λ short.
     let parts = c.in_ok-parts.parts in let is = c.in_ok-parts.ensures in let left = c.in_ok-published.published in
-    says parts.state.log parts.passes c.args.plan.now c.args.routes.now _ left.ending _ left.told _ (reading_left left.input) left.ends.items is.parts.log_is is.ways c.in_ok-published.ensures.short c.in_ok-published.ensures.no_other
+    says parts.state.log parts.passes c.args.plan.now c.args.routes.now (get_or c.args.routes.now 0 none) left.ending _ left.told _ (reading_left left.input) left.attendances.items left.ends.items is.parts.log_is is.ways (get_or_default c.args.routes.now 0 none (get_or c.args.routes.now 0 none) c.requires.some)
+    (λ sent. subst (λ n. AllHaveArrived (reading_left left.input) n left.attendances.items) is.ways.many (c.in_ok-published.ensures.whole sent)) c.in_ok-published.ensures.short c.in_ok-published.ensures.no_other
     c.ending_of-ending.ensures.kept c.tell_if_unclosed-why.ensures short
