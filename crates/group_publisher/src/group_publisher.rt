@@ -291,7 +291,8 @@ fn ending_of<I: Drop>(published: GroupPublished<I>, end: LogEnd) -> Result<Endin
 /// one not all was written, are lines of `errors`, with the route's peer.
 ///
 /// As with one subscriber it waits for nobody but receivers, and the faults are the same: `NoSocket` where the system refused
-/// one along a route, `Device` where each call of each socket failed for the plan's linger.
+/// one along a route, `Device` where each call of each socket failed for the plan's linger. It ends whole only where its log was
+/// closed.
 pub fn publish_group<
     R: Threads + Wait + Clock + Net + Sync + Send + Copy + 'static,
     I: Read + Send + Drop + 'static,

@@ -16,7 +16,7 @@
 //! as many ways as it began with (`AllHaveArrived`; `publish_group`, by `PublishesAllAlong`). In a cycle it keeps the log
 //! (`KeepsLog`), and its core hears what came along the ways and is told the moment last (`CyclesAt`); a fault is the devices' or
 //! the reading's, and no other (`FailsBy`). However its cycles end, its core has lived by datagrams and moments as a sender does,
-//! going on by another group at the most (`send_all`, by `StreamLived`), and without a fault up to a moment that it was told last.
+//! where it may go on by another group (`send_all`, by `StreamLived`), and without a fault up to a moment that it was told last.
 //!
 //! Its log comes back with all its passes (`publish_group_over`, by `LeavesLogAlong`), and is closed where it ends whole: what its
 //! one publisher has claimed, in the order of the stream, tiles that from the log's start to its tail, nobody else has claimed
