@@ -1,0 +1,12 @@
+pub mod Rows
+pub mod Places
+pub mod Facts
+pub mod Resting
+pub mod Lifting
+pub mod Adding
+pub mod Claiming
+pub mod Storing
+pub mod Committing
+pub mod Reading
+pub mod Looking
+pub mod Kept

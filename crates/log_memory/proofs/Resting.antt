@@ -1,0 +1,148 @@
+-- A step that changes neither what is claimed nor what is committed, and moves no memory, keeps the rule.
+use Rattle.std.proofs.Common.{◌≡◌, ◌≢◌, ℕ, ◌+◌, ◌*◌, ◌/◌, ◌%◌, ◌<◌, ◌≤◌, ◌⊎◌, inl, inr, ⊎_elim, List, [], ◌∷◌, length, map, set, sym, refl, ap, ◌∙◌, subst, arith}
+use mathlib.Core.Option.{Option, some}
+use lib.ListN.{get_elem?}
+use Rattle.std.specs.Prelude.{slice_index}
+use Rattle.theory.specs.Entry.{length_of}
+use Rattle.theory.specs.Placed.{Among}
+use Rattle.theory.specs.Position.{greatest_claim}
+use Rattle.theory.specs.Refusal.{limit_in}
+use Rattle.publication.specs.declared.pass.FrameWords.{FrameWords}
+use Rattle.publication.specs.declared.pass.Pass.{Pass}
+use Rattle.publication.specs.declared.pass.Reading.{Reading}
+use Rattle.publication.specs.Steps.{extent_of}
+use Rattle.log_rule.specs.Claims.Events.{IsLook, SameCommitted, committed_weight}
+use Rattle.log_rule.specs.Claims.Rule.{weight}
+use Rattle.log_rule.specs.Claims.Sums.{total}
+use Rattle.log_rule.specs.Edges.{AreCommitted, IsAmong, begins_at, begins_below, claimed_sum, in_entry}
+use Rattle.log_rule.specs.Table.{LogRuled}
+use Rattle.region.specs.declared.access.Access.{Access}
+use Rattle.log_memory.specs.declared.view.LogView.{LogView}
+use Rattle.log_memory.specs.declared.view.Site.{Site}
+use Rattle.log_memory.specs.Places.{head_place, slot_of}
+use Rattle.log_memory.specs.Rule.{Board, IsBeyond, IsEdgeOf, IsFree, IsHeld, IsHome, IsOut, IsPartOf, IsThereAny, IsWithReader, KnowsRoom, Lies, LogMemoryRuled, MemoryRuled, Rounds, WordsRuled, passes_of, ring, shape, stream_state, tail_in, term}
+
+-- ---- the same frames are committed
+
+pub record SameFrames (ps ps' : List Pass) : Type 0 where
+  pub there : (f : FrameWords) → IsAmong ps f → IsAmong ps' f
+  pub back : (f : FrameWords) → IsAmong ps' f → IsAmong ps f
+
+pub same_frames : (ps ps' : List Pass) → SameCommitted ps ps' → SameFrames ps ps'
+same_frames ps ps' l = record {
+  there = λ f among h. (let a = among h in let e = l h in up (h f) (total (committed_weight h) ps) (total (committed_weight h) ps') a (sym e));
+  back = λ f among h. (let a = among h in let e = l h in up (h f) (total (committed_weight h) ps') (total (committed_weight h) ps) a e);
+}
+  where
+    up : (x y z : ℕ) → x ≤ y → y ≡ z → x ≤ z
+    up x y z le e = omega arith
+
+module _ (t : Site) (ps ps' : List Pass) (same : SameFrames ps ps') where
+  pub beyond_on : (gone p : ℕ) → IsBeyond t ps gone p → IsBeyond t ps' gone p
+  beyond_on gone p a = record { passed = a.passed; back = λ f among near. a.back f (same.back f among) near }
+
+  pub out_on : (freed out : ℕ) → IsOut ps freed out → IsOut ps' freed out
+  out_on freed out a = record { frame = a.frame; among = same.there a.frame a.among; here = a.here; long = a.long }
+
+  pub knows_on : (freed out : ℕ) (v : LogView) → KnowsRoom t ps freed out v → KnowsRoom t ps' freed out v
+  knows_on freed out v a = record { freed_is = a.freed_is; out_is = a.out_is; cleaned = a.cleaned; seen = λ j there. beyond_on (freed + out) _ (a.seen j there) }
+
+  pub held_on : (rounds : Rounds) (v : LogView) → IsHeld t ps rounds v → IsHeld t ps' rounds v
+  held_on rounds v a = record { frame = a.frame; among = same.there a.frame a.among; here = a.here; round = a.round; book = a.book; reading = a.reading; mine = a.mine; number = a.number; low = a.low; near = a.near }
+
+-- ---- and the same is claimed
+
+module _ (t : Site) (ps ps' : List Pass) (l : IsLook ps ps') where
+  pub tail_on : tail_in t.key ps' ≡ tail_in t.key ps
+  tail_on = ap (λ (n : ℕ). t.key.start + n) (l.claimed length_of)
+
+  pub edge_on : (p : ℕ) → IsEdgeOf t.key ps p → IsEdgeOf t.key ps' p
+  edge_on p = ⊎_elim (λ e. inl (e ∙ sym tail_on)) (λ pos. inr (let e = l.claimed (in_entry (begins_at p)) in more (claimed_sum (begins_at p) ps) (claimed_sum (begins_at p) ps') pos e))
+    where
+      more : (a c : ℕ) → 0 < a → c ≡ a → 0 < c
+      more a c pos e = omega arith
+
+  pub passed_on : (p : ℕ) → AreCommitted ps p → AreCommitted ps' p
+  passed_on p same = l.claimed (in_entry (begins_below p)) ∙ same ∙ sym (l.committed (λ f. begins_below p (extent_of f)))
+
+-- ---- where slots stay, or move
+
+-- what a step leaves: the words of units, where frames and room lie, where consumers stand, and what the keeper knows
+pub record Moves (t : Site) (s : Board) (r : LogMemoryRuled t s) (words stream : List ℕ) (homes : List (Option Access)) (views : List LogView) : Type 0 where
+  pub ruled : LogRuled t.key (stream_state stream views)
+  pub look : IsLook (passes_of s.views) (passes_of views)
+  pub long : length words ≡ length s.words
+  pub controls : (i : ℕ) → i < 208 → slice_index words i ≡ slice_index stream i
+  pub heads : (i : ℕ) → 208 ≤ i → slice_index words i ≡ slice_index s.words i
+  pub ahead : limit_in (slice_index words 0) + greatest_claim (shape t) * 8 < r.freed + 3 * term t
+  pub shelves : length homes ≡ length s.homes
+  pub lies : (f : FrameWords) → IsAmong (passes_of s.views) f → r.freed + r.out ≤ f.start → Lies t (record { words = words; homes = homes; views = views }) r.rounds f
+  pub room : (p : ℕ) → p % 32 ≡ 0 → tail_in t.key (passes_of s.views) ≤ p → p < r.freed + 3 * term t → IsFree t (record { words = words; homes = homes; views = views }) p
+  pub held : (i : ℕ) (v : LogView) → get_elem? views i ≡ some v → v.part.has ≡ 1 → IsHeld t (passes_of s.views) r.rounds v
+  pub readers : (i : ℕ) (v : LogView) (x : Reading) → get_elem? views i ≡ some v → Among x v.view.pass.reading → x.number < 8 → IsBeyond t (passes_of s.views) (r.freed + r.out) x.position
+  pub keeper : (i : ℕ) (v : LogView) → get_elem? views i ≡ some v → v.view.pass.keeping.right ≡ 1 → KnowsRoom t (passes_of s.views) r.freed r.out v
+
+pub moves : (t : Site) (s : Board) (r : LogMemoryRuled t s) (words stream : List ℕ) (homes : List (Option Access)) (views : List LogView) → Moves t s r words stream homes views → LogMemoryRuled t record { words = words; homes = homes; views = views }
+moves t s r words stream homes views l =
+    let ps = passes_of s.views in let ps' = passes_of views in let same = same_frames ps ps' l.look.committed in let m = r.memory in let w = r.words in record {
+      stream = stream;
+      freed = r.freed;
+      out = r.out;
+      rounds = r.rounds;
+      ruled = l.ruled;
+      words = record {
+        long = l.long ∙ w.long;
+        controls = l.controls;
+        heads = λ f among from. l.heads (head_place (ring t) f.start) (let x : ℕ = f.start / 32 % ring t in omega arith) ∙ w.heads f (same.back f among) from;
+        rest = λ p unit from to none. l.heads (head_place (ring t) p) (let x : ℕ = p / 32 % ring t in omega arith) ∙ w.rest p unit from to (λ f among. none f (same.there f among));
+      };
+      memory = record {
+        shelves = l.shelves ∙ m.shelves;
+        unit = m.unit;
+        edge = edge_on t ps ps' l.look (r.freed + r.out) m.edge;
+        passed = passed_on t ps ps' l.look (r.freed + r.out) m.passed;
+        ahead = l.ahead;
+        free = λ p unit from to. l.room p unit (subst (λ (x : ℕ). x ≤ p) (tail_on t ps ps' l.look) from) to;
+        frames = λ f among from. l.lies f (same.back f among) from;
+        taken = λ some'. out_on t ps ps' same r.freed r.out (m.taken some');
+        held = λ i v at has. held_on t ps ps' same r.rounds v (l.held i v at has);
+        readers = λ i v x at among low. beyond_on t ps ps' same (r.freed + r.out) x.position (l.readers i v x at among low);
+        keeper = λ i v at one. knows_on t ps ps' same r.freed r.out v (l.keeper i v at one);
+      };
+    }
+
+-- ---- no slot moves
+
+home_on : (s : Board) (words : List ℕ) (views : List LogView) (k : ℕ) (is : Access → Type 0) → IsHome s k is → IsHome (record { words = words; homes = s.homes; views = views }) k is
+home_on s words views k is a = record { access = a.access; there = a.there; so = a.so }
+
+pub record Leaves (t : Site) (s : Board) (r : LogMemoryRuled t s) (words stream : List ℕ) (views : List LogView) : Type 0 where
+  pub ruled : LogRuled t.key (stream_state stream views)
+  pub look : IsLook (passes_of s.views) (passes_of views)
+  pub long : length words ≡ length s.words
+  pub controls : (i : ℕ) → i < 208 → slice_index words i ≡ slice_index stream i
+  pub heads : (i : ℕ) → 208 ≤ i → slice_index words i ≡ slice_index s.words i
+  pub ahead : limit_in (slice_index words 0) + greatest_claim (shape t) * 8 < r.freed + 3 * term t
+  pub with_reader : (p j : ℕ) → IsWithReader s p j → IsWithReader (record { words = words; homes = s.homes; views = views }) p j
+  pub held : (i : ℕ) (v : LogView) → get_elem? views i ≡ some v → v.part.has ≡ 1 → IsHeld t (passes_of s.views) r.rounds v
+  pub readers : (i : ℕ) (v : LogView) (x : Reading) → get_elem? views i ≡ some v → Among x v.view.pass.reading → x.number < 8 → IsBeyond t (passes_of s.views) (r.freed + r.out) x.position
+  pub keeper : (i : ℕ) (v : LogView) → get_elem? views i ≡ some v → v.view.pass.keeping.right ≡ 1 → KnowsRoom t (passes_of s.views) r.freed r.out v
+
+pub rests : (t : Site) (s : Board) (r : LogMemoryRuled t s) (words stream : List ℕ) (views : List LogView) → Leaves t s r words stream views → LogMemoryRuled t record { words = words; homes = s.homes; views = views }
+rests t s r words stream views l = moves t s r words stream s.homes views record {
+  ruled = l.ruled;
+  look = l.look;
+  long = l.long;
+  controls = l.controls;
+  heads = l.heads;
+  ahead = l.ahead;
+  shelves = refl;
+  lies = λ f among from. (let a = r.memory.frames f among from in record {
+    parts = λ j lt. ⊎_elim (λ h. inl (home_on s words views _ _ h)) (λ b. inr (l.with_reader f.start j b)) (a.parts j lt);
+    inside = λ p j unit lo hi lt. home_on s words views _ _ (a.inside p j unit lo hi lt);
+  });
+  room = λ p unit from to. (let a = r.memory.free p unit from to in record { room = home_on s words views _ _ a.room; others = λ j lt. home_on s words views _ _ (a.others j lt) });
+  held = l.held;
+  readers = l.readers;
+  keeper = l.keeper;
+}

@@ -1,0 +1,33 @@
+-- Each kind of step keeps the rule.
+use Rattle.std.specs.Prelude.{◌≡◌, ℕ, ◌+◌, ◌%◌, ◌^◌, ◌<◌, ◌≤◌, List, [], ◌∷◌, slice_index}
+use Rattle.atomic_table.specs.Table.{Allows}
+use Rattle.publication.specs.declared.step.WordStep.TheVariants as steps
+use Rattle.theory.specs.Position.{framed_length, max_message}
+use Rattle.publication.specs.Steps.{Sees, geometry_of}
+use Rattle.publication.specs.declared.pass.FrameWords.{FrameWords}
+use Rattle.publication.specs.declared.pass.Reading.{Reading}
+use Rattle.log_rule.specs.Claims.Packs.{consumer_place, tail_place}
+use Rattle.log_rule.specs.Readings.{Consumes, IsConsumer, MayPass, reading}
+use Rattle.log_rule.specs.Claims.Plays as words
+use Rattle.log_rule.specs.Claims.Plays.{playing}
+use Rattle.log_memory.specs.declared.view.Site.{Site}
+use Rattle.log_memory.specs.Places.{head_place}
+use Rattle.log_memory.specs.Rule.{LogMemoryRuled, ring}
+use Rattle.log_memory.specs.Steps.{Adds, Committed, Gives, IsIdle, Looks, MayCommit, MayGive, MayReread, Mine, Rereads, Rests, any_step}
+
+-- such a step, whatever stands, keeps the rule, tells this of what its seat knows of the stream, and moves no memory
+abbrev pub Keeps : Site → ℕ → ℕ → (ℕ → ℕ) → (words.Mine → ℕ → words.Mine → Type 0) → Mine → Type 0
+Keeps t id i f then m = (slots : ℕ) → Allows (LogMemoryRuled t) slots id m i f (λ n w. Rests then m n w)
+
+pub record StepsKeep : Type 0 where
+  pub load_limit : (t : Site) (id : ℕ) (m : Mine) → IsIdle m.0 → Keeps t id 0 (λ n. n) (playing Sees (λ _ n. steps.Limit n ∷ []) any_step) m
+  -- an addition takes the room of what it claims
+  pub add : (t : Site) (id size : ℕ) (m : Mine) → IsIdle m.0 → 120 ≤ m.0.view.pass.right.parts → m.0.view.pass.right.armed ≡ 1 → size ≤ max_message (geometry_of m.0.view.pass)
+      → (slots : ℕ) → Allows (LogMemoryRuled t) slots id m (tail_place m.0.view.pass.seen.term) (λ n. (n + framed_length (geometry_of m.0.view.pass) size) % 2 ^ 64) (Adds t size m)
+  -- a frame is committed, and its memory goes to those who read it
+  pub commit : (t : Site) (id p : ℕ) (ws : List ℕ) (m : Mine) → IsIdle m.0 → (may : MayCommit t p ws m) → (slots : ℕ) → Allows (LogMemoryRuled t) slots id m (head_place (ring t) p) (λ _. slice_index ws 0) (λ _ w. Committed t p ws m may w)
+  -- a reader takes its part of a frame, where it stands or one that it has, and gives it back; and its position is stored
+  pub look : (t : Site) (id place : ℕ) (r : Reading) (m : Mine) (is : IsConsumer m.0.view.pass place r) → r.number < 8 → IsIdle m.0 → (slots : ℕ) → Allows (LogMemoryRuled t) slots id m (head_place (ring t) r.position) (λ n. n) (λ n w. Looks t place r m is n w)
+  pub reread : (t : Site) (id place : ℕ) (r : Reading) (f : FrameWords) (m : Mine) → MayReread place r f m.0.view.pass → IsIdle m.0 → (slots : ℕ) → Allows (LogMemoryRuled t) slots id m (head_place (ring t) f.start) (λ n. n) (λ n w. Rereads t r f m n w)
+  pub give : (t : Site) (id i : ℕ) (r : Reading) (f : FrameWords) (m : Mine) (may : MayGive t r f m) → (slots : ℕ) → Allows (LogMemoryRuled t) slots id m i (λ n. n) (λ _ w. Gives t r f m may w)
+  pub move : (t : Site) (id place : ℕ) (r : Reading) (end : ℕ) (m : Mine) → IsConsumer m.0.view.pass place r → MayPass m.0.view.pass place end → r.number < 8 → IsIdle m.0 → (slots : ℕ) → Allows (LogMemoryRuled t) slots id m (consumer_place r.number) (λ _. end) (λ n w. Rests (λ a _ c. reading (λ v k w. Consumes v place end w) a 0 c) m n w)

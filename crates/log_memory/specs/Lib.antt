@@ -1,0 +1,4 @@
+pub mod Places
+pub mod Rule
+pub mod Steps
+pub mod Law

@@ -1,0 +1,10 @@
+//! The rule of a log whose frames lie in plain memory.
+#![tactic(auto)]
+
+mod law;
+mod rule;
+mod view;
+
+pub use law::steps_keep;
+pub use rule::LogMemoryRule;
+pub use view::{LogView, Part, Room, Site};
