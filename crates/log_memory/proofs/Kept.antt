@@ -27,6 +27,8 @@ use Rattle.log_memory.specs.Steps.{IsCalm, IsIdle, IsQuiet, Mine, SawBehind, any
 use Rattle.log_memory.proofs.Claiming.{add}
 use Rattle.log_memory.proofs.Committing.{commit}
 use Rattle.log_memory.proofs.Lifting.{lift, quiet_same}
+use Rattle.log_memory.proofs.Freeing.{take_back}
+use Rattle.log_memory.proofs.Giving.{give_room}
 use Rattle.log_memory.proofs.Looking.{consume, give, look as looks_here, reread}
 
 -- a publisher's look
@@ -46,4 +48,6 @@ steps_keep = record {
   reread = reread;
   give = give;
   move = consume;
+  take_back = take_back;
+  give_room = give_room;
 }

@@ -9,4 +9,6 @@ pub mod Storing
 pub mod Committing
 pub mod Reading
 pub mod Looking
+pub mod Freeing
+pub mod Giving
 pub mod Kept

@@ -13,7 +13,7 @@ use Rattle.log_rule.specs.Claims.Plays.{playing}
 use Rattle.log_memory.specs.declared.view.Site.{Site}
 use Rattle.log_memory.specs.Places.{head_place}
 use Rattle.log_memory.specs.Rule.{LogMemoryRuled, ring}
-use Rattle.log_memory.specs.Steps.{Adds, Committed, Gives, IsIdle, Looks, MayCommit, MayGive, MayReread, Mine, Rereads, Rests, any_step}
+use Rattle.log_memory.specs.Steps.{Adds, Committed, Gives, GivesRoom, IsIdle, Looks, MayCommit, MayGive, MayGiveRoom, MayReread, MayTakeBack, Mine, Rereads, Rests, TakesBack, any_step}
 
 -- such a step, whatever stands, keeps the rule, tells this of what its seat knows of the stream, and moves no memory
 abbrev pub Keeps : Site → ℕ → ℕ → (ℕ → ℕ) → (words.Mine → ℕ → words.Mine → Type 0) → Mine → Type 0
@@ -31,3 +31,7 @@ pub record StepsKeep : Type 0 where
   pub reread : (t : Site) (id place : ℕ) (r : Reading) (f : FrameWords) (m : Mine) → MayReread place r f m.0.view.pass → IsIdle m.0 → (slots : ℕ) → Allows (LogMemoryRuled t) slots id m (head_place (ring t) f.start) (λ n. n) (λ n w. Rereads t r f m n w)
   pub give : (t : Site) (id i : ℕ) (r : Reading) (f : FrameWords) (m : Mine) (may : MayGive t r f m) → (slots : ℕ) → Allows (LogMemoryRuled t) slots id m i (λ n. n) (λ _ w. Gives t r f m may w)
   pub move : (t : Site) (id place : ℕ) (r : Reading) (end : ℕ) (m : Mine) → IsConsumer m.0.view.pass place r → MayPass m.0.view.pass place end → r.number < 8 → IsIdle m.0 → (slots : ℕ) → Allows (LogMemoryRuled t) slots id m (consumer_place r.number) (λ _. end) (λ n w. Rests (λ a _ c. reading (λ v k w. Consumes v place end w) a 0 c) m n w)
+  -- the keeper takes the memory of a frame back that all consumers have left, a term ago
+  pub take_back : (t : Site) (id : ℕ) (m : Mine) → MayTakeBack m.0 → (slots : ℕ) → Allows (LogMemoryRuled t) slots id m (head_place (ring t) m.0.room.freed) (λ n. n) (λ n w. TakesBack t m n w)
+  -- what it took back becomes room, as zeros, where it stores zero over the frame's word
+  pub give_room : (t : Site) (id : ℕ) (m : Mine) (may : MayGiveRoom t m) → (slots : ℕ) → Allows (LogMemoryRuled t) slots id m (head_place (ring t) m.0.room.freed) (λ _. 0) (λ _ w. GivesRoom t m may w)

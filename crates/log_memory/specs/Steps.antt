@@ -1,5 +1,5 @@
 -- What each kind of step asks and tells.
-use Rattle.std.specs.Prelude.{◌≡◌, ◌≢◌, ℕ, zero, suc, ◌+◌, ◌-◌, ◌*◌, ◌/◌, ◌%◌, ◌<◌, ◌≤◌, ◌⊎◌, List, [], ◌∷◌, ◌++◌, length, slice_index}
+use Rattle.std.specs.Prelude.{◌≡◌, ◌≢◌, ℕ, zero, suc, ◌+◌, ◌-◌, ◌*◌, ◌/◌, ◌%◌, ◌<◌, ◌≤◌, ◌⊎◌, List, [], ◌∷◌, ◌++◌, length, max, slice_index}
 use mathlib.Core.Option.{none}
 use Rattle.atomic_table.specs.Table.{Me, Step, step}
 use Rattle.theory.specs.Placed.{Among}
@@ -16,6 +16,7 @@ use Rattle.log_rule.specs.declared.claims.view.View.{View}
 use Rattle.log_rule.specs.Claims.Memory.{IsCommittedFrame}
 use Rattle.log_rule.specs.Claims.Plays as words
 use Rattle.log_rule.specs.Claims.Plays.{playing}
+use Rattle.log_rule.specs.Keepings.{least_there}
 use Rattle.log_rule.specs.Kept.{IsThere}
 use Rattle.log_rule.specs.Readings as readings
 use Rattle.log_rule.specs.Readings.{IsConsumer, reading}
@@ -147,6 +148,40 @@ pub record Gives (t : Site) (r : Reading) (f : FrameWords) (m : Mine) (may : May
   pub part : m'.0.part ≡ record m.0.part { has = 0 }
   pub rests : m'.0.view ≡ record m.0.view { steps = suc m.0.view.steps }
   pub carried : m'.1 ≡ may.before
+
+-- ---- the keeper takes a frame's memory back, and gives it as room
+
+-- where memory was taken back lies more than a term below each consumer that is there
+pub record MayTakeBack (v : LogView) : Type 0 where
+  pub keeper : v.view.pass.keeping.right ≡ 1
+  pub idle : v.room.out ≡ 0
+  pub below : v.room.freed < max v.view.pass.start (least_there v.view.pass.keeping.there v.view.pass.keeping.positions - term_of v.view.pass)
+
+-- the frame that begins there: all its parts, of one round and one account, and the slots of its other units
+pub record TakesBack (t : Site) (m : Mine) (n : ℕ) (m' : Mine) : Type 0 where
+  pub frame : FrameWords
+  pub here : frame.start ≡ m.0.room.freed
+  pub done : IsCommittedFrame t.key.identity frame
+  pub word : n ≡ slice_index frame.words 0
+  pub round : ℕ
+  pub book : ℕ
+  pub carries : CarriesRange t (IsPartAt t (slot_of (ring t) frame.start 0) frame.words round book) frame.start (8 * length frame.words) m.1 m'.1
+  pub part : m'.0.part ≡ m.0.part
+  pub room : m'.0.room ≡ record { freed = m.0.room.freed; out = 8 * length frame.words }
+  pub rests : m'.0.view ≡ record m.0.view { steps = suc m.0.view.steps }
+
+-- the slots of what is out are carried, each unit's with the right to write it, which is zeros
+pub record MayGiveRoom (t : Site) (m : Mine) : Type 0 where
+  pub keeper : m.0.view.pass.keeping.right ≡ 1
+  pub some : 0 < m.0.room.out
+  pub before : List (ℕ × Access)
+  pub carries : CarriesRange t (IsRoomAt t) m.0.room.freed m.0.room.out before m.1
+
+pub record GivesRoom (t : Site) (m : Mine) (may : MayGiveRoom t m) (m' : Mine) : Type 0 where
+  pub carried : m'.1 ≡ may.before
+  pub part : m'.0.part ≡ m.0.part
+  pub room : m'.0.room ≡ record { freed = m.0.room.freed + m.0.room.out; out = 0 }
+  pub rests : m'.0.view ≡ record m.0.view { steps = suc m.0.view.steps }
 
 -- ---- steps that move no memory
 
