@@ -29,6 +29,7 @@ use Rattle.log_memory.proofs.Committing.{commit}
 use Rattle.log_memory.proofs.Lifting.{lift, quiet_same}
 use Rattle.log_memory.proofs.Freeing.{take_back}
 use Rattle.log_memory.proofs.Giving.{give_room}
+use Rattle.log_memory.proofs.Keeping.{join, leave, raise, sweep}
 use Rattle.log_memory.proofs.Looking.{consume, give, look as looks_here, reread}
 
 -- a publisher's look
@@ -36,7 +37,7 @@ look : (t : Site) (id i : ℕ) (m : Mine) (f : ℕ → ℕ) (told : Pass → ℕ
     → ((b : Bounds) → Eventful b id m.0.view.pass i f (told m.0.view.pass)) → ((n : ℕ) (w : Pass) → told m.0.view.pass n w → (w.right.claims ≡ m.0.view.pass.right.claims) × (w.work.frames ≡ m.0.view.pass.work.frames)) → Keeps t id i f (playing told noted any_step) m
 look t id i m f told noted low idle calm turns may spares goes event keeps slots = lift t slots id i m f (playing told noted any_step) low idle calm
     (lifted t.key 0 id i (as_view m.0) f (told m.0.view.pass) (noted m.0.view.pass) turns may spares goes event)
-    (λ n w then. let k = keeps n w.0.pass then.4 in quiet_same m.0.view w.0 then.2 k.0 k.1)
+    (λ s r at n w then. let k = keeps n w.0.pass then.4 in quiet_same m.0.view w.0 then.2 k.0 k.1)
 
 pub steps_keep : StepsKeep
 steps_keep = record {
@@ -50,4 +51,8 @@ steps_keep = record {
   move = consume;
   take_back = take_back;
   give_room = give_room;
+  sweep = sweep;
+  join = join;
+  leave = leave;
+  raise = raise;
 }

@@ -11,4 +11,5 @@ pub mod Reading
 pub mod Looking
 pub mod Freeing
 pub mod Giving
+pub mod Keeping
 pub mod Kept

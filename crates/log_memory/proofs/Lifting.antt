@@ -133,14 +133,14 @@ module _ (t : Site) (s : Board) (r : LogMemoryRuled t s) (id : ℕ) (v w : LogVi
 
 -- ---- a step on a control word
 
-pub lift : (t : Site) (slots id i : ℕ) (m : Mine) (f : ℕ → ℕ) (then : plays.Mine → ℕ → plays.Mine → Type 0) → i < 208 → IsIdle m.0 → IsCalm m.0.view i f → Allows (LogRuled t.key) 0 id (as_view m.0) i f (λ n w. then (as_view m.0) n w) → ((n : ℕ) (w : plays.Mine) → then (as_view m.0) n w → IsQuiet m.0.view w.0)
+pub lift : (t : Site) (slots id i : ℕ) (m : Mine) (f : ℕ → ℕ) (then : plays.Mine → ℕ → plays.Mine → Type 0) → i < 208 → IsIdle m.0 → IsCalm m.0.view i f → Allows (LogRuled t.key) 0 id (as_view m.0) i f (λ n w. then (as_view m.0) n w) → ((s : Board) → LogMemoryRuled t s → get_elem? s.views id ≡ some m.0 → (n : ℕ) (w : plays.Mine) → then (as_view m.0) n w → IsQuiet m.0.view w.0)
     → Allows (LogMemoryRuled t) slots id m i f (λ n w. Rests then m n w)
 lift t slots id i m f then low idle calm go tells s r homes at small =
     let v = m.0 in let e = r.words.controls i low in let st = stream_state r.stream s.views in
     let g = go st r.ruled refl (at_map view_in s.views id v at) (subst (λ (n : ℕ). n < 2 ^ 64) e small) in
     let none' = no_act [] [] g.1 refl refl g.2 in
     let told = subst (λ (l : List (ℕ × Unit {0})). then (as_view v) (slice_index r.stream i) (g.0, l)) none'.0 g.4 in
-    let w : LogView = record v { view = g.0 } in let quiet = tells (slice_index r.stream i) (g.0, []) told in
+    let w : LogView = record v { view = g.0 } in let quiet = tells s r at (slice_index r.stream i) (g.0, []) told in
     let stream' : List ℕ = set r.stream i (f (slice_index r.stream i)) in let words' : List ℕ = set s.words i (f (slice_index s.words i)) in
     let q = g.3 in let q' : LogRuled t.key (stream_state stream' (set s.views id w)) = subst (λ (l : List View). LogRuled t.key (record { words = stream'; homes = []; views = l })) (sym (map-set view_in s.views id w)) record { cleaned = q.cleaned; there = q.there; ruled = q.ruled; kept = q.kept; sure = q.sure; numbered = q.numbered } in
     let wide_s : i < length s.words = (let a = r.words.long in omega arith) in let wide_t : i < length r.stream = (let a = r.ruled.ruled.claims.wide in omega arith) in (

@@ -216,4 +216,4 @@ give t id i r f m may slots s k homes at small =
 pub consume : (t : Site) (id place : ℕ) (r : Reading) (end : ℕ) (m : Mine) → IsConsumer m.0.view.pass place r → MayPass m.0.view.pass place end → r.number < 8 → IsIdle m.0 → (slots : ℕ) → Allows (LogMemoryRuled t) slots id m (consumer_place r.number) (λ _. end) (λ n w. Rests (λ a _ c. reading (λ v k w. Consumes v place end w) a 0 c) m n w)
 consume t id place r end m is may low idle slots = lift t slots id (consumer_place r.number) m (λ _. end) (λ a _ c. reading (λ v k w. Consumes v place end w) a 0 c) (omega arith) idle (inl (λ e. omega arith))
     (consumers.pass t.key 0 id (as_view m.0) place r is end may low)
-    (λ n w told. quiet_consumer m.0.view w.0 place r (moved_to r end) is refl (let e : may.consumer ≡ r = some-injective may.consumer r (sym may.is ∙ is) in let a = ap (λ (x : Reading). x.position) e in let b = may.here in let c = may.ends in omega arith) (told.3 r is).after)
+    (λ s k at n w told. quiet_consumer m.0.view w.0 place r (moved_to r end) is refl (let e : may.consumer ≡ r = some-injective may.consumer r (sym may.is ∙ is) in let a = ap (λ (x : Reading). x.position) e in let b = may.here in let c = may.ends in omega arith) (told.3 r is).after)

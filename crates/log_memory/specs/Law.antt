@@ -6,7 +6,10 @@ use Rattle.theory.specs.Position.{framed_length, max_message}
 use Rattle.publication.specs.Steps.{Sees, geometry_of}
 use Rattle.publication.specs.declared.pass.FrameWords.{FrameWords}
 use Rattle.publication.specs.declared.pass.Reading.{Reading}
-use Rattle.log_rule.specs.Claims.Packs.{consumer_place, tail_place}
+use Rattle.log_rule.specs.Claims.Packs.{consumer_place, limit_place, tail_place}
+use Rattle.log_rule.specs.Claims.Sure.{LearnsControls}
+use Rattle.log_rule.specs.Keepings.{Joins, LearnsLimit, Leaves, MayJoin, MayLeave, MayRaise, Raises, keeping, sweeping}
+use Rattle.log_rule.specs.Kept.{IsThere}
 use Rattle.log_rule.specs.Readings.{Consumes, IsConsumer, MayPass, reading}
 use Rattle.log_rule.specs.Claims.Plays as words
 use Rattle.log_rule.specs.Claims.Plays.{playing}
@@ -35,3 +38,8 @@ pub record StepsKeep : Type 0 where
   pub take_back : (t : Site) (id : ℕ) (m : Mine) → MayTakeBack m.0 → (slots : ℕ) → Allows (LogMemoryRuled t) slots id m (head_place (ring t) m.0.room.freed) (λ n. n) (λ n w. TakesBack t m n w)
   -- what it took back becomes room, as zeros, where it stores zero over the frame's word
   pub give_room : (t : Site) (id : ℕ) (m : Mine) (may : MayGiveRoom t m) → (slots : ℕ) → Allows (LogMemoryRuled t) slots id m (head_place (ring t) m.0.room.freed) (λ _. 0) (λ _ w. GivesRoom t m may w)
+  -- the keeper's other steps move no memory
+  pub sweep : (t : Site) (id j : ℕ) (m : Mine) → m.0.view.pass.keeping.right ≡ 1 → IsThere m.0.view.pass.keeping.there j → j < 8 → IsIdle m.0 → Keeps t id (consumer_place j) (λ n. n) (sweeping j) m
+  pub join : (t : Site) (id number place n : ℕ) (m : Mine) → MayJoin m.0.view.pass number n → IsIdle m.0 → Keeps t id (consumer_place number) (λ _. n) (λ a _ c. keeping (λ v w. LearnsControls [] v w) (λ v w. Joins v number place n w) a c) m
+  pub leave : (t : Site) (id place number : ℕ) (m : Mine) → MayLeave m.0.view.pass place number → IsIdle m.0 → Keeps t id (consumer_place number) (λ _. 0) (λ a _ c. keeping (λ v w. LearnsControls [] v w) (λ v w. Leaves v place number w) a c) m
+  pub raise : (t : Site) (id word : ℕ) (m : Mine) → MayRaise m.0.view.pass word → 0 < m.0.view.pass.right.parts → IsIdle m.0 → Keeps t id limit_place (λ _. word) (λ a _ c. keeping (LearnsLimit word) (λ v w. Raises v word w) a c) m
