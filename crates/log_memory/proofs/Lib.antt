@@ -12,4 +12,5 @@ pub mod Looking
 pub mod Freeing
 pub mod Giving
 pub mod Keeping
+pub mod Publishing
 pub mod Kept

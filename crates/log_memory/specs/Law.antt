@@ -1,12 +1,15 @@
 -- Each kind of step keeps the rule.
-use Rattle.std.specs.Prelude.{◌≡◌, ℕ, ◌+◌, ◌%◌, ◌^◌, ◌<◌, ◌≤◌, List, [], ◌∷◌, slice_index}
+use Rattle.std.specs.Prelude.{◌≡◌, ℕ, suc, ◌+◌, ◌%◌, ◌^◌, ◌<◌, ◌≤◌, ◌==◌, List, [], ◌∷◌, slice_index}
+use prog.Atomic.{either}
 use Rattle.atomic_table.specs.Table.{Allows}
 use Rattle.publication.specs.declared.step.WordStep.TheVariants as steps
-use Rattle.theory.specs.Position.{framed_length, max_message}
-use Rattle.publication.specs.Steps.{Sees, geometry_of}
+use Rattle.theory.specs.Placed.{Among}
+use Rattle.theory.specs.Position.{framed_length, id_of, max_message}
+use Rattle.theory.specs.Words.{id_before, id_in, tail_word}
+use Rattle.publication.specs.Steps.{Arms, Counts, ExchangesCount, Nexts, Rotates, Sees, geometry_of, tail_exchange, tail_step}
 use Rattle.publication.specs.declared.pass.FrameWords.{FrameWords}
 use Rattle.publication.specs.declared.pass.Reading.{Reading}
-use Rattle.log_rule.specs.Claims.Packs.{consumer_place, limit_place, tail_place}
+use Rattle.log_rule.specs.Claims.Packs.{consumer_place, count_place, limit_place, tail_place}
 use Rattle.log_rule.specs.Claims.Sure.{LearnsControls}
 use Rattle.log_rule.specs.Keepings.{Joins, LearnsLimit, Leaves, MayJoin, MayLeave, MayRaise, Raises, keeping, sweeping}
 use Rattle.log_rule.specs.Kept.{IsThere}
@@ -23,7 +26,14 @@ abbrev pub Keeps : Site → ℕ → ℕ → (ℕ → ℕ) → (words.Mine → �
 Keeps t id i f then m = (slots : ℕ) → Allows (LogMemoryRuled t) slots id m i f (λ n w. Rests then m n w)
 
 pub record StepsKeep : Type 0 where
-  pub load_limit : (t : Site) (id : ℕ) (m : Mine) → IsIdle m.0 → Keeps t id 0 (λ n. n) (playing Sees (λ _ n. steps.Limit n ∷ []) any_step) m
+  -- a publisher's loads and exchanges move no memory
+  pub load_limit : (t : Site) (id : ℕ) (m : Mine) → IsIdle m.0 → Keeps t id limit_place (λ n. n) (playing Sees (λ _ n. steps.Limit n ∷ []) any_step) m
+  pub load_count : (t : Site) (id : ℕ) (m : Mine) → IsIdle m.0 → Keeps t id count_place (λ n. n) (playing Counts (λ _ n. steps.Count n ∷ []) any_step) m
+  pub load_tail : (t : Site) (id : ℕ) (m : Mine) → IsIdle m.0 → 120 ≤ m.0.view.pass.right.parts → (m.0.view.pass.right.parts < 1024 → Among m.0.view.pass.number m.0.view.pass.right.numbers) → Keeps t id (tail_place m.0.view.pass.seen.count) (λ n. n) (playing Arms (λ v n. tail_step v n ∷ []) any_step) m
+  pub load_next : (t : Site) (id : ℕ) (m : Mine) → IsIdle m.0 → (k : ℕ) → m.0.view.pass.seen.full ≡ suc k → k + 1 < 2 ^ 31 → Keeps t id (tail_place (k + 1)) (λ n. n) (playing (λ v n w. Nexts v k n w) (λ _ n. steps.NextTail ((k + 1) % 3) n ∷ []) any_step) m
+  pub exchange_next : (t : Site) (id : ℕ) (m : Mine) → IsIdle m.0 → (k from : ℕ) → 0 < m.0.view.pass.right.parts → m.0.view.pass.seen.full ≡ suc k → k + 1 < 2 ^ 31 → id_in from ≡ id_before (geometry_of m.0.view.pass) k 2
+      → Keeps t id (tail_place (k + 1)) (λ n. either (n == from) (tail_word (id_of (geometry_of m.0.view.pass) (k + 1)) 0) n) (playing (λ v n w. Rotates v k from n w) (λ v n. tail_exchange v k from n ∷ []) any_step) m
+  pub exchange_count : (t : Site) (id : ℕ) (m : Mine) → IsIdle m.0 → (k : ℕ) → 0 < m.0.view.pass.right.parts → m.0.view.pass.seen.begun ≡ k + 1 → Keeps t id count_place (λ n. either (n == k) (k + 1) n) (playing (λ v n w. ExchangesCount v k n w) (λ _ n. steps.CountExchange k n ∷ []) any_step) m
   -- an addition takes the room of what it claims
   pub add : (t : Site) (id size : ℕ) (m : Mine) → IsIdle m.0 → 120 ≤ m.0.view.pass.right.parts → m.0.view.pass.right.armed ≡ 1 → size ≤ max_message (geometry_of m.0.view.pass)
       → (slots : ℕ) → Allows (LogMemoryRuled t) slots id m (tail_place m.0.view.pass.seen.term) (λ n. (n + framed_length (geometry_of m.0.view.pass) size) % 2 ^ 64) (Adds t size m)
