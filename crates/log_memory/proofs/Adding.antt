@@ -36,7 +36,7 @@ use Rattle.log_rule.proofs.Growing.{same_sum}
 use Rattle.log_memory.specs.declared.view.LogView.{LogView}
 use Rattle.log_memory.specs.declared.view.Site.{Site}
 use Rattle.log_memory.specs.Places.{head_place, slot_of}
-use Rattle.log_memory.specs.Rule.{Board, IsBeyond, IsFree, IsHeld, IsHome, IsRoom, IsThereAny, IsWithReader, KnowsRoom, Lies, LogMemoryRuled, passes_of, ring, shape, stream_state, tail_in, term, view_in}
+use Rattle.log_memory.specs.Rule.{AreSmall, Board, IsBeyond, IsFree, IsHeld, IsHome, IsRoom, IsThereAny, IsWithReader, KnowsRoom, Lies, LogMemoryRuled, passes_of, ring, shape, stream_state, tail_in, term, view_in}
 use Rattle.log_memory.specs.Steps.{Carries, CarriesRange, IsIdle, IsRoomAt, Mine}
 use Rattle.log_memory.proofs.Facts.{bounds, end_low, pass_at, some_ring, tail_limit, tail_near, unit, whole, width}
 use Rattle.log_memory.proofs.Lifting.{passes_set, with_reader_on}
@@ -163,7 +163,7 @@ module _ (t : Site) (s : Board) (r : LogMemoryRuled t s) (id : ℕ) (v w : LogVi
   pub units_of_range : (o.claim.start % 32 ≡ 0) × (span o.claim.cuts % 32 ≡ 0)
   units_of_range = (legal.unit, span_unit o.claim.cuts)
 
-  module _ (words : List ℕ) (spared : slice_index words 0 ≡ slice_index s.words 0) (controls : (i : ℕ) → i < 208 → slice_index words i ≡ slice_index stream i) (heads : (i : ℕ) → 208 ≤ i → slice_index words i ≡ slice_index s.words i) (long : length words ≡ length s.words)
+  module _ (words : List ℕ) (small : AreSmall stream) (spared : slice_index words 0 ≡ slice_index s.words 0) (controls : (i : ℕ) → i < 208 → slice_index words i ≡ slice_index stream i) (heads : (i : ℕ) → 208 ≤ i → slice_index words i ≡ slice_index s.words i) (long : length words ≡ length s.words)
       (row : o.claim.start % (ring t * 32) + span o.claim.cuts ≤ ring t * 32) (idle : IsIdle v) (part : w.part ≡ v.part) (room : w.room ≡ v.room) (keeping : w.view.pass.keeping ≡ v.view.pass.keeping) (before : List (ℕ × Access)) where
     near : tail_in t.key (passes_of (set s.views id w)) < r.freed + 3 * term t
     near = let a = tail_limit t stream (set s.views id w) q in let c = r.memory.ahead in let e = controls 0 (omega arith) in
@@ -214,6 +214,7 @@ module _ (t : Site) (s : Board) (r : LogMemoryRuled t s) (id : ℕ) (v w : LogVi
           ruled = q;
           words = record {
             long = long ∙ r.words.long;
+            small = small;
             controls = controls;
             heads = λ f among from. heads (head_place (ring t) f.start) (let x : ℕ = f.start / 32 % ring t in omega arith) ∙ r.words.heads f (same.back f among) from;
             rest = λ x ux from to none. heads (head_place (ring t) x) (let y : ℕ = x / 32 % ring t in omega arith) ∙ r.words.rest x ux from to (λ f among. none f (same.there f among));

@@ -85,8 +85,8 @@ module _ (t : Site) (s : Board) (r : LogMemoryRuled t s) (id p : ℕ) (ws : List
   low : id < length (map view_in s.views)
   low = there_low (map view_in s.views) id m.0.view (at_map view_in s.views id m.0 at)
 
-  pub made : Stored t.key r.stream (map view_in s.views) r.ruled id m.0.view (at_map view_in s.views id m.0 at) p may.cut ws may.front may.behind may.drafts may.long may.done
-  made = stored t.key r.stream (map view_in s.views) r.ruled id m.0.view (at_map view_in s.views id m.0 at) p may.cut ws may.front may.behind may.drafts may.long may.done may.some
+  pub made : Stored t.key r.stream (map view_in s.views) r.ruled id m.0.view (at_map view_in s.views id m.0 at) p may.cut ws may.front may.behind may.drafts may.long may.done may.small
+  made = stored t.key r.stream (map view_in s.views) r.ruled id m.0.view (at_map view_in s.views id m.0 at) p may.cut ws may.front may.behind may.drafts may.long may.done may.small may.some
 
   abbrev pub seat : LogView
   seat = record m.0 { view = record made.became.view { steps = suc m.0.view.steps } }
@@ -276,6 +276,7 @@ module _ (t : Site) (s : Board) (r : LogMemoryRuled t s) (id p : ℕ) (ws : List
     ruled = q;
     words = record {
       long = length-set s.words (head_place (ring t) p) (slice_index ws 0) ∙ r.words.long;
+      small = made.became.small r.words.small;
       controls = λ i lt. get_or-set_other s.words (head_place (ring t) p) i (slice_index ws 0) 0 (λ e. (let x : ℕ = p / 32 % ring t in omega arith)) ∙ r.words.controls i lt ∙ sym (made.became.controls i lt);
       heads = λ f among from. ⊎_elim
           (λ old. (let end = end_low t r.stream s.views r.ruled f old in let n = Rattle.log_memory.proofs.Facts.long t r.stream s.views r.ruled f old in let near' = tail_near t s r in head_else f.start (unit t r.stream s.views r.ruled f old) from (omega arith) (not_there f old) ∙ r.words.heads f old from))

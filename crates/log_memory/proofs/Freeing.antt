@@ -282,6 +282,7 @@ module _ (t : Site) (s : Board) (r : LogMemoryRuled t s) (id : ℕ) (v : LogView
             ruled = stepped t s r id v seat at refl;
             words = record {
               long = ap length same ∙ r.words.long;
+              small = r.words.small;
               controls = λ i lt. ap (λ (l : List ℕ). slice_index l i) same ∙ r.words.controls i lt;
               heads = λ g among from. ap (λ (l : List ℕ). slice_index l (head_place (ring t) g.start)) same ∙ r.words.heads g (frames_same.back g among) from;
               rest = λ x ux from to none. ap (λ (l : List ℕ). slice_index l (head_place (ring t) x)) same ∙ r.words.rest x ux from to (λ g among. none g (frames_same.there g among));

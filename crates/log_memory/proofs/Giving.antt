@@ -130,6 +130,7 @@ module _ (t : Site) (s : Board) (r : LogMemoryRuled t s) (id : ℕ) (m : Mine) (
         ruled = stepped t s r id m.0 seat at refl;
         words = record {
           long = length-set s.words (head_place (ring t) r.freed) 0 ∙ r.words.long;
+          small = r.words.small;
           controls = λ i lt. get_or-set_other s.words (head_place (ring t) r.freed) i 0 0 (λ e. (let x : ℕ = r.freed / 32 % ring t in omega arith)) ∙ r.words.controls i lt;
           heads = λ f among from. (let old = frames_same.back f among in let e = end_low t r.stream s.views r.ruled f old in let n = tail_near t s r in let l = long t r.stream s.views r.ruled f old in head_else f.start (unit t r.stream s.views r.ruled f old) (omega arith) (omega arith) ∙ r.words.heads f old (omega arith));
           rest = λ x ux from to none. rest x ux from to (λ f among. none f (frames_same.there f among));

@@ -30,7 +30,7 @@ use Rattle.log_rule.specs.Table.{LogRuled}
 use Rattle.log_rule.proofs.Growing.{same_sum}
 use Rattle.log_memory.specs.declared.view.LogView.{LogView}
 use Rattle.log_memory.specs.declared.view.Site.{Site}
-use Rattle.log_memory.specs.Rule.{Board, HasPart, IsBeyond, IsWithReader, KnowsRoom, LogMemoryRuled, passes_of, shape, stream_state, term, view_in}
+use Rattle.log_memory.specs.Rule.{AreSmall, Board, HasPart, IsBeyond, IsWithReader, KnowsRoom, LogMemoryRuled, passes_of, shape, stream_state, term, view_in}
 use Rattle.log_memory.specs.Steps.{IsCalm, IsIdle, IsQuiet, Mine, Rests, SawBehind, StandsBehind, as_view}
 use Rattle.log_memory.proofs.Facts.{pass_at, whole_term}
 use Rattle.log_memory.proofs.Resting.{Leaves, rests}
@@ -110,12 +110,13 @@ module _ (t : Site) (s : Board) (r : LogMemoryRuled t s) (id : ℕ) (v w : LogVi
       (λ e. r.memory.keeper i x e.1 one)
       (at_set s.views id i w x there)
 
-  pub leaves : IsIdle v → w.part ≡ v.part → (words stream : List ℕ) → LogRuled t.key (stream_state stream (set s.views id w)) → length words ≡ length s.words → ((i : ℕ) → i < 208 → slice_index words i ≡ slice_index stream i) → ((i : ℕ) → 208 ≤ i → slice_index words i ≡ slice_index s.words i)
+  pub leaves : IsIdle v → w.part ≡ v.part → (words stream : List ℕ) → LogRuled t.key (stream_state stream (set s.views id w)) → AreSmall stream → length words ≡ length s.words → ((i : ℕ) → i < 208 → slice_index words i ≡ slice_index stream i) → ((i : ℕ) → 208 ≤ i → slice_index words i ≡ slice_index s.words i)
       → limit_in (slice_index words 0) + greatest_claim (shape t) * 8 < r.freed + 3 * term t → Leaves t s r words stream (set s.views id w)
-  leaves idle part words stream q long controls heads ahead = record {
+  leaves idle part words stream q small long controls heads ahead = record {
     ruled = q;
     look = quiet_look s.views id v w at quiet;
     long = long;
+    small = small;
     controls = controls;
     heads = heads;
     ahead = ahead;
@@ -130,6 +131,10 @@ module _ (t : Site) (s : Board) (r : LogMemoryRuled t s) (id : ℕ) (v w : LogVi
     where
       clash : (a c d : ℕ) → a ≡ c → a ≡ d → d ≡ 1 → c ≡ 0 → ⊥
       clash a c d e g one none = omega arith
+
+-- a control word is none of them
+pub small_on : (stream : List ℕ) (i n : ℕ) → i < 208 → AreSmall stream → AreSmall (set stream i n)
+small_on stream i n low small j far = subst (λ (x : ℕ). x < 2 ^ 64) (sym (get_or-set_other stream i j n 0 (λ e. omega arith))) (small j far)
 
 -- ---- a step on a control word
 
@@ -147,7 +152,7 @@ lift t slots id i m f then low idle calm go tells s r homes at small =
       w,
       keeps,
       tt,
-      rests t s r words' stream' (set s.views id w) (leaves t s r id v w at refl quiet idle refl words' stream' q' (length-set s.words i (f (slice_index s.words i)))
+      rests t s r words' stream' (set s.views id w) (leaves t s r id v w at refl quiet idle refl words' stream' q' (small_on r.stream i (f (slice_index r.stream i)) low r.words.small) (length-set s.words i (f (slice_index s.words i)))
           (λ j lt. set_both s.words r.stream i f j wide_s wide_t e (r.words.controls j lt))
           (λ j far. get_or-set_other s.words i j (f (slice_index s.words i)) 0 (λ same. omega arith))
           (still s r id v at i f low calm wide_s)),

@@ -114,6 +114,7 @@ module _ (t : Site) (s : Board) (r : LogMemoryRuled t s) (f : FrameWords) (among
       ruled = q;
       look = quiet_look s.views id v seat at quiet;
       long = ap length same;
+      small = r.words.small;
       controls = λ i lt. ap (λ (l : List ℕ). slice_index l i) same ∙ r.words.controls i lt;
       heads = λ i lt. ap (λ (l : List ℕ). slice_index l i) same;
       ahead = subst (λ (l : List ℕ). limit_in (slice_index l 0) + greatest_claim (shape t) * 8 < r.freed + 3 * term t) (sym same) r.memory.ahead;
@@ -180,6 +181,7 @@ module _ (t : Site) (s : Board) (r : LogMemoryRuled t s) (f : FrameWords) (among
         ruled = stepped t s r id v back_seat at refl;
         look = quiet_look s.views id v back_seat at quiet_back;
         long = ap length same;
+        small = r.words.small;
         controls = λ i lt. ap (λ (l : List ℕ). slice_index l i) same ∙ r.words.controls i lt;
         heads = λ i lt. ap (λ (l : List ℕ). slice_index l i) same;
         ahead = subst (λ (l : List ℕ). limit_in (slice_index l 0) + greatest_claim (shape t) * 8 < r.freed + 3 * term t) (sym same) r.memory.ahead;

@@ -20,7 +20,7 @@ use Rattle.region.specs.declared.access.Access.{Access}
 use Rattle.log_memory.specs.declared.view.LogView.{LogView}
 use Rattle.log_memory.specs.declared.view.Site.{Site}
 use Rattle.log_memory.specs.Places.{head_place, slot_of}
-use Rattle.log_memory.specs.Rule.{Board, IsBeyond, IsEdgeOf, IsFree, IsHeld, IsHome, IsOut, IsPartOf, IsThereAny, IsWithReader, KnowsRoom, Lies, LogMemoryRuled, MemoryRuled, Rounds, WordsRuled, passes_of, ring, shape, stream_state, tail_in, term}
+use Rattle.log_memory.specs.Rule.{AreSmall, Board, IsBeyond, IsEdgeOf, IsFree, IsHeld, IsHome, IsOut, IsPartOf, IsThereAny, IsWithReader, KnowsRoom, Lies, LogMemoryRuled, MemoryRuled, Rounds, WordsRuled, passes_of, ring, shape, stream_state, tail_in, term}
 
 -- ---- the same frames are committed
 
@@ -72,6 +72,7 @@ pub record Moves (t : Site) (s : Board) (r : LogMemoryRuled t s) (words stream :
   pub ruled : LogRuled t.key (stream_state stream views)
   pub look : IsLook (passes_of s.views) (passes_of views)
   pub long : length words ≡ length s.words
+  pub small : AreSmall stream
   pub controls : (i : ℕ) → i < 208 → slice_index words i ≡ slice_index stream i
   pub heads : (i : ℕ) → 208 ≤ i → slice_index words i ≡ slice_index s.words i
   pub ahead : limit_in (slice_index words 0) + greatest_claim (shape t) * 8 < r.freed + 3 * term t
@@ -92,6 +93,7 @@ moves t s r words stream homes views l =
       ruled = l.ruled;
       words = record {
         long = l.long ∙ w.long;
+        small = l.small;
         controls = l.controls;
         heads = λ f among from. l.heads (head_place (ring t) f.start) (let x : ℕ = f.start / 32 % ring t in omega arith) ∙ w.heads f (same.back f among) from;
         rest = λ p unit from to none. l.heads (head_place (ring t) p) (let x : ℕ = p / 32 % ring t in omega arith) ∙ w.rest p unit from to (λ f among. none f (same.there f among));
@@ -120,6 +122,7 @@ pub record Leaves (t : Site) (s : Board) (r : LogMemoryRuled t s) (words stream 
   pub ruled : LogRuled t.key (stream_state stream views)
   pub look : IsLook (passes_of s.views) (passes_of views)
   pub long : length words ≡ length s.words
+  pub small : AreSmall stream
   pub controls : (i : ℕ) → i < 208 → slice_index words i ≡ slice_index stream i
   pub heads : (i : ℕ) → 208 ≤ i → slice_index words i ≡ slice_index s.words i
   pub ahead : limit_in (slice_index words 0) + greatest_claim (shape t) * 8 < r.freed + 3 * term t
@@ -133,6 +136,7 @@ rests t s r words stream views l = moves t s r words stream s.homes views record
   ruled = l.ruled;
   look = l.look;
   long = l.long;
+  small = l.small;
   controls = l.controls;
   heads = l.heads;
   ahead = l.ahead;

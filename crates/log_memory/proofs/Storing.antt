@@ -28,6 +28,7 @@ use Rattle.log_rule.proofs.Claimed.Eventful.{steps_are_events}
 use Rattle.log_rule.proofs.Claimed.Sures.{data_leaves, data_turns}
 use Rattle.log_rule.proofs.Lifting.{lifted, other_spares}
 use Rattle.log_rule.proofs.Owning.{commits_goes, stores_goes}
+use Rattle.log_memory.specs.Rule.{AreSmall}
 use Rattle.log_memory.proofs.Lifting.{there_low}
 
 pub set_twice : {A : Type 0} (l : List A) (i : ℕ) (a b : A) → set (set l i a) i b ≡ set l i b
@@ -72,6 +73,13 @@ all_filled ws k long = ext_get_or 0 (set (filled ws k) 0 (slice_index ws 0)) ws 
     (λ e. subst (λ (x : ℕ). slice_index (set (filled ws k) 0 (slice_index ws 0)) x ≡ slice_index ws x) (sym e) (get_or-set_same (filled ws k) 0 (slice_index ws 0) 0 (let a = filled_long ws k in omega arith)))
     (λ ne. let a = length-set (filled ws k) 0 (slice_index ws 0) in let c = filled_long ws k in get_or-set_other (filled ws k) 0 i (slice_index ws 0) 0 ne ∙ filled_at ws k i (omega arith) (omega arith) (omega arith)))
 
+small_set : (xs : List ℕ) (i n j : ℕ) → n < 2 ^ 64 → slice_index xs j < 2 ^ 64 → slice_index (set xs i n) j < 2 ^ 64
+small_set [] i n j a b = b
+small_set (x ∷ xs) zero n zero a b = a
+small_set (x ∷ xs) zero n (suc j) a b = b
+small_set (x ∷ xs) (suc i) n zero a b = b
+small_set (x ∷ xs) (suc i) n (suc j) a b = small_set xs i n j a b
+
 -- ---- one seat's pass, and nothing of the control words
 
 pub record Became (key : Key) (views : List View) (id : ℕ) (v : View) (pass : Pass) (stream before : List ℕ) : Type 0 where
@@ -81,9 +89,10 @@ pub record Became (key : Key) (views : List View) (id : ℕ) (v : View) (pass : 
   pub leads : v.sure ≡ 1 → view.controls ≡ v.controls
   pub ruled : LogRuled key (record { words = stream; homes = []; views = set views id view })
   pub controls : (i : ℕ) → i < 208 → slice_index stream i ≡ slice_index before i
+  pub small : AreSmall before → AreSmall stream
 
 module _ (key : Key) (stream : List ℕ) (views : List View) (q : LogRuled key (record { words = stream; homes = []; views = views })) (id : ℕ) (v : View) (at : get_elem? views id ≡ some v) (p cut : ℕ) (ws : List ℕ) (front behind : List FrameWords) (drafts : v.pass.work.drafts ≡ front ++ blank p cut ∷ behind) (long : length ws ≡ length (blank p cut).words)
-    (done : IsCommittedFrame key.identity (frame p cut ws)) where
+    (done : IsCommittedFrame key.identity (frame p cut ws)) (narrow : (i : ℕ) → slice_index ws i < 2 ^ 64) where
   abbrev partly : ℕ → Pass
   partly k = with_work v.pass.work.frames (front ++ frame p cut (filled ws k) ∷ behind) v.pass
 
@@ -98,6 +107,7 @@ module _ (key : Key) (stream : List ℕ) (views : List View) (q : LogRuled key (
     leads = λ _. refl;
     ruled = subst (λ (l : List View). LogRuled key (record { words = stream; homes = []; views = l })) (sym (set_again views id v at)) q;
     controls = λ i lt. refl;
+    small = λ a. a;
   }
 
   identity_is : v.pass.identity ≡ key.identity
@@ -140,6 +150,7 @@ module _ (key : Key) (stream : List ℕ) (views : List View) (q : LogRuled key (
           leads = λ one. told.3.leads (b.sure ∙ one) ∙ b.leads one;
           ruled = subst (λ (l : List View). LogRuled key (record { words = set now i n; homes = []; views = l })) (set_twice views id u g.0) record { cleaned = r.cleaned; there = r.there; ruled = r.ruled; kept = r.kept; sure = r.sure; numbered = r.numbered };
           controls = λ j low. get_or-set_other now i j n 0 (λ e. omega arith) ∙ b.controls j low;
+          small = λ a j far. small_set now i n j (narrow (suc k)) (b.small a j far);
         }
 
     commit : length ws ≡ suc k → Became key views id v (with_work (v.pass.work.frames ++ frame p cut ws ∷ []) (front ++ behind) v.pass) (set now (slot key.identity.geometry p) (slice_index ws 0)) stream
@@ -158,6 +169,7 @@ module _ (key : Key) (stream : List ℕ) (views : List View) (q : LogRuled key (
           leads = λ one. told.3.leads (b.sure ∙ one) ∙ b.leads one;
           ruled = subst (λ (l : List View). LogRuled key (record { words = set now i n; homes = []; views = l })) (set_twice views id u g.0) record { cleaned = r.cleaned; there = r.there; ruled = r.ruled; kept = r.kept; sure = r.sure; numbered = r.numbered };
           controls = λ j low. get_or-set_other now i j n 0 (λ e. omega arith) ∙ b.controls j low;
+          small = λ a j far. small_set now i n j (narrow 0) (b.small a j far);
         }
 
   -- after so many stores

@@ -81,9 +81,14 @@ IsThereAny s k = IsHome s k (λ _. Unit {0})
 
 -- ---- the words
 
+-- the words behind the control words are of 64 bits
+abbrev pub AreSmall : List ℕ → Type 0
+AreSmall stream = (i : ℕ) → 208 ≤ i → slice_index stream i < 2 ^ 64
+
 -- the control words are those of the stream; the word of a unit below which memory wasn't taken back is that of the committed frame that begins there, or zero
 pub record WordsRuled (t : Site) (s : Board) (stream : List ℕ) (freed : ℕ) : Type 0 where
   pub long : length s.words ≡ 208 + ring t
+  pub small : AreSmall stream
   pub controls : (i : ℕ) → i < 208 → slice_index s.words i ≡ slice_index stream i
   pub heads : (f : FrameWords) → IsAmong (passes_of s.views) f → freed ≤ f.start → slice_index s.words (head_place (ring t) f.start) ≡ slice_index f.words 0
   pub rest : (p : ℕ) → p % 32 ≡ 0 → freed ≤ p → p < freed + 3 * term t → ((f : FrameWords) → IsAmong (passes_of s.views) f → f.start ≡ p → ⊥) → slice_index s.words (head_place (ring t) p) ≡ 0

@@ -1,5 +1,5 @@
 -- What each kind of step asks and tells.
-use Rattle.std.specs.Prelude.{◌≡◌, ◌≢◌, ℕ, zero, suc, ◌+◌, ◌-◌, ◌*◌, ◌/◌, ◌%◌, ◌<◌, ◌≤◌, ◌⊎◌, List, [], ◌∷◌, ◌++◌, length, max, slice_index}
+use Rattle.std.specs.Prelude.{◌≡◌, ◌≢◌, ℕ, zero, suc, ◌+◌, ◌-◌, ◌*◌, ◌/◌, ◌%◌, ◌^◌, ◌<◌, ◌≤◌, ◌⊎◌, List, [], ◌∷◌, ◌++◌, length, max, slice_index}
 use mathlib.Core.Option.{none}
 use Rattle.atomic_table.specs.Table.{Me, Step, step}
 use Rattle.theory.specs.Placed.{Among}
@@ -86,6 +86,7 @@ pub record MayCommit (t : Site) (p : ℕ) (ws : List ℕ) (m : Mine) : Type 0 wh
   pub long : length ws ≡ length (blank p cut).words
   pub some : 0 < length ws
   pub done : IsCommittedFrame t.key.identity (frame p cut ws)
+  pub small : (i : ℕ) → slice_index ws i < 2 ^ 64
   pub round : ℕ
   pub book : ℕ
   pub before : List (ℕ × Access)
