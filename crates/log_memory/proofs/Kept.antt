@@ -1,6 +1,7 @@
 -- Each kind of step keeps the rule.
 use Rattle.log_memory.specs.Law.{StepsKeep}
 use Rattle.log_memory.proofs.Claiming.{add}
+use Rattle.log_memory.proofs.Cleaning.{clean_to}
 use Rattle.log_memory.proofs.Committing.{commit}
 use Rattle.log_memory.proofs.Freeing.{take_back}
 use Rattle.log_memory.proofs.Giving.{give_room}
@@ -24,6 +25,7 @@ steps_keep = record {
   move = consume;
   take_back = take_back;
   give_room = give_room;
+  clean_to = clean_to;
   sweep = sweep;
   join = join;
   leave = leave;

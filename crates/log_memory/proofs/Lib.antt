@@ -13,4 +13,5 @@ pub mod Freeing
 pub mod Giving
 pub mod Keeping
 pub mod Publishing
+pub mod Cleaning
 pub mod Kept

@@ -19,7 +19,7 @@ use Rattle.log_rule.specs.Claims.Plays.{playing}
 use Rattle.log_memory.specs.declared.view.Site.{Site}
 use Rattle.log_memory.specs.Places.{head_place}
 use Rattle.log_memory.specs.Rule.{LogMemoryRuled, ring}
-use Rattle.log_memory.specs.Steps.{Adds, Committed, Gives, GivesRoom, IsIdle, Looks, MayCommit, MayGive, MayGiveRoom, MayReread, MayTakeBack, Mine, Rereads, Rests, TakesBack, any_step}
+use Rattle.log_memory.specs.Steps.{Adds, CleansTo, Committed, Gives, GivesRoom, IsIdle, Looks, MayCleanTo, MayCommit, MayGive, MayGiveRoom, MayReread, MayTakeBack, Mine, Rereads, Rests, TakesBack, any_step}
 
 -- such a step, whatever stands, keeps the rule, tells this of what its seat knows of the stream, and moves no memory
 abbrev pub Keeps : Site → ℕ → ℕ → (ℕ → ℕ) → (words.Mine → ℕ → words.Mine → Type 0) → Mine → Type 0
@@ -48,6 +48,8 @@ pub record StepsKeep : Type 0 where
   pub take_back : (t : Site) (id : ℕ) (m : Mine) → MayTakeBack m.0 → (slots : ℕ) → Allows (LogMemoryRuled t) slots id m (head_place (ring t) m.0.room.freed) (λ n. n) (λ n w. TakesBack t m n w)
   -- what it took back becomes room, as zeros, where it stores zero over the frame's word
   pub give_room : (t : Site) (id : ℕ) (m : Mine) (may : MayGiveRoom t m) → (slots : ℕ) → Allows (LogMemoryRuled t) slots id m (head_place (ring t) m.0.room.freed) (λ _. 0) (λ _ w. GivesRoom t m may w)
+  -- it knows, at any load, how far all is zero
+  pub clean_to : (t : Site) (id i end : ℕ) (m : Mine) → MayCleanTo end m.0 → IsIdle m.0 → (slots : ℕ) → Allows (LogMemoryRuled t) slots id m i (λ n. n) (λ _ w. CleansTo end m w)
   -- the keeper's other steps move no memory
   pub sweep : (t : Site) (id j : ℕ) (m : Mine) → m.0.view.pass.keeping.right ≡ 1 → IsThere m.0.view.pass.keeping.there j → j < 8 → IsIdle m.0 → Keeps t id (consumer_place j) (λ n. n) (sweeping j) m
   pub join : (t : Site) (id number place n : ℕ) (m : Mine) → MayJoin m.0.view.pass number n → IsIdle m.0 → Keeps t id (consumer_place number) (λ _. n) (λ a _ c. keeping (λ v w. LearnsControls [] v w) (λ v w. Joins v number place n w) a c) m

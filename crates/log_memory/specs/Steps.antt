@@ -16,7 +16,7 @@ use Rattle.log_rule.specs.declared.claims.view.View.{View}
 use Rattle.log_rule.specs.Claims.Memory.{IsCommittedFrame}
 use Rattle.log_rule.specs.Claims.Plays as words
 use Rattle.log_rule.specs.Claims.Plays.{playing}
-use Rattle.log_rule.specs.Keepings.{least_there}
+use Rattle.log_rule.specs.Keepings.{least_there, with_keeping}
 use Rattle.log_rule.specs.Kept.{IsThere}
 use Rattle.log_rule.specs.Readings as readings
 use Rattle.log_rule.specs.Readings.{IsConsumer, reading}
@@ -183,6 +183,25 @@ pub record GivesRoom (t : Site) (m : Mine) (may : MayGiveRoom t m) (m' : Mine) :
   pub part : m'.0.part ≡ m.0.part
   pub room : m'.0.room ≡ record { freed = m.0.room.freed + m.0.room.out; out = 0 }
   pub rests : m'.0.view ≡ record m.0.view { steps = suc m.0.view.steps }
+
+-- ---- the keeper knows how far all is zero
+
+-- up to a position where memory was taken back, a term or more below each consumer that is there
+pub record MayCleanTo (end : ℕ) (v : LogView) : Type 0 where
+  pub keeper : v.view.pass.keeping.right ≡ 1
+  pub from : v.view.pass.keeping.cleaned ≤ end
+  pub unit : (end - v.view.pass.keeping.cleaned) % 8 ≡ 0
+  pub below : end ≤ max v.view.pass.start (least_there v.view.pass.keeping.there v.view.pass.keeping.positions - term_of v.view.pass)
+  pub freed : end ≤ v.room.freed
+
+pub record CleansTo (end : ℕ) (m m' : Mine) : Type 0 where
+  pub carried : m'.1 ≡ m.1
+  pub part : m'.0.part ≡ m.0.part
+  pub room : m'.0.room ≡ m.0.room
+  pub steps : m'.0.view.steps ≡ suc m.0.view.steps
+  pub sure : m'.0.view.sure ≡ m.0.view.sure
+  pub leads : m.0.view.sure ≡ 1 → m'.0.view.controls ≡ m.0.view.controls
+  pub pass : m'.0.view.pass ≡ with_keeping m.0.view.pass (record m.0.view.pass.keeping { cleaned = end })
 
 -- ---- steps that move no memory
 
