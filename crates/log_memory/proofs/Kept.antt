@@ -1,5 +1,6 @@
 -- Each kind of step keeps the rule.
 use Rattle.log_memory.specs.Law.{StepsKeep}
+use Rattle.log_memory.proofs.Beginning.{begins}
 use Rattle.log_memory.proofs.Claiming.{add}
 use Rattle.log_memory.proofs.Cleaning.{clean_to}
 use Rattle.log_memory.proofs.Committing.{commit}
@@ -11,6 +12,7 @@ use Rattle.log_memory.proofs.Publishing.{exchange_count, exchange_next, load_cou
 
 pub steps_keep : StepsKeep
 steps_keep = record {
+  begins = begins;
   load_limit = load_limit;
   load_count = load_count;
   load_tail = load_tail;

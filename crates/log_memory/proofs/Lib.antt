@@ -14,4 +14,5 @@ pub mod Giving
 pub mod Keeping
 pub mod Publishing
 pub mod Cleaning
+pub mod Beginning
 pub mod Kept

@@ -1,7 +1,7 @@
 -- Each kind of step keeps the rule.
 use Rattle.std.specs.Prelude.{◌≡◌, ℕ, suc, ◌+◌, ◌%◌, ◌^◌, ◌<◌, ◌≤◌, ◌==◌, List, [], ◌∷◌, slice_index}
 use prog.Atomic.{either}
-use Rattle.atomic_table.specs.Table.{Allows}
+use Rattle.atomic_table.specs.Table.{Allows, opening}
 use Rattle.publication.specs.declared.step.WordStep.TheVariants as steps
 use Rattle.theory.specs.Placed.{Among}
 use Rattle.theory.specs.Position.{framed_length, id_of, max_message}
@@ -16,9 +16,11 @@ use Rattle.log_rule.specs.Kept.{IsThere}
 use Rattle.log_rule.specs.Readings.{Consumes, IsConsumer, MayPass, reading}
 use Rattle.log_rule.specs.Claims.Plays as words
 use Rattle.log_rule.specs.Claims.Plays.{playing}
+use Rattle.region.specs.declared.access.Access.{Access}
 use Rattle.log_memory.specs.declared.view.Site.{Site}
 use Rattle.log_memory.specs.Places.{head_place}
-use Rattle.log_memory.specs.Rule.{LogMemoryRuled, ring}
+use Rattle.log_memory.specs.Opening.{SlotsBegun, WordsBegun}
+use Rattle.log_memory.specs.Rule.{LogMemoryRuled, ring, whole_seat}
 use Rattle.log_memory.specs.Steps.{Adds, CleansTo, Committed, Gives, GivesRoom, IsIdle, Looks, MayCleanTo, MayCommit, MayGive, MayGiveRoom, MayReread, MayTakeBack, Mine, Rereads, Rests, TakesBack, any_step}
 
 -- such a step, whatever stands, keeps the rule, tells this of what its seat knows of the stream, and moves no memory
@@ -26,6 +28,8 @@ abbrev pub Keeps : Site → ℕ → ℕ → (ℕ → ℕ) → (words.Mine → �
 Keeps t id i f then m = (slots : ℕ) → Allows (LogMemoryRuled t) slots id m i f (λ n w. Rests then m n w)
 
 pub record StepsKeep : Type 0 where
+  -- it holds of a log that opens
+  pub begins : (t : Site) (words : List ℕ) (slots : List Access) → WordsBegun t words → SlotsBegun t slots → LogMemoryRuled t (opening words slots (whole_seat t))
   -- a publisher's loads and exchanges move no memory
   pub load_limit : (t : Site) (id : ℕ) (m : Mine) → IsIdle m.0 → Keeps t id limit_place (λ n. n) (playing Sees (λ _ n. steps.Limit n ∷ []) any_step) m
   pub load_count : (t : Site) (id : ℕ) (m : Mine) → IsIdle m.0 → Keeps t id count_place (λ n. n) (playing Counts (λ _ n. steps.Count n ∷ []) any_step) m

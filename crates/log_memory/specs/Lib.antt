@@ -1,4 +1,5 @@
 pub mod Places
 pub mod Rule
 pub mod Steps
+pub mod Opening
 pub mod Law
