@@ -16,6 +16,7 @@ use Rattle.publication.specs.declared.pass.Reading.{Reading}
 use Rattle.publication.specs.Steps.{term_of}
 use Rattle.log_rule.specs.declared.claims.view.View.{View}
 use Rattle.log_rule.specs.declared.rule.Key.{Key}
+use Rattle.log_rule.specs.Claims.Events.{IsLook}
 use Rattle.log_rule.specs.Claims.Packs.{slot}
 use Rattle.log_rule.specs.Claims.Plays.{pass_in}
 use Rattle.log_rule.specs.Claims.Sure.{LearnsControls}
@@ -30,7 +31,7 @@ use Rattle.log_memory.specs.Steps.{CleansTo, IsIdle, MayCleanTo, Mine}
 use Rattle.log_memory.proofs.Committing.{restep}
 use Rattle.log_memory.proofs.Facts.{pass_at}
 use Rattle.log_memory.proofs.Lifting.{passes_set, there_low, with_reader_on}
-use Rattle.log_memory.proofs.Resting.{Leaves, rests}
+use Rattle.log_memory.proofs.Resting.{Leaves, rests, still}
 use Rattle.log_memory.proofs.Storing.{Became, set_twice}
 
 module _ (key : Key) (stream : List ℕ) (views : List View) (q : LogRuled key (record { words = stream; homes = []; views = views })) (small : AreSmall stream) (id : ℕ) (v : View) (at : get_elem? views id ≡ some v) (keeper : v.pass.keeping.right ≡ 1) where
@@ -95,7 +96,7 @@ clean_to t id i end m may idle slots s r homes at small =
       tt,
       rests t s r (set s.words i (slice_index s.words i)) c.now (set s.views id w) record {
         ruled = q;
-        look = subst (Rattle.log_rule.specs.Claims.Events.IsLook (passes_of s.views)) (sym (passes_set s.views id w)) (same_look (passes_of s.views) id v.view.pass w.view.pass pass (ap (λ (p : Pass). p.right.claims) e) (ap (λ (p : Pass). p.work.frames) e));
+        look = still (passes_of s.views) (passes_of (set s.views id w)) (subst (IsLook (passes_of s.views)) (sym (passes_set s.views id w)) (same_look (passes_of s.views) id v.view.pass w.view.pass pass (ap (λ (p : Pass). p.right.claims) e) (ap (λ (p : Pass). p.work.frames) e)));
         long = ap length same;
         small = b.small r.words.small;
         controls = λ j lt. ap (λ (l : List ℕ). slice_index l j) same ∙ r.words.controls j lt ∙ sym (b.controls j lt);

@@ -15,4 +15,5 @@ pub mod Keeping
 pub mod Publishing
 pub mod Cleaning
 pub mod Beginning
+pub mod Dealing
 pub mod Kept

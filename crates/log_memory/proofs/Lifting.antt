@@ -33,7 +33,7 @@ use Rattle.log_memory.specs.declared.view.Site.{Site}
 use Rattle.log_memory.specs.Rule.{AreSmall, Board, HasPart, IsBeyond, IsWithReader, KnowsRoom, LogMemoryRuled, passes_of, shape, stream_state, term, view_in}
 use Rattle.log_memory.specs.Steps.{IsCalm, IsIdle, IsQuiet, Mine, Rests, SawBehind, StandsBehind, as_view}
 use Rattle.log_memory.proofs.Facts.{pass_at, whole_term}
-use Rattle.log_memory.proofs.Resting.{Leaves, rests}
+use Rattle.log_memory.proofs.Resting.{IsStill, Leaves, rests, still}
 
 -- ---- without slots there is no act
 
@@ -74,11 +74,11 @@ set_both xs ys i f j lx ly here there = dite (ℕ_discrete j i)
     (λ e. subst (λ (z : ℕ). slice_index (set xs i (f (slice_index xs i))) z ≡ slice_index (set ys i (f (slice_index ys i))) z) (sym e) (get_or-set_same xs i (f (slice_index xs i)) 0 lx ∙ ap f here ∙ sym (get_or-set_same ys i (f (slice_index ys i)) 0 ly)))
     (λ ne. get_or-set_other xs i j (f (slice_index xs i)) 0 ne ∙ there ∙ sym (get_or-set_other ys i j (f (slice_index ys i)) 0 ne))
 
-pub quiet_look : (views : List LogView) (id : ℕ) (v w : LogView) → get_elem? views id ≡ some v → IsQuiet v.view w.view → IsLook (passes_of views) (passes_of (set views id w))
-quiet_look views id v w at q = subst (IsLook (passes_of views)) (sym (passes_set views id w)) record {
+pub quiet_look : (views : List LogView) (id : ℕ) (v w : LogView) → get_elem? views id ≡ some v → IsQuiet v.view w.view → IsStill (passes_of views) (passes_of (set views id w))
+quiet_look views id v w at q = still (passes_of views) (passes_of (set views id w)) (subst (IsLook (passes_of views)) (sym (passes_set views id w)) record {
   claimed = λ h. same_sum (weight h) (passes_of views) id v.view.pass w.view.pass (pass_at views id v at) (ap (λ cs. total h (map entry_of cs)) q.claims);
   committed = λ h. same_sum (committed_weight h) (passes_of views) id v.view.pass w.view.pass (pass_at views id v at) (ap (total h) q.frames);
-}
+})
 
 module _ (t : Site) (s : Board) (r : LogMemoryRuled t s) (id : ℕ) (v w : LogView) (at : get_elem? s.views id ≡ some v) (room : w.room ≡ v.room) (quiet : IsQuiet v.view w.view) where
   saw : (p : ℕ) → SawBehind v.view p → IsBeyond t (passes_of s.views) (r.freed + r.out) p

@@ -10,7 +10,7 @@ use Rattle.theory.specs.Refusal.{limit_in}
 use Rattle.publication.specs.declared.pass.FrameWords.{FrameWords}
 use Rattle.publication.specs.declared.pass.Pass.{Pass}
 use Rattle.publication.specs.declared.pass.Reading.{Reading}
-use Rattle.publication.specs.Steps.{extent_of}
+use Rattle.publication.specs.Steps.{Extent, extent_of}
 use Rattle.log_rule.specs.Claims.Events.{IsLook, SameCommitted, committed_weight}
 use Rattle.log_rule.specs.Claims.Rule.{weight}
 use Rattle.log_rule.specs.Claims.Sums.{total}
@@ -50,27 +50,35 @@ module _ (t : Site) (ps ps' : List Pass) (same : SameFrames ps ps') where
   pub held_on : (rounds : Rounds) (v : LogView) → IsHeld t ps rounds v → IsHeld t ps' rounds v
   held_on rounds v a = record { frame = a.frame; among = same.there a.frame a.among; here = a.here; round = a.round; book = a.book; reading = a.reading; mine = a.mine; number = a.number; low = a.low; near = a.near }
 
--- ---- and the same is claimed
+-- ---- and the same is claimed, by whomever
 
-module _ (t : Site) (ps ps' : List Pass) (l : IsLook ps ps') where
+pub record IsStill (ps ps' : List Pass) : Type 0 where
+  pub length : total (weight length_of) ps' ≡ total (weight length_of) ps
+  pub claimed : (h : Extent → ℕ) → claimed_sum h ps' ≡ claimed_sum h ps
+  pub committed : SameCommitted ps ps'
+
+pub still : (ps ps' : List Pass) → IsLook ps ps' → IsStill ps ps'
+still ps ps' l = record { length = l.claimed length_of; claimed = λ h. l.claimed (in_entry h); committed = l.committed }
+
+module _ (t : Site) (ps ps' : List Pass) (l : IsStill ps ps') where
   pub tail_on : tail_in t.key ps' ≡ tail_in t.key ps
-  tail_on = ap (λ (n : ℕ). t.key.start + n) (l.claimed length_of)
+  tail_on = ap (λ (n : ℕ). t.key.start + n) l.length
 
   pub edge_on : (p : ℕ) → IsEdgeOf t.key ps p → IsEdgeOf t.key ps' p
-  edge_on p = ⊎_elim (λ e. inl (e ∙ sym tail_on)) (λ pos. inr (let e = l.claimed (in_entry (begins_at p)) in more (claimed_sum (begins_at p) ps) (claimed_sum (begins_at p) ps') pos e))
+  edge_on p = ⊎_elim (λ e. inl (e ∙ sym tail_on)) (λ pos. inr (let e = l.claimed (begins_at p) in more (claimed_sum (begins_at p) ps) (claimed_sum (begins_at p) ps') pos e))
     where
       more : (a c : ℕ) → 0 < a → c ≡ a → 0 < c
       more a c pos e = omega arith
 
   pub passed_on : (p : ℕ) → AreCommitted ps p → AreCommitted ps' p
-  passed_on p same = l.claimed (in_entry (begins_below p)) ∙ same ∙ sym (l.committed (λ f. begins_below p (extent_of f)))
+  passed_on p same = l.claimed (begins_below p) ∙ same ∙ sym (l.committed (λ f. begins_below p (extent_of f)))
 
 -- ---- where slots stay, or move
 
 -- what a step leaves: the words of units, where frames and room lie, where consumers stand, and what the keeper knows
 pub record Moves (t : Site) (s : Board) (r : LogMemoryRuled t s) (words stream : List ℕ) (homes : List (Option Access)) (views : List LogView) : Type 0 where
   pub ruled : LogRuled t.key (stream_state stream views)
-  pub look : IsLook (passes_of s.views) (passes_of views)
+  pub look : IsStill (passes_of s.views) (passes_of views)
   pub long : length words ≡ length s.words
   pub small : AreSmall stream
   pub controls : (i : ℕ) → i < 208 → slice_index words i ≡ slice_index stream i
@@ -120,7 +128,7 @@ home_on s words views k is a = record { access = a.access; there = a.there; so =
 
 pub record Leaves (t : Site) (s : Board) (r : LogMemoryRuled t s) (words stream : List ℕ) (views : List LogView) : Type 0 where
   pub ruled : LogRuled t.key (stream_state stream views)
-  pub look : IsLook (passes_of s.views) (passes_of views)
+  pub look : IsStill (passes_of s.views) (passes_of views)
   pub long : length words ≡ length s.words
   pub small : AreSmall stream
   pub controls : (i : ℕ) → i < 208 → slice_index words i ≡ slice_index stream i

@@ -2,4 +2,5 @@ pub mod Places
 pub mod Rule
 pub mod Steps
 pub mod Opening
+pub mod Seats
 pub mod Law
