@@ -227,8 +227,8 @@ module _ (t : Site) (s : Board) (r : LogMemoryRuled t s) (id p : ℕ) (ws : List
   lies_on f among from l =
       let ne = not_there f among in let e : rounds f.start ≡ r.rounds f.start = rounds_else p (may.round, may.book) r.rounds f.start ne in let near' = tail_near t s r in let end = end_low t r.stream s.views r.ruled f among in let n = Rattle.log_memory.proofs.Facts.long t r.stream s.views r.ruled f among in
       let side : (end_of f ≤ p) ⊎ (p + 8 * length ws ≤ f.start) = dite (dec_le f.start p)
-          (λ le. inl (apart t made.after (set s.views id seat) q f f0 (still f among) is_new (omega arith)))
-          (λ gt. inr (apart t made.after (set s.views id seat) q f0 f is_new (still f among) (lt_of_not-le gt))) in
+      (λ le. inl (apart t made.after (set s.views id seat) q f f0 (still f among) is_new (omega arith)))
+      (λ gt. inr (apart t made.after (set s.views id seat) q f0 f is_new (still f among) (lt_of_not-le gt))) in
       let out : (x : ℕ) → f.start ≤ x → x < end_of f → (x < p) ⊎ (p + 8 * length ws ≤ x) = λ x lo hi. ⊎_elim (λ a. inl (omega arith)) (λ a. inr (omega arith)) side in record {
         parts = λ j lt. ⊎_elim
             (λ h. inl (subst (λ (y : ℕ × ℕ). IsHome after (slot_of (ring t) f.start j) (IsPart t (slot_of (ring t) f.start 0) f.words y.0 y.1)) (sym e) (home_on f.start j _ (unit t r.stream s.views r.ruled f among) from (omega arith) (out f.start (omega arith) (omega arith)) lt h)))

@@ -154,9 +154,9 @@ module _ (t : Site) (s : Board) (r : LogMemoryRuled t s) (id : ℕ) (v : LogView
         let seen = (r.ruled.kept.each id v.view.pass (pass_at s.views id v at)).keeping.seen keeper one there in let q : ℕ = slice_index v.view.pass.keeping.positions one in
         let d = deep in let a = seen_far one there in let low' = edge_low b r.stream (passes_of s.views) r.ruled.ruled q seen.edge in let z = idle in
         let pos : 0 < claimed_sum (begins_at r.freed) (passes_of s.views) = ⊎_elim
-            (λ (e : r.freed + r.out ≡ tail_in t.key (passes_of s.views)). absurd (late (r.freed) r.out (tail_in t.key (passes_of s.views)) far q (term t) e z d a low'))
-            (λ pos. subst (λ (x : ℕ). 0 < claimed_sum (begins_at x) (passes_of s.views)) (let e : r.freed + r.out ≡ r.freed = omega arith in e) pos)
-            r.memory.edge in
+        (λ (e : r.freed + r.out ≡ tail_in t.key (passes_of s.views)). absurd (late (r.freed) r.out (tail_in t.key (passes_of s.views)) far q (term t) e z d a low'))
+        (λ pos. subst (λ (x : ℕ). 0 < claimed_sum (begins_at x) (passes_of s.views)) (let e : r.freed + r.out ≡ r.freed = omega arith in e) pos)
+        r.memory.edge in
         let parted = all_parted b r.stream (passes_of s.views) r.ruled.ruled.memory (begins_below q) in let parted' = all_parted b r.stream (passes_of s.views) r.ruled.ruled.memory (begins_at r.freed) in
         let up : open_sum (begins_at r.freed) (passes_of s.views) ≤ open_sum (begins_below q) (passes_of s.views) = total_up (open_weight (begins_at r.freed)) (open_weight (begins_below q)) (passes_of s.views) (λ x. total_up (λ f. begins_at r.freed (extent_of f)) (λ f. begins_below q (extent_of f)) x.work.drafts (λ f. below r.freed q f.start (8 * length f.words) (omega arith))) in
         let some' : 0 < committed_sum (begins_at r.freed) (passes_of s.views) = left (claimed_sum (begins_at r.freed) (passes_of s.views)) (committed_sum (begins_at r.freed) (passes_of s.views)) (open_sum (begins_at r.freed) (passes_of s.views)) (claimed_sum (begins_below q) (passes_of s.views)) (committed_sum (begins_below q) (passes_of s.views)) (open_sum (begins_below q) (passes_of s.views)) pos parted' parted seen.passed up in

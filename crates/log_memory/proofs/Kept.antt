@@ -4,7 +4,6 @@ use Rattle.log_memory.proofs.Beginning.{begins}
 use Rattle.log_memory.proofs.Claiming.{add}
 use Rattle.log_memory.proofs.Cleaning.{clean_to}
 use Rattle.log_memory.proofs.Committing.{commit}
-use Rattle.log_memory.proofs.Dealing.{splits}
 use Rattle.log_memory.proofs.Freeing.{take_back}
 use Rattle.log_memory.proofs.Giving.{give_room}
 use Rattle.log_memory.proofs.Keeping.{join, leave, raise, sweep}

@@ -16,4 +16,5 @@ pub mod Publishing
 pub mod Cleaning
 pub mod Beginning
 pub mod Dealing
+pub mod Seating
 pub mod Kept

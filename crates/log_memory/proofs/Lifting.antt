@@ -193,4 +193,3 @@ quiet_same v w same claims frames = record {
   cleaned = ap (λ (k : Keeping). k.cleaned) same.keeping;
   seen = λ one j there. subst (λ (k : Keeping). (k.right ≡ 1) × ((i : ℕ) × IsThere k.there i × (slice_index k.positions i ≤ slice_index w.pass.keeping.positions j))) same.keeping (one, (j, there, omega arith));
 }
-

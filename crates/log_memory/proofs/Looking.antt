@@ -198,9 +198,9 @@ pub give : (t : Site) (id i : ℕ) (r : Reading) (f : FrameWords) (m : Mine) (ma
 give t id i r f m may slots s k homes at small =
     let v = m.0 in let same : set s.words i (slice_index s.words i) ≡ s.words = set-get_or s.words i 0 in let ps = passes_of s.views in
     let among : IsAmong ps f = ⊎_elim
-        (λ known. all_at (IsAmong ps) f r.known (all_at (IsReader k.stream ps) r v.view.pass.reading (k.ruled.kept.each id v.view.pass (pass_at s.views id v at)).readings may.mine).known known)
-        (λ own. mine t k.stream s.views k.ruled id v f at own)
-        may.knows in
+    (λ known. all_at (IsAmong ps) f r.known (all_at (IsReader k.stream ps) r v.view.pass.reading (k.ruled.kept.each id v.view.pass (pass_at s.views id v at)).readings may.mine).known known)
+    (λ own. mine t k.stream s.views k.ruled id v f at own)
+    may.knows in
     let h = k.memory.held id v at may.has in
     let from = (k.memory.readers id v h.reading at h.mine h.low).back f among (let a = h.near in let e = may.here in omega arith) in
     let after = given t s k f among from id v at may.has r.number may.low may.number may.here may.access may.is (set s.words i (slice_index s.words i)) same in (

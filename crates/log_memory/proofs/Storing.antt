@@ -141,8 +141,8 @@ module _ (key : Key) (stream : List ℕ) (views : List View) (q : LogRuled key (
         let u = b.view in let x : ℕ = p + 8 * suc k in let n : ℕ = slice_index ws (suc k) in let i : ℕ = slot key.identity.geometry x in let e = filled_long ws k in
         let has : HasWord u.pass 1 x = record { front = front; draft = frame p cut (filled ws k); behind = behind; parts = drafts_are; place = suc k; above = omega arith; inside = omega arith; position = refl } in
         let g = lifted key 0 id i (u, []) (λ _. n) (λ _ w. Stores u.pass x n w) (λ _. []) (data_turns i n (omega arith)) (inr (data_leaves i n (omega arith))) (other_spares i (λ _. n) (λ e. omega arith) (λ j lt e. omega arith)) (λ _ w. stores_goes u.pass x n w has)
-            (λ bs. subst (λ (y : ℕ). Rattle.log_rule.specs.Claims.Events.Eventful bs id u.pass y (λ _. n) (λ _ w. Stores u.pass x n w)) (ap (λ g. slot g x) shape) (steps_are_events.store bs id u.pass x n has))
-            (record { words = now; homes = []; views = set views id u }) b.ruled refl here (subst (λ (y : ℕ). y < 2 ^ 64) (sym (none_yet (suc k) (inr (omega arith)) lt)) (omega arith)) in
+        (λ bs. subst (λ (y : ℕ). Rattle.log_rule.specs.Claims.Events.Eventful bs id u.pass y (λ _. n) (λ _ w. Stores u.pass x n w)) (ap (λ g. slot g x) shape) (steps_are_events.store bs id u.pass x n has))
+        (record { words = now; homes = []; views = set views id u }) b.ruled refl here (subst (λ (y : ℕ). y < 2 ^ 64) (sym (none_yet (suc k) (inr (omega arith)) lt)) (omega arith)) in
         let told = g.4 in let r = g.3 in record {
           view = g.0;
           pass_is = told.4 front (frame p cut (filled ws k)) behind (suc k) drafts_are (omega arith) (omega arith) refl ∙ ap (λ (y : Pass). with_work y.work.frames (front ++ written (frame p cut (filled ws k)) (suc k) n ∷ behind) y) b.pass_is;
@@ -160,8 +160,8 @@ module _ (key : Key) (stream : List ℕ) (views : List View) (q : LogRuled key (
         let own : u.pass.identity ≡ key.identity = ap (λ (x : Pass). x.identity) b.pass_is ∙ identity_is in
         let completes : CompletesFrame u.pass p n = record { front = front; draft = d; behind = behind; parts = drafts_are; inside = omega arith; position = refl; content = done.content; legal = subst (λ (y : Identity). Rattle.frame_words.specs.Words.IsLegal y.geometry done.content) (sym own) done.legal; whole = done.whole; spelt = whole ∙ done.spelt ∙ ap (λ (y : Identity). Rattle.frame_words.specs.Words.frame_words y p done.content) (sym own) } in
         let g = lifted key 0 id i (u, []) (λ _. n) (λ _ w. Commits u.pass p n w) (λ _. []) (data_turns i n (omega arith)) (inr (data_leaves i n (omega arith))) (other_spares i (λ _. n) (λ e. omega arith) (λ j lt e. omega arith)) (λ _ w. commits_goes u.pass p n w completes)
-            (λ bs. subst (λ (y : ℕ). Rattle.log_rule.specs.Claims.Events.Eventful bs id u.pass y (λ _. n) (λ _ w. Commits u.pass p n w)) (ap (λ g. slot g p) shape) (steps_are_events.commit bs id u.pass p n completes done.first))
-            (record { words = now; homes = []; views = set views id u }) b.ruled refl here (subst (λ (y : ℕ). y < 2 ^ 64) (sym (ap (λ (y : ℕ). slice_index now (slot key.identity.geometry y)) (let z : p ≡ p + 8 * 0 = omega arith in z) ∙ none_yet 0 (inl refl) (omega arith))) (omega arith)) in
+        (λ bs. subst (λ (y : ℕ). Rattle.log_rule.specs.Claims.Events.Eventful bs id u.pass y (λ _. n) (λ _ w. Commits u.pass p n w)) (ap (λ g. slot g p) shape) (steps_are_events.commit bs id u.pass p n completes done.first))
+        (record { words = now; homes = []; views = set views id u }) b.ruled refl here (subst (λ (y : ℕ). y < 2 ^ 64) (sym (ap (λ (y : ℕ). slice_index now (slot key.identity.geometry y)) (let z : p ≡ p + 8 * 0 = omega arith in z) ∙ none_yet 0 (inl refl) (omega arith))) (omega arith)) in
         let told = g.4 in let r = g.3 in record {
           view = g.0;
           pass_is = told.4 front d behind drafts_are (omega arith) refl ∙ ap (λ (y : Pass). with_work (y.work.frames ++ written d 0 n ∷ []) (front ++ behind) y) b.pass_is ∙ ap (λ (l : List ℕ). with_work (v.pass.work.frames ++ frame p cut l ∷ []) (front ++ behind) v.pass) whole;

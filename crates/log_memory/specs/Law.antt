@@ -1,7 +1,7 @@
 -- Each kind of step keeps the rule.
 use Rattle.std.specs.Prelude.{◌≡◌, ℕ, suc, ◌+◌, ◌%◌, ◌^◌, ◌<◌, ◌≤◌, ◌==◌, List, [], ◌∷◌, slice_index}
 use prog.Atomic.{either}
-use Rattle.atomic_table.specs.Table.{Allows, opening}
+use Rattle.atomic_table.specs.Table.{Allows, Joins as SeatsJoin, Splits, opening}
 use Rattle.publication.specs.declared.step.WordStep.TheVariants as steps
 use Rattle.theory.specs.Placed.{Among}
 use Rattle.theory.specs.Position.{framed_length, id_of, max_message}
@@ -9,18 +9,25 @@ use Rattle.theory.specs.Words.{id_before, id_in, tail_word}
 use Rattle.publication.specs.Steps.{Arms, Counts, ExchangesCount, Nexts, Rotates, Sees, geometry_of, tail_exchange, tail_step}
 use Rattle.publication.specs.declared.pass.FrameWords.{FrameWords}
 use Rattle.publication.specs.declared.pass.Reading.{Reading}
+use Rattle.publication.specs.declared.pass.Pass.{Pass}
+use Rattle.log_rule.specs.Claims.Closing.{both_seats, handing_seats, numbered_seat, spent_seat}
+use Rattle.log_rule.specs.Meetings.{Steadies, Steady, back_left, back_right, meeting, meeting_seats, showing, was_shown}
+use Rattle.log_rule.specs.Shares.{Weighs}
+use Rattle.log_rule.specs.Table.{keeper_left, keeper_right, knowledge_right, news_left, news_right, reader_alone, reader_left, reader_right, returned_seat, told_seat}
 use Rattle.log_rule.specs.Claims.Packs.{consumer_place, count_place, limit_place, tail_place}
 use Rattle.log_rule.specs.Claims.Sure.{LearnsControls}
 use Rattle.log_rule.specs.Keepings.{Joins, LearnsLimit, Leaves, MayJoin, MayLeave, MayRaise, Raises, keeping, sweeping}
 use Rattle.log_rule.specs.Kept.{IsThere}
 use Rattle.log_rule.specs.Readings.{Consumes, IsConsumer, MayPass, reading}
 use Rattle.log_rule.specs.Claims.Plays as words
-use Rattle.log_rule.specs.Claims.Plays.{playing}
+use Rattle.log_rule.specs.Claims.Plays.{dealing_seat, dealt_seat, newcomer, no_keeping, playing}
 use Rattle.region.specs.declared.access.Access.{Access}
+use Rattle.log_memory.specs.declared.view.LogView.{LogView}
 use Rattle.log_memory.specs.declared.view.Site.{Site}
 use Rattle.log_memory.specs.Places.{head_place}
 use Rattle.log_memory.specs.Opening.{SlotsBegun, WordsBegun}
 use Rattle.log_memory.specs.Rule.{LogMemoryRuled, ring, whole_seat}
+use Rattle.log_memory.specs.Seats.{dealt_with, joining, spent_with, viewing}
 use Rattle.log_memory.specs.Steps.{Adds, CleansTo, Committed, Gives, GivesRoom, IsIdle, Looks, MayCleanTo, MayCommit, MayGive, MayGiveRoom, MayReread, MayTakeBack, Mine, Rereads, Rests, TakesBack, any_step}
 
 -- such a step, whatever stands, keeps the rule, tells this of what its seat knows of the stream, and moves no memory
@@ -59,3 +66,22 @@ pub record StepsKeep : Type 0 where
   pub join : (t : Site) (id number place n : ℕ) (m : Mine) → MayJoin m.0.view.pass number n → IsIdle m.0 → Keeps t id (consumer_place number) (λ _. n) (λ a _ c. keeping (λ v w. LearnsControls [] v w) (λ v w. Joins v number place n w) a c) m
   pub leave : (t : Site) (id place number : ℕ) (m : Mine) → MayLeave m.0.view.pass place number → IsIdle m.0 → Keeps t id (consumer_place number) (λ _. 0) (λ a _ c. keeping (λ v w. LearnsControls [] v w) (λ v w. Leaves v place number w) a c) m
   pub raise : (t : Site) (id word : ℕ) (m : Mine) → MayRaise m.0.view.pass word → 0 < m.0.view.pass.right.parts → IsIdle m.0 → Keeps t id limit_place (λ _. word) (λ a _ c. keeping (LearnsLimit word) (λ v w. Raises v word w) a c) m
+
+-- each kind of seat that is dealt or joined, and each load that tells a pass of itself, where no seat has a part of a frame
+pub record SeatsKeep : Type 0 where
+  pub deal_publisher : (t : Site) (id : ℕ) (v : LogView) → IsIdle v → v.view.pass.right.armed ≡ 0 → v.view.pass.right.claims ≡ [] → 120 < v.view.pass.right.parts → Splits (LogMemoryRuled t) id v (viewing dealing_seat v) (dealt_with dealt_seat v)
+  pub deal_reader : (t : Site) (id : ℕ) (v : LogView) → IsIdle v → Splits (LogMemoryRuled t) id v (viewing reader_left v) (dealt_with reader_right v)
+  pub deal_keeper : (t : Site) (id : ℕ) (v : LogView) → IsIdle v → v.view.pass.right.armed ≡ 0 → v.view.pass.right.claims ≡ [] → 8 < v.view.pass.right.parts → Splits (LogMemoryRuled t) id v (viewing keeper_left v) (dealt_with keeper_right v)
+  pub renumber : (t : Site) (id : ℕ) (v : LogView) → IsIdle v → (n : ℕ) → n < 8 → v.view.pass.right.parts ≡ 1024 → Splits (LogMemoryRuled t) id v (viewing (numbered_seat n) v) (dealt_with (λ w. spent_seat w.pass.identity w.pass.start) v)
+  pub news : (t : Site) (id : ℕ) (v : LogView) → IsIdle v → Splits (LogMemoryRuled t) id v (viewing news_left v) (dealt_with news_right v)
+  pub knowledge : (t : Site) (id : ℕ) (v : LogView) → IsIdle v → Splits (LogMemoryRuled t) id v (viewing news_left v) (dealt_with knowledge_right v)
+  pub part_again : (t : Site) (id : ℕ) (v : LogView) → IsIdle v → (k : ℕ) (p q : Pass) → v.view.pass ≡ was_shown k (meeting p q) → Steady p → Steady q → p.right.armed ≡ 0 → q.right.armed ≡ 0 → 0 < p.right.parts → 0 < q.right.parts → q.identity ≡ p.identity → q.start ≡ p.start → q.keeping ≡ no_keeping
+      → Splits (LogMemoryRuled t) id v (viewing (back_left p) v) (dealt_with (back_right q) v)
+  pub tell : (t : Site) (id other : ℕ) (v x : LogView) → IsIdle v → IsIdle x → x.view.pass ≡ record (newcomer t.key.identity t.key.start 0 0) { reading = x.view.pass.reading } → SeatsJoin (LogMemoryRuled t) id v other x (joining told_seat v x) (spent_with (spent_seat t.key.identity t.key.start))
+  pub return : (t : Site) (id other : ℕ) (v x : LogView) → IsIdle v → IsIdle x → (c : Reading) → x.view.pass ≡ reader_alone t.key.identity t.key.start c → SeatsJoin (LogMemoryRuled t) id v other x (joining returned_seat v x) (spent_with (spent_seat t.key.identity t.key.start))
+  pub gather : (t : Site) (id other : ℕ) (v x : LogView) → IsIdle v → IsIdle x → v.view.pass.right.armed ≡ 0 → x.view.pass.right.armed ≡ 0 → 0 < v.view.pass.right.parts → SeatsJoin (LogMemoryRuled t) id v other x (joining both_seats v x) (spent_with (spent_seat t.key.identity t.key.start))
+  pub hand_over : (t : Site) (id other : ℕ) (v x : LogView) → IsIdle v → IsIdle x → v.view.pass.number < 8 → (v.view.pass.right.parts < 1024 → Among v.view.pass.number v.view.pass.right.numbers) → v.view.pass.right.armed ≡ 0 → x.view.pass.right.armed ≡ 0 → 0 < v.view.pass.right.parts → SeatsJoin (LogMemoryRuled t) id v other x (joining handing_seats v x) (spent_with (spent_seat t.key.identity t.key.start))
+  pub meet : (t : Site) (id other : ℕ) (v x : LogView) → IsIdle v → IsIdle x → v.view.pass.right.armed ≡ 0 → x.view.pass.right.armed ≡ 0 → 0 < v.view.pass.right.parts → SeatsJoin (LogMemoryRuled t) id v other x (joining meeting_seats v x) (spent_with (spent_seat t.key.identity t.key.start))
+  pub settle : (t : Site) (id : ℕ) (m : Mine) → IsIdle m.0 → (i : ℕ) → i < 208 → Keeps t id i (λ n. n) (reading (λ v k w. Steadies v w)) m
+  pub weigh : (t : Site) (id : ℕ) (m : Mine) → IsIdle m.0 → (i : ℕ) → i < 208 → Keeps t id i (λ n. n) (reading (λ v k w. Weighs v w)) m
+  pub show : (t : Site) (id : ℕ) (m : Mine) → IsIdle m.0 → (p : ℕ) → Keeps t id (tail_place p) (λ n. n) (showing (p % 3)) m

@@ -5,6 +5,6 @@ mod law;
 mod rule;
 mod view;
 
-pub use law::steps_keep;
+pub use law::{seats_keep, steps_keep};
 pub use rule::LogMemoryRule;
 pub use view::{LogView, Part, Room, Site};
