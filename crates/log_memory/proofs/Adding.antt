@@ -1,13 +1,12 @@
 -- An addition takes the room of what it claims.
-use Rattle.std.proofs.Common.{◌≡◌, ◌≢◌, ℕ, zero, suc, ◌+◌, ◌-◌, ◌*◌, ◌/◌, ◌%◌, ◌^◌, ◌<◌, ◌≤◌, ◌⊎◌, inl, inr, ⊎_elim, min, List, [], ◌∷◌, ◌++◌, length, map, set, sym, refl, ap, ◌∙◌, subst, arith}
-use mathlib.Core.Option.{some, some-injective}
+use Rattle.std.proofs.Common.{◌≡◌, ℕ, ◌+◌, ◌-◌, ◌*◌, ◌/◌, ◌%◌, ◌<◌, ◌≤◌, ◌⊎◌, inl, inr, ⊎_elim, min, List, [], ◌∷◌, ◌++◌, length, map, set, sym, refl, ap, ◌∙◌, subst, arith}
+use mathlib.Core.Option.{some}
 use mathlib.Core.Logic.{dite}
 use native.Mathlib.Decide.{ℕ_discrete}
 use lib.ListN.{get_elem?}
 use Rattle.std.specs.Prelude.{slice_index}
 use Rattle.std.specs.List.{AllByRecursion}
-use Rattle.std.proofs.lemmas.List.{map-set}
-use Rattle.atomic_table.specs.Table.{State, carried_after, homes_after}
+use Rattle.atomic_table.specs.Table.{homes_after}
 use Rattle.atomic_table.proofs.Lists.{at_set, set_here}
 use Rattle.theory.specs.Entry.{Entry, IsEntry, length_of}
 use Rattle.theory.specs.Placed.{Among}
@@ -15,19 +14,15 @@ use Rattle.theory.specs.Position.{aligned, greatest_claim, span}
 use Rattle.theory.specs.Refusal.{limit_in}
 use Rattle.theory.proofs.Cuts.{span_unit}
 use Rattle.theory.proofs.Lists.{all_behind}
-use Rattle.publication.specs.declared.pass.ClaimRange.{ClaimRange}
 use Rattle.publication.specs.declared.pass.FrameWords.{FrameWords}
 use Rattle.publication.specs.declared.pass.Keeping.{Keeping}
 use Rattle.publication.specs.declared.pass.Pass.{Pass}
-use Rattle.publication.specs.declared.pass.Reading.{Reading}
 use Rattle.publication.specs.Steps.{extent_of, extents}
 use Rattle.region.specs.declared.access.Access.{Access}
-use Rattle.log_rule.specs.declared.claims.view.View.{View}
 use Rattle.log_rule.specs.Claims.Events.{committed_weight}
 use Rattle.log_rule.specs.Claims.Rule.{IsClaimEntry, entries_of, entry_of, weight}
 use Rattle.log_rule.specs.Claims.Sums.{covers, total}
-use Rattle.log_rule.specs.Edges.{AreCommitted, IsAmong, begins_at, begins_below, claimed_sum, committed_sum, in_entry}
-use Rattle.log_rule.specs.Readings.{end_of}
+use Rattle.log_rule.specs.Edges.{AreCommitted, IsAmong, begins_at, begins_below, claimed_sum, in_entry}
 use Rattle.log_rule.specs.Table.{LogRuled}
 use Rattle.log_rule.proofs.Claimed.Memories.{Opens, cover_passes, held_by, maps_append}
 use Rattle.log_rule.proofs.Claimed.Totals.{total_append, total_set}
@@ -36,13 +31,14 @@ use Rattle.log_rule.proofs.Growing.{same_sum}
 use Rattle.log_memory.specs.declared.view.LogView.{LogView}
 use Rattle.log_memory.specs.declared.view.Site.{Site}
 use Rattle.log_memory.specs.Places.{head_place, slot_of}
-use Rattle.log_memory.specs.Rule.{AreSmall, Board, IsBeyond, IsFree, IsHeld, IsHome, IsRoom, IsThereAny, IsWithReader, KnowsRoom, Lies, LogMemoryRuled, passes_of, ring, shape, stream_state, tail_in, term, view_in}
-use Rattle.log_memory.specs.Steps.{Carries, CarriesRange, IsIdle, IsRoomAt, Mine}
-use Rattle.log_memory.proofs.Facts.{bounds, end_low, pass_at, some_ring, tail_limit, tail_near, unit, whole, width}
-use Rattle.log_memory.proofs.Lifting.{passes_set, with_reader_on}
-use Rattle.log_memory.proofs.Places.{RowUnit, in_range, row_apart, row_unit}
+use Rattle.log_memory.specs.Rule.{AreSmall, Board, IsBeyond, IsHome, IsRoom, KnowsRoom, Lies, LogMemoryRuled, passes_of, ring, shape, stream_state, tail_in, term}
+use Rattle.log_memory.specs.Steps.{IsIdle, IsRoomAt}
+use Rattle.log_memory.proofs.Facts.{bounds, end_low, long as long_frame, pass_at, some_ring, tail_limit, tail_near, unit, width}
+use Rattle.log_memory.proofs.Lifting.{passes_set, there_low, with_reader_on}
+use Rattle.log_memory.proofs.Places.{row_apart, row_unit}
 use Rattle.log_memory.proofs.Resting.{SameFrames, held_on, knows_on, beyond_on, out_on, same_frames}
 use Rattle.log_memory.proofs.Rows.{Full, TakesRow, takes_row}
+use Rattle.log_rule.specs.Kept.{IsThere}
 
 -- ---- a claim, where passes stood before
 
@@ -88,12 +84,7 @@ module _ (t : Site) (s : Board) (r : LogMemoryRuled t s) (id : ℕ) (v w : LogVi
       more now old a c n e g = omega arith
 
   there : get_elem? (set s.views id w) id ≡ some w
-  there = set_here s.views id w (low s.views id v at)
-    where
-      low : {A : Type 0} (l : List A) (i : ℕ) (a : A) → get_elem? l i ≡ some a → i < length l
-      low [] i a e = absurd (Rattle.std.proofs.Math.Option.some-ne-none a (sym e))
-      low (x ∷ xs) zero a e = omega arith
-      low (x ∷ xs) (suc i) a e = let r = low xs i a e in omega arith
+  there = set_here s.views id w (there_low s.views id v at)
 
   legal : IsClaimEntry (entry_of o.claim)
   legal = (all_behind IsClaimEntry (entries_of v.view.pass) (entry_of o.claim ∷ [])
@@ -196,7 +187,7 @@ module _ (t : Site) (s : Board) (r : LogMemoryRuled t s) (id : ℕ) (v w : LogVi
         }
 
     lies_on : (f : FrameWords) → IsAmong (passes_of s.views) f → r.freed ≤ f.start → Lies t s r.rounds f → Lies t after r.rounds f
-    lies_on f among from l = let end = end_low t r.stream s.views r.ruled f among in let a = at_tail in let near' = tail_near t s r in let n = Rattle.log_memory.proofs.Facts.long t r.stream s.views r.ruled f among in record {
+    lies_on f among from l = let end = end_low t r.stream s.views r.ruled f among in let a = at_tail in let near' = tail_near t s r in let n = long_frame t r.stream s.views r.ruled f among in record {
       parts = λ j lt. ⊎_elim
           (λ h. inl (home_on f.start j _ (unit t r.stream s.views r.ruled f among) from (omega arith) (inl (omega arith)) lt h))
           (λ b. inr (let x = with_reader_on s words id v w at idle f.start j b in record { seat = x.seat; view = x.view; there = x.there; part = x.part }))
@@ -254,5 +245,5 @@ module _ (t : Site) (s : Board) (r : LogMemoryRuled t s) (id : ℕ) (v w : LogVi
           freed_is = ap (λ x. x.freed) room ∙ k.freed_is;
           out_is = ap (λ x. x.out) room ∙ k.out_is;
           cleaned = subst (λ (x : Keeping). x.cleaned ≤ r.freed) (sym keeping) k.cleaned;
-          seen = λ j there'. subst (λ (x : Keeping). IsBeyond t (passes_of s.views) (r.freed + r.out) (slice_index x.positions j)) (sym keeping) (k.seen j (subst (λ (x : Keeping). Rattle.log_rule.specs.Kept.IsThere x.there j) keeping there'));
+          seen = λ j there'. subst (λ (x : Keeping). IsBeyond t (passes_of s.views) (r.freed + r.out) (slice_index x.positions j)) (sym keeping) (k.seen j (subst (λ (x : Keeping). IsThere x.there j) keeping there'));
         }

@@ -1,8 +1,6 @@
 -- The words and slots of a log that opens obey the rule.
-use Rattle.std.proofs.Common.{◌≡◌, ◌≢◌, ℕ, zero, suc, ◌+◌, ◌-◌, ◌*◌, ◌/◌, ◌%◌, ◌^◌, ◌<◌, ◌≤◌, ◌⊎◌, inl, inr, ⊎_elim, List, [], ◌∷◌, length, length-append, map, replicate, sym, refl, ap, ◌∙◌, subst, mod-lt, arith}
+use Rattle.std.proofs.Common.{◌≡◌, ℕ, zero, suc, ◌+◌, ◌-◌, ◌*◌, ◌/◌, ◌%◌, ◌<◌, ◌≤◌, inl, inr, List, [], ◌∷◌, length, length-append, map, replicate, sym, refl, ap, ◌∙◌, subst, mod-lt, arith}
 use mathlib.Core.Option.{some, some-injective, some-ne-none}
-use mathlib.Core.Logic.{dite}
-use native.Mathlib.Decide.{dec_le, ℕ_discrete}
 use lib.ListN.{get_elem?}
 use Rattle.std.specs.Prelude.{slice_index}
 use Rattle.std.proofs.lemmas.List.{get_or-take, length-replicate, length-take-le}
@@ -16,7 +14,6 @@ use Rattle.publication.specs.declared.pass.Pass.{Pass}
 use Rattle.publication.specs.declared.pass.Reading.{Reading}
 use Rattle.region.specs.declared.access.Access.{Access}
 use Rattle.log_rule.specs.Edges.{IsAmong}
-use Rattle.log_rule.specs.Kept.{IsThere}
 use Rattle.log_rule.specs.Table.{LogRuled, consumers_at, first_there, whole_pass}
 use Rattle.log_rule.proofs.Beginning.{opens}
 use Rattle.log_rule.proofs.Claimed.Begun.{fresh_zeros}
@@ -24,9 +21,9 @@ use Rattle.log_rule.proofs.Growing.{there_low}
 use Rattle.log_rule.proofs.Known.{found}
 use Rattle.log_memory.specs.declared.view.LogView.{LogView}
 use Rattle.log_memory.specs.declared.view.Site.{Site}
-use Rattle.log_memory.specs.Places.{head_place, slot_of, units}
+use Rattle.log_memory.specs.Places.{head_place, slot_of}
 use Rattle.log_memory.specs.Opening.{SlotsBegun, WordsBegun}
-use Rattle.log_memory.specs.Rule.{Board, IsBeyond, IsHome, IsRoom, IsThereAny, KnowsRoom, LogMemoryRuled, passes_of, ring, shape, stream_state, term, whole_seat}
+use Rattle.log_memory.specs.Rule.{Board, IsBeyond, KnowsRoom, LogMemoryRuled, passes_of, ring, shape, stream_state, term, whole_seat}
 use Rattle.log_memory.proofs.Facts.{least, some_ring, whole_term, width}
 use Rattle.log_memory.proofs.Places.{slot_low}
 

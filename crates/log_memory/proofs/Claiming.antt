@@ -1,5 +1,5 @@
 -- An addition to a raw tail, whatever it finds there.
-use Rattle.std.proofs.Common.{◌≡◌, ◌≢◌, ℕ, suc, ◌+◌, ◌-◌, ◌*◌, ◌/◌, ◌%◌, ◌^◌, ◌<◌, ◌≤◌, ◌⊎◌, inl, inr, List, [], ◌∷◌, length, map, set, length-set, get_or-set_other, sym, refl, ap, ◌∙◌, subst, lt_of_not-le, arith}
+use Rattle.std.proofs.Common.{◌≡◌, ℕ, ◌+◌, ◌-◌, ◌*◌, ◌/◌, ◌%◌, ◌^◌, ◌<◌, ◌≤◌, inl, List, [], ◌∷◌, length, set, length-set, get_or-set_other, sym, refl, ap, subst, lt_of_not-le, arith}
 use mathlib.Core.Option.{some}
 use mathlib.Core.Logic.{dite}
 use native.Mathlib.Decide.{dec_le}
@@ -10,16 +10,13 @@ use Rattle.std.proofs.lemmas.Nat.{mod-mul-add}
 use Rattle.atomic_table.specs.Table.{Allows, carried_after, keeps}
 use Rattle.atomic_table.proofs.Lists.{at_map}
 use Rattle.theory.specs.Bytes.{Identity}
-use Rattle.theory.specs.Position.{Geometry, IsGeometry, aligned, cuts_of, framed_length, greatest_claim, max_message, span}
+use Rattle.theory.specs.Position.{Geometry, IsGeometry, cuts_of, framed_length, greatest_claim, max_message, span}
 use Rattle.theory.specs.Refusal.{limit_in}
 use Rattle.theory.specs.Words.{offset_in}
 use Rattle.theory.proofs.Claims.{span_is}
-use Rattle.publication.specs.declared.pass.Keeping.{Keeping}
 use Rattle.publication.specs.declared.pass.Pass.{Pass}
-use Rattle.publication.specs.declared.pass.Work.{Work}
 use Rattle.publication.specs.Steps as steps
 use Rattle.publication.specs.Steps.{addition, count_in, geometry_of, message_at, padding_at, start_in, term_of}
-use Rattle.region.specs.declared.access.Access.{Access}
 use Rattle.log_rule.specs.declared.claims.view.View.{View}
 use Rattle.log_rule.specs.Claims.Packs.{tail_place}
 use Rattle.log_rule.specs.Claims.Plays as plays
@@ -33,13 +30,15 @@ use Rattle.log_memory.specs.declared.view.LogView.{LogView}
 use Rattle.log_memory.specs.declared.view.Site.{Site}
 use Rattle.log_memory.specs.Places.{slot_of}
 use Rattle.log_memory.specs.Rule.{Board, LogMemoryRuled, ring, shape, stream_state, term, view_in}
-use Rattle.log_memory.specs.Steps.{Adds, Carries, CarriesRange, IsIdle, IsRoomAt, Mine, TakesRoom, as_view}
+use Rattle.log_memory.specs.Steps.{Adds, Carries, IsIdle, IsRoomAt, Mine, TakesRoom, any_step, as_view}
 use Rattle.log_memory.proofs.Adding.{added, after, takes}
 use Rattle.log_memory.proofs.Facts.{geometry, least, pass_at, width}
 use Rattle.log_memory.proofs.Lifting.{leaves, no_act, quiet_same, set_both, small_on}
 use Rattle.log_memory.proofs.Places.{in_ring}
 use Rattle.log_memory.proofs.Resting.{rests}
 use Rattle.log_memory.proofs.Rows.{TakesRow}
+use Rattle.theory.proofs.Cuts.{long_cuts}
+use Rattle.theory.proofs.Places.{power_unit}
 
 -- a position by its term, and a range that ends in it
 row_of : (n t p q m : ℕ) → n * 32 ≡ 3 * t → 65536 ≤ t → p ≡ q * t + p % t → p % t + m ≤ t → p % (n * 32) + m ≤ n * 32
@@ -65,7 +64,7 @@ module _ (t : Site) (id size : ℕ) (m : Mine) (idle : IsIdle m.0) (able : 120 �
   f n = (n + framed_length (geometry_of m.0.view.pass) size) % 2 ^ 64
 
   abbrev told : plays.Mine → ℕ → plays.Mine → Type 0
-  told = plays.playing (λ v k w. steps.Adds v size k w) (λ v k. addition v size k ∷ []) Rattle.log_memory.specs.Steps.any_step
+  told = plays.playing (λ v k w. steps.Adds v size k w) (λ v k. addition v size k ∷ []) any_step
 
   of_stream : Allows (LogRuled t.key) 0 id (as_view m.0) i f (λ n w. told (as_view m.0) n w)
   of_stream = lifted t.key 0 id i (as_view m.0) f (λ n w. steps.Adds v size n w) (λ n. addition v size n ∷ []) (add_turns v.seen.term (framed_length g size)) (inl (let q : 0 < v.right.parts = omega arith in q))
@@ -132,10 +131,10 @@ add t id size m idle able armed short slots s r homes at small =
     let e = same_word t id size m idle able armed short s r at small in let n : ℕ = slice_index r.stream i in
     let g = of_stream t id size m idle able armed short (stream_state r.stream s.views) r.ruled refl (at_map view_in s.views id m.0 at) (subst (λ (x : ℕ). x < 2 ^ 64) e small) in
     let none' = no_act [] [] g.1 refl refl g.2 in
-    let told = subst (λ (l : List (ℕ × Unit {0})). plays.playing (λ v k w. steps.Adds v size k w) (λ v k. addition v size k ∷ []) Rattle.log_memory.specs.Steps.any_step (as_view m.0) n (g.0, l)) none'.0 g.4 in
+    let told = subst (λ (l : List (ℕ × Unit {0})). plays.playing (λ v k w. steps.Adds v size k w) (λ v k. addition v size k ∷ []) any_step (as_view m.0) n (g.0, l)) none'.0 g.4 in
     let w : View = g.0 in let seat : LogView = record m.0 { view = w } in let a = told.4 in let q0 = g.3 in
     let q : LogRuled t.key (stream_state (set r.stream i (f n)) (set s.views id seat)) = subst (λ (l : List View). LogRuled t.key (record { words = set r.stream i (f n); homes = []; views = l })) (sym (map-set view_in s.views id seat)) record { cleaned = q0.cleaned; there = q0.there; ruled = q0.ruled; kept = q0.kept; sure = q0.sure; numbered = q0.numbered } in
-    let told' = subst (λ (x : ℕ). plays.playing (λ v k w. steps.Adds v size k w) (λ v k. addition v size k ∷ []) Rattle.log_memory.specs.Steps.any_step (as_view m.0) x (w, [])) (sym e) told in
+    let told' = subst (λ (x : ℕ). plays.playing (λ v k w. steps.Adds v size k w) (λ v k. addition v size k ∷ []) any_step (as_view m.0) x (w, [])) (sym e) told in
     let legal' = legal t id size m idle able armed short s r at small in
     let covered : span (cuts_of gm size) ≡ framed_length gm size = span_is gm legal'.mtu.unit legal'.mtu.least size in
     let keeping = told.2.keeping in
@@ -177,7 +176,7 @@ add t id size m idle able armed short slots s r homes at small =
     ))
     (λ no. let past : term_of v < offset_in n + framed_length gm size = lt_of_not-le no in let is = a.trips lt past in
     let o : Opens v w.pass = record { claim = padding_at v n; number = ap (λ y. y.number) is; parts = ap (λ y. y.right.parts) is; numbers = ap (λ y. y.right.numbers) is; claims = ap (λ y. y.right.claims) is; frames = ap (λ y. y.work.frames) is; drafts = ap (λ y. y.work.drafts) is; reading = ap (λ y. y.reading) is; keeping = ap (λ y. y.keeping) is } in
-    let rest : ℕ = term_of v - offset_in n in let covered' : span (rest ∷ []) ≡ rest = rest_span rest (rest_unit (term_of v) (offset_in n) a.unit (Rattle.theory.proofs.Places.power_unit (term_of v) legal'.term.power legal'.term.least)) in
+    let rest : ℕ = term_of v - offset_in n in let covered' : span (rest ∷ []) ≡ rest = rest_span rest (rest_unit (term_of v) (offset_in n) a.unit (power_unit (term_of v) legal'.term.power legal'.term.least)) in
     let row = subst (λ (x : ℕ). start_in gm n % (ring t * 32) + x ≤ ring t * 32) (sym covered') (row_in t id size m idle able armed short s r at small n rest lt (omega arith)) in
     let tk = row_taken t id size m idle able armed short s r at small w q o keeping row in (
       seat,
@@ -200,7 +199,7 @@ add t id size m idle able armed short slots s r homes at small =
     rest_unit t o a c = omega arith
 
     long_fits : (v : Pass) (n : ℕ) → term_of v ≤ offset_in n → offset_in n + framed_length (geometry_of v) size ≤ term_of v → span (cuts_of (geometry_of v) size) ≡ framed_length (geometry_of v) size → IsGeometry (geometry_of v) → ⊥
-    long_fits v n over fits covered is = let pos = Rattle.theory.proofs.Cuts.long_cuts (geometry_of v) size (let q = is.mtu.least in omega arith) in clash (term_of v) (offset_in n) (framed_length (geometry_of v) size) (span (cuts_of (geometry_of v) size)) over fits covered pos
+    long_fits v n over fits covered is = let pos = long_cuts (geometry_of v) size (let q = is.mtu.least in omega arith) in clash (term_of v) (offset_in n) (framed_length (geometry_of v) size) (span (cuts_of (geometry_of v) size)) over fits covered pos
       where
         clash : (t o f p : ℕ) → t ≤ o → o + f ≤ t → p ≡ f → 0 < p → ⊥
         clash t o f p a c e pos = omega arith

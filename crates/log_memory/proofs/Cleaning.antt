@@ -1,24 +1,20 @@
 -- The words of the stream below where memory was taken back are cleaned one after the other: so many looks, in which no control word changes.
-use Rattle.std.proofs.Common.{◌≡◌, ◌≢◌, ℕ, zero, suc, ◌+◌, ◌-◌, ◌*◌, ◌/◌, ◌%◌, ◌<◌, ◌≤◌, ◌⊎◌, inl, inr, ⊎_elim, max, List, [], ◌∷◌, length, map, set, get_or-set_other, sym, refl, ap, ◌∙◌, subst, arith}
+use Rattle.std.proofs.Common.{◌≡◌, ℕ, zero, suc, ◌+◌, ◌-◌, ◌*◌, ◌/◌, ◌%◌, ◌<◌, ◌≤◌, ⊎_elim, max, List, [], ◌∷◌, length, map, set, get_or-set_other, sym, refl, ap, ◌∙◌, subst, arith}
 use mathlib.Core.Option.{some}
 use lib.ListN.{get_elem?}
 use Rattle.std.specs.Prelude.{slice_index}
 use Rattle.std.proofs.lemmas.List.{map-set, set-get_or}
 use Rattle.atomic_table.specs.Table.{Allows, keeps}
 use Rattle.atomic_table.proofs.Lists.{at_map, at_set, set_again, set_here}
-use Rattle.theory.specs.Bytes.{Identity}
 use Rattle.theory.specs.Placed.{Among}
 use Rattle.theory.specs.Position.{greatest_claim}
 use Rattle.theory.specs.Refusal.{limit_in}
-use Rattle.publication.specs.declared.pass.Keeping.{Keeping}
 use Rattle.publication.specs.declared.pass.Pass.{Pass}
-use Rattle.publication.specs.declared.pass.Reading.{Reading}
 use Rattle.publication.specs.Steps.{term_of}
 use Rattle.log_rule.specs.declared.claims.view.View.{View}
 use Rattle.log_rule.specs.declared.rule.Key.{Key}
 use Rattle.log_rule.specs.Claims.Events.{IsLook}
 use Rattle.log_rule.specs.Claims.Packs.{slot}
-use Rattle.log_rule.specs.Claims.Plays.{pass_in}
 use Rattle.log_rule.specs.Claims.Sure.{LearnsControls}
 use Rattle.log_rule.specs.Keepings.{CleansWord, MayClean, keeping, least_there, with_keeping}
 use Rattle.log_rule.specs.Table.{LogRuled}
@@ -26,13 +22,14 @@ use Rattle.log_rule.proofs.Claimed.Eventful.{look as same_look}
 use Rattle.log_rule.proofs.Cleaning as cleaning
 use Rattle.log_memory.specs.declared.view.LogView.{LogView}
 use Rattle.log_memory.specs.declared.view.Site.{Site}
-use Rattle.log_memory.specs.Rule.{AreSmall, Board, IsBeyond, IsHeld, KnowsRoom, LogMemoryRuled, passes_of, shape, stream_state, term, view_in}
+use Rattle.log_memory.specs.Rule.{AreSmall, Board, IsBeyond, KnowsRoom, LogMemoryRuled, passes_of, shape, stream_state, term, view_in}
 use Rattle.log_memory.specs.Steps.{CleansTo, IsIdle, MayCleanTo, Mine}
 use Rattle.log_memory.proofs.Committing.{restep}
 use Rattle.log_memory.proofs.Facts.{pass_at}
 use Rattle.log_memory.proofs.Lifting.{passes_set, there_low, with_reader_on}
-use Rattle.log_memory.proofs.Resting.{Leaves, rests, still}
+use Rattle.log_memory.proofs.Resting.{rests, still}
 use Rattle.log_memory.proofs.Storing.{Became, set_twice}
+use Rattle.log_rule.specs.Kept.{IsThere}
 
 module _ (key : Key) (stream : List ℕ) (views : List View) (q : LogRuled key (record { words = stream; homes = []; views = views })) (small : AreSmall stream) (id : ℕ) (v : View) (at : get_elem? views id ≡ some v) (keeper : v.pass.keeping.right ≡ 1) where
   -- it is zero so far
@@ -127,5 +124,5 @@ clean_to t id i end m may idle slots s r homes at small =
       freed_is = k.freed_is;
       out_is = k.out_is;
       cleaned = subst (λ (x : Pass). x.keeping.cleaned ≤ r.freed) (sym same) (let a = may.freed in let f = k.freed_is in omega arith);
-      seen = λ j there. subst (λ (x : Pass). IsBeyond t (passes_of s.views) (r.freed + r.out) (slice_index x.keeping.positions j)) (sym same) (k.seen j (subst (λ (x : Pass). Rattle.log_rule.specs.Kept.IsThere x.keeping.there j) same there));
+      seen = λ j there. subst (λ (x : Pass). IsBeyond t (passes_of s.views) (r.freed + r.out) (slice_index x.keeping.positions j)) (sym same) (k.seen j (subst (λ (x : Pass). IsThere x.keeping.there j) same there));
     }

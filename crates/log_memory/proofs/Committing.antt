@@ -1,12 +1,12 @@
 -- A frame is committed, and its memory goes to those who read it.
-use Rattle.std.proofs.Common.{◌≡◌, ◌≢◌, ℕ, zero, suc, ◌+◌, ◌-◌, ◌*◌, ◌/◌, ◌%◌, ◌^◌, ◌<◌, ◌≤◌, ◌⊎◌, ◌==◌, cond, Bool, inl, inr, ⊎_elim, min, List, [], ◌∷◌, ◌++◌, length, map, set, length-set, get_or-set_same, get_or-set_other, eq-eqb, ne_eqb, sym, refl, ap, ◌∙◌, subst, lt_of_not-le, arith}
-use mathlib.Core.Option.{some, some-injective}
+use Rattle.std.proofs.Common.{◌≡◌, ◌≢◌, ℕ, suc, ◌+◌, ◌-◌, ◌*◌, ◌/◌, ◌%◌, ◌<◌, ◌≤◌, ◌⊎◌, ◌==◌, cond, Bool, inl, inr, ⊎_elim, min, List, [], ◌∷◌, ◌++◌, length, map, set, length-set, get_or-set_same, get_or-set_other, eq-eqb, ne_eqb, sym, refl, ap, ◌∙◌, subst, lt_of_not-le, arith}
+use mathlib.Core.Option.{some}
 use mathlib.Core.Logic.{dite}
-use native.Mathlib.Decide.{dec_le, ℕ_discrete}
+use native.Mathlib.Decide.{dec_le}
 use lib.ListN.{get_elem?}
 use Rattle.std.specs.Prelude.{slice_index}
 use Rattle.std.proofs.lemmas.List.{map-set}
-use Rattle.atomic_table.specs.Table.{Allows, State, carried_after, homes_after}
+use Rattle.atomic_table.specs.Table.{Allows, homes_after}
 use Rattle.atomic_table.proofs.Lists.{at_map, at_set, set_again, set_else, set_here}
 use Rattle.theory.specs.Entry.{Entry, length_of}
 use Rattle.theory.specs.Placed.{Among}
@@ -16,7 +16,6 @@ use Rattle.theory.proofs.Lists.{among_cases, among_right}
 use Rattle.publication.specs.declared.pass.FrameWords.{FrameWords}
 use Rattle.publication.specs.declared.pass.Keeping.{Keeping}
 use Rattle.publication.specs.declared.pass.Pass.{Pass}
-use Rattle.publication.specs.declared.pass.Reading.{Reading}
 use Rattle.publication.specs.Steps.{blank, extent_of, frame, with_work}
 use Rattle.region.specs.declared.access.Access.{Access}
 use Rattle.log_rule.specs.declared.claims.view.View.{View}
@@ -26,10 +25,10 @@ use Rattle.log_rule.specs.Claims.Plays.{pass_in}
 use Rattle.log_rule.specs.Claims.Rule.{entry_of, weight}
 use Rattle.log_rule.specs.Claims.Sums.{covers, total}
 use Rattle.log_rule.specs.Claims.Sure.{IsSure}
-use Rattle.log_rule.specs.Edges.{AreCommitted, IsAmong, begins_at, begins_below, claimed_sum, committed_sum, in_entry, open_sum, open_weight}
-use Rattle.log_rule.specs.Kept.{IsThere}
+use Rattle.log_rule.specs.Edges.{IsAmong, begins_at, begins_below, claimed_sum, committed_sum, in_entry, open_sum, open_weight}
+use Rattle.log_rule.specs.Kept.{IsThere, Kept}
 use Rattle.log_rule.specs.Readings.{end_of}
-use Rattle.log_rule.specs.Table.{LogRuled}
+use Rattle.log_rule.specs.Table.{LogRuled, now_at}
 use Rattle.log_rule.proofs.Claimed.Totals.{total_append, total_at, total_set}
 use Rattle.log_rule.proofs.Growing.{same_sum}
 use Rattle.log_rule.proofs.Known.{among_total, found, is_among}
@@ -37,13 +36,15 @@ use Rattle.log_rule.proofs.Sums.{all_parted, covered, covering, sum_less}
 use Rattle.log_memory.specs.declared.view.LogView.{LogView}
 use Rattle.log_memory.specs.declared.view.Site.{Site}
 use Rattle.log_memory.specs.Places.{head_place, slot_of}
-use Rattle.log_memory.specs.Rule.{Board, IsBeyond, IsEdgeOf, IsFree, IsHeld, IsHome, IsOut, IsPart, IsPartOf, IsThereAny, IsWithReader, KnowsRoom, Lies, LogMemoryRuled, Rounds, passes_of, ring, shape, stream_state, tail_in, term, view_in}
+use Rattle.log_memory.specs.Rule.{Board, IsBeyond, IsHome, IsPart, KnowsRoom, Lies, LogMemoryRuled, Rounds, passes_of, ring, shape, stream_state, tail_in, term, view_in}
 use Rattle.log_memory.specs.Steps.{Committed, IsIdle, IsPartAt, IsQuiet, MayCommit, Mine}
-use Rattle.log_memory.proofs.Facts.{apart, bounds, end_low, in_row_of, one, pass_at, some_ring, tail_near, unit, whole, width}
+use Rattle.log_memory.proofs.Facts.{apart, bounds, end_low, in_row_of, long as long_frame, pass_at, some_ring, tail_near, unit, whole, width}
 use Rattle.log_memory.proofs.Lifting.{passes_set, there_low, with_reader_on}
 use Rattle.log_memory.proofs.Places.{head_apart, in_range, one_unit, place_is, row_apart}
-use Rattle.log_memory.proofs.Rows.{Full, GivesRow, gives_row}
-use Rattle.log_memory.proofs.Storing.{Became, Stored, stored}
+use Rattle.log_memory.proofs.Rows.{GivesRow, gives_row}
+use Rattle.log_memory.proofs.Storing.{Stored, stored}
+use Rattle.log_rule.specs.Claims.Memory.{Ruled}
+use Rattle.log_rule.specs.Numbers.{AreNumbered}
 
 -- a seat's count of steps says nothing of the stream
 pub restep : (key : Key) (words : List ℕ) (views : List View) (id n : ℕ) (w : View) → id < length views → LogRuled key (record { words = words; homes = []; views = set views id w }) → LogRuled key (record { words = words; homes = []; views = set views id (record w { steps = n }) })
@@ -51,15 +52,15 @@ restep key words views id n w low q =
     let w' : View = record w { steps = n } in let same : map pass_in (set views id w') ≡ map pass_in (set views id w) = map-set pass_in views id w' ∙ sym (map-set pass_in views id w) in record {
       cleaned = q.cleaned;
       there = q.there;
-      ruled = subst (Rattle.log_rule.specs.Claims.Memory.Ruled (Rattle.log_rule.specs.Table.now_at key (slice_index words 0) q.cleaned) words) (sym same) q.ruled;
-      kept = subst (Rattle.log_rule.specs.Kept.Kept (Rattle.log_rule.specs.Table.now_at key (slice_index words 0) q.cleaned) q.there words) (sym same) q.kept;
+      ruled = subst (Ruled (now_at key (slice_index words 0) q.cleaned) words) (sym same) q.ruled;
+      kept = subst (Kept (now_at key (slice_index words 0) q.cleaned) q.there words) (sym same) q.kept;
       sure = record {
         each = λ j x e. ⊎_elim
             (λ a. subst (IsSure words) a.1 (let y = q.sure.each id w (set_here views id w low) in record { whole = y.whole; exact = y.exact }))
             (λ a. q.sure.each j x (set_else views id j w a.0 ∙ a.1))
             (at_set views id j w' x e);
       };
-      numbered = subst Rattle.log_rule.specs.Numbers.AreNumbered (sym same) q.numbered;
+      numbered = subst AreNumbered (sym same) q.numbered;
     }
 
 -- the round of the frame at a position is another
@@ -163,7 +164,7 @@ module _ (t : Site) (s : Board) (r : LogMemoryRuled t s) (id p : ℕ) (ws : List
   not_there : (f : FrameWords) → IsAmong (passes_of s.views) f → f.start ≢ p
   not_there f among e =
       let a = among (λ g. covering p (extent_of g)) in let c = opened (covering p) in let two = parted (covering p) in let once = covered (bounds t r.stream s.views r.ruled) r.stream (passes_of s.views) r.ruled.ruled.claims p in
-      clash f.start (length f.words) p (length (blank p may.cut).words) (committed_sum (covering p) (passes_of s.views)) (open_sum (covering p) (passes_of s.views)) (claimed_sum (covering p) (passes_of s.views)) (min (p + 1 - t.key.start) (tail_in t.key (passes_of s.views) - p)) e (Rattle.log_memory.proofs.Facts.long t r.stream s.views r.ruled f among) some_words a c two once
+      clash f.start (length f.words) p (length (blank p may.cut).words) (committed_sum (covering p) (passes_of s.views)) (open_sum (covering p) (passes_of s.views)) (claimed_sum (covering p) (passes_of s.views)) (min (p + 1 - t.key.start) (tail_in t.key (passes_of s.views) - p)) e (long_frame t r.stream s.views r.ruled f among) some_words a c two once
     where
       clash : (fs l p d cs os ts y : ℕ) → fs ≡ p → 0 < l → 0 < d → covers p fs (8 * l) ≤ cs → covers p p (8 * d) ≤ os → ts ≡ cs + os → ts ≡ min 1 y → ⊥
       clash fs l p d cs os ts y e some' some'' a c two once = omega arith
@@ -225,7 +226,7 @@ module _ (t : Site) (s : Board) (r : LogMemoryRuled t s) (id p : ℕ) (ws : List
   -- another frame lies as it did
   lies_on : (f : FrameWords) → IsAmong (passes_of s.views) f → r.freed ≤ f.start → Lies t s r.rounds f → Lies t after rounds f
   lies_on f among from l =
-      let ne = not_there f among in let e : rounds f.start ≡ r.rounds f.start = rounds_else p (may.round, may.book) r.rounds f.start ne in let near' = tail_near t s r in let end = end_low t r.stream s.views r.ruled f among in let n = Rattle.log_memory.proofs.Facts.long t r.stream s.views r.ruled f among in
+      let ne = not_there f among in let e : rounds f.start ≡ r.rounds f.start = rounds_else p (may.round, may.book) r.rounds f.start ne in let near' = tail_near t s r in let end = end_low t r.stream s.views r.ruled f among in let n = long_frame t r.stream s.views r.ruled f among in
       let side : (end_of f ≤ p) ⊎ (p + 8 * length ws ≤ f.start) = dite (dec_le f.start p)
       (λ le. inl (apart t made.after (set s.views id seat) q f f0 (still f among) is_new (omega arith)))
       (λ gt. inr (apart t made.after (set s.views id seat) q f0 f is_new (still f among) (lt_of_not-le gt))) in
@@ -279,7 +280,7 @@ module _ (t : Site) (s : Board) (r : LogMemoryRuled t s) (id p : ℕ) (ws : List
       small = made.became.small r.words.small;
       controls = λ i lt. get_or-set_other s.words (head_place (ring t) p) i (slice_index ws 0) 0 (λ e. (let x : ℕ = p / 32 % ring t in omega arith)) ∙ r.words.controls i lt ∙ sym (made.became.controls i lt);
       heads = λ f among from. ⊎_elim
-          (λ old. (let end = end_low t r.stream s.views r.ruled f old in let n = Rattle.log_memory.proofs.Facts.long t r.stream s.views r.ruled f old in let near' = tail_near t s r in head_else f.start (unit t r.stream s.views r.ruled f old) from (omega arith) (not_there f old) ∙ r.words.heads f old from))
+          (λ old. (let end = end_low t r.stream s.views r.ruled f old in let n = long_frame t r.stream s.views r.ruled f old in let near' = tail_near t s r in head_else f.start (unit t r.stream s.views r.ruled f old) from (omega arith) (not_there f old) ∙ r.words.heads f old from))
           (λ new. subst (λ (y : FrameWords). slice_index words (head_place (ring t) y.start) ≡ slice_index y.words 0) (sym new) (get_or-set_same s.words (head_place (ring t) p) (slice_index ws 0) 0 head_low))
           (which f among);
       rest = λ x ux from to none'. head_else x ux from to (λ e. none' f0 is_new (sym e)) ∙ r.words.rest x ux from to (λ f among. none' f (still f among));

@@ -1,12 +1,10 @@
 -- Seats that are dealt and joined keep the rule, where none of them has a part of a frame.
-use Rattle.std.proofs.Common.{◌≡◌, ◌≢◌, ℕ, zero, suc, ◌+◌, ◌<◌, ◌≤◌, ◌⊎◌, inl, inr, ⊎_elim, List, [], ◌∷◌, ◌++◌, length, map, set, sym, refl, ap, ◌∙◌, subst, arith}
-use mathlib.Core.Option.{some, some-injective, some-ne-none}
-use mathlib.Core.Logic.{dite}
-use native.Mathlib.Decide.{ℕ_discrete}
+use Rattle.std.proofs.Common.{◌≡◌, ℕ, ◌+◌, ◌<◌, ◌⊎◌, inr, ⊎_elim, List, [], ◌∷◌, ◌++◌, map, set, sym, refl, ap, ◌∙◌, subst, arith}
+use mathlib.Core.Option.{some, some-injective}
 use lib.ListN.{get_elem?}
 use Rattle.std.specs.Prelude.{slice_index}
 use Rattle.std.proofs.lemmas.List.{map-append, map-set}
-use Rattle.atomic_table.specs.Table.{Joins, Splits, State}
+use Rattle.atomic_table.specs.Table.{Joins, Splits}
 use Rattle.atomic_table.proofs.Lists.{at_longer, at_map, at_set, at_snoc, set_else}
 use Rattle.theory.specs.Entry.{Entry, length_of}
 use Rattle.theory.specs.Placed.{Among}
@@ -31,7 +29,7 @@ use Rattle.log_memory.specs.Seats.{dealt_with, joining, spent_with, viewing}
 use Rattle.log_memory.specs.Steps.{IsIdle, SawBehind, StandsBehind}
 use Rattle.log_memory.proofs.Facts.{pass_at}
 use Rattle.log_memory.proofs.Lifting.{beyond_more, passes_set}
-use Rattle.log_memory.proofs.Resting.{IsStill, Leaves, rests}
+use Rattle.log_memory.proofs.Resting.{IsStill, rests}
 
 -- a seat's consumers, and what it knows as the keeper, come from a seat before
 pub record ComesFrom (v w : View) : Type 0 where

@@ -1,20 +1,17 @@
 -- What the rule says of committed frames and of room.
-use Rattle.std.proofs.Common.{◌≡◌, ◌≢◌, ℕ, suc, ◌+◌, ◌-◌, ◌*◌, ◌/◌, ◌%◌, ◌<◌, ◌≤◌, ◌⊎◌, inl, inr, ⊎_elim, min, List, [], ◌∷◌, map, length, sym, refl, ap, ◌∙◌, subst, lt_of_not-le, arith}
+use Rattle.std.proofs.Common.{◌≡◌, ℕ, ◌+◌, ◌-◌, ◌*◌, ◌/◌, ◌%◌, ◌<◌, ◌≤◌, min, List, map, length, sym, refl, subst, lt_of_not-le, arith}
 use mathlib.Core.Option.{some}
 use mathlib.Core.Logic.{dite}
-use native.Mathlib.Decide.{dec_le, ℕ_discrete}
+use native.Mathlib.Decide.{dec_le}
 use lib.ListN.{get_elem?}
 use Rattle.std.specs.Prelude.{slice_index}
-use Rattle.atomic_table.specs.Table.{State}
 use Rattle.atomic_table.proofs.Lists.{at_map}
 use Rattle.theory.specs.Position.{IsGeometry, aligned}
 use Rattle.theory.specs.Placed.{Among, Data, Frame, Pad, frame_length}
 use Rattle.position.specs.Heads.{head_of}
 use Rattle.theory.proofs.Places.{power_unit}
 use Rattle.publication.specs.declared.pass.FrameWords.{FrameWords}
-use Rattle.publication.specs.declared.pass.Pass.{Pass}
 use Rattle.publication.specs.Steps.{Extent, extent_of}
-use Rattle.log_rule.specs.declared.claims.view.View.{View}
 use Rattle.log_rule.specs.Claims.Packs.{limit_place}
 use Rattle.log_rule.specs.Claims.Plays.{pass_in}
 use Rattle.log_rule.specs.Claims.Rule.{Bounds}
@@ -30,7 +27,6 @@ use Rattle.log_rule.proofs.Known.{done_of, is_among, one_frame}
 use Rattle.log_rule.proofs.Sums.{covered, covering, sum_both, sum_up}
 use Rattle.log_memory.specs.declared.view.LogView.{LogView}
 use Rattle.log_memory.specs.declared.view.Site.{Site}
-use Rattle.log_memory.specs.Places.{slot_of, units}
 use Rattle.log_memory.specs.Rule.{Board, LogMemoryRuled, passes_of, ring, stream_state, tail_in, term, view_in}
 use Rattle.log_memory.proofs.Places.{in_ring, some_units, units_are}
 

@@ -1,26 +1,23 @@
 -- The keeper takes the memory of a frame back that nobody needs, and gives it as room.
-use Rattle.std.proofs.Common.{◌≡◌, ◌≢◌, ℕ, zero, suc, ◌+◌, ◌-◌, ◌*◌, ◌/◌, ◌%◌, ◌^◌, ◌<◌, ◌≤◌, ◌⊎◌, inl, inr, ⊎_elim, max, min, List, [], ◌∷◌, length, map, set, length-set, get_or-set_same, get_or-set_other, sym, refl, ap, ◌∙◌, subst, lt_of_not-le, arith}
-use Rattle.std.proofs.Math.Nat.{add-mod_right}
-use mathlib.Core.Option.{Option, some, some-injective, some-ne-none}
+use Rattle.std.proofs.Common.{◌≡◌, ◌≢◌, ℕ, suc, ◌+◌, ◌-◌, ◌*◌, ◌/◌, ◌%◌, ◌<◌, ◌≤◌, inl, inr, ⊎_elim, max, min, List, [], ◌∷◌, length, set, sym, refl, ap, ◌∙◌, subst, lt_of_not-le, arith}
+use mathlib.Core.Option.{Option, some, some-injective}
 use mathlib.Core.Logic.{dite}
 use native.Mathlib.Decide.{dec_le, ℕ_discrete}
 use lib.ListN.{get_elem?}
 use Rattle.std.specs.Prelude.{slice_index}
 use Rattle.std.proofs.lemmas.List.{set-get_or}
-use Rattle.atomic_table.specs.Table.{Allows, carried_after, homes_after}
-use Rattle.atomic_table.proofs.Lists.{at_set}
+use Rattle.atomic_table.specs.Table.{Allows, homes_after}
+use Rattle.atomic_table.proofs.Lists.{at_set, set_else, set_here}
 use Rattle.theory.specs.Bytes.{Identity}
 use Rattle.theory.specs.Placed.{Among}
 use Rattle.theory.specs.Position.{greatest_claim}
 use Rattle.theory.specs.Refusal.{limit_in}
 use Rattle.theory.proofs.Lists.{all_at}
 use Rattle.publication.specs.declared.pass.FrameWords.{FrameWords}
-use Rattle.publication.specs.declared.pass.Keeping.{Keeping}
 use Rattle.publication.specs.declared.pass.Pass.{Pass}
 use Rattle.publication.specs.declared.pass.Reading.{Reading}
 use Rattle.publication.specs.Steps.{Extent, extent_of, term_of}
 use Rattle.region.specs.declared.access.Access.{Access}
-use Rattle.log_rule.specs.declared.claims.view.View.{View}
 use Rattle.log_rule.specs.Claims.Packs.{consumer_place}
 use Rattle.log_rule.specs.Claims.Sums.{covers, total}
 use Rattle.log_rule.specs.Claims.Events.{committed_weight}
@@ -35,17 +32,16 @@ use Rattle.log_rule.proofs.Keeping.{least_low}
 use Rattle.log_rule.proofs.Known.{is_among, among_at}
 use Rattle.log_rule.proofs.Sums.{all_parted, covered, covering, has_some, sum_up, total_up}
 use Rattle.log_memory.specs.declared.view.LogView.{LogView}
-use Rattle.log_memory.specs.declared.view.Room.{Room}
 use Rattle.log_memory.specs.declared.view.Site.{Site}
 use Rattle.log_memory.specs.Places.{head_place, slot_of}
-use Rattle.log_memory.specs.Rule.{Board, HasPart, IsBeyond, IsEdgeOf, IsFree, IsHeld, IsHome, IsOut, IsPart, IsPartOf, IsRoom, IsThereAny, IsWithReader, KnowsRoom, Lies, LogMemoryRuled, passes_of, ring, shape, stream_state, tail_in, term}
-use Rattle.log_memory.specs.Steps.{CarriesRange, GivesRoom, IsPartAt, IsRoomAt, MayGiveRoom, MayTakeBack, Mine, TakesBack}
+use Rattle.log_memory.specs.Rule.{Board, IsBeyond, IsEdgeOf, IsHeld, IsHome, IsPartOf, IsWithReader, KnowsRoom, Lies, LogMemoryRuled, passes_of, ring, shape, tail_in, term}
+use Rattle.log_memory.specs.Steps.{IsPartAt, MayTakeBack, Mine, TakesBack}
 use Rattle.log_memory.proofs.Committing.{quiet_step, stepped}
-use Rattle.log_memory.proofs.Facts.{apart, bounds, done, end_low, in_row_of, in_term, long, pass_at, some_ring, start_low, tail_near, unit, whole, width}
-use Rattle.log_memory.proofs.Lifting.{quiet_look}
-use Rattle.log_memory.proofs.Places.{RowUnit, head_apart, in_range, one_unit, place_is, row_apart, row_unit, slots_apart}
-use Rattle.log_memory.proofs.Resting.{SameFrames, beyond_on, held_on, same_frames}
-use Rattle.log_memory.proofs.Rows.{Full, GivesRow, TakesRow, gives_row, takes_row}
+use Rattle.log_memory.proofs.Facts.{apart, bounds, done, end_low, in_row_of, in_term, long, pass_at, some_ring, tail_near, unit, whole, width}
+use Rattle.log_memory.proofs.Lifting.{quiet_look, there_low}
+use Rattle.log_memory.proofs.Places.{row_apart, row_unit}
+use Rattle.log_memory.proofs.Resting.{SameFrames, beyond_on, edge_on, held_on, passed_on, same_frames, tail_on}
+use Rattle.log_memory.proofs.Rows.{Full, TakesRow, takes_row}
 
 among_place : (r : Reading) (rs : List Reading) → Among r rs → (k : ℕ) × (get_elem? rs k ≡ some r)
 among_place r [] a = absurd a
@@ -56,17 +52,17 @@ among_place r (x ∷ xs) (inr a) = let k = among_place r xs a in (suc k.0, k.1)
 
 module _ (s : Board) (id : ℕ) (v w : LogView) (at : get_elem? s.views id ≡ some v) (part : w.part ≡ v.part) where
   low : id < length s.views
-  low = Rattle.log_memory.proofs.Lifting.there_low s.views id v at
+  low = there_low s.views id v at
 
   pub reader_on : (words : List ℕ) (homes : List (Option Access)) (p j : ℕ) → IsWithReader s p j → IsWithReader (record { words = words; homes = homes; views = set s.views id w }) p j
   reader_on words homes p j b = dite (ℕ_discrete b.seat id)
       (λ e. let same : v ≡ b.view = some-injective v b.view (sym at ∙ ap (get_elem? s.views) (sym e) ∙ b.there) in let z = part ∙ ap (λ (x : LogView). x.part) same in record {
         seat = id;
         view = w;
-        there = Rattle.atomic_table.proofs.Lists.set_here s.views id w low;
+        there = set_here s.views id w low;
         part = record { has = ap (λ x. x.has) z ∙ b.part.has; number = ap (λ x. x.number) z ∙ b.part.number; at = ap (λ x. x.at) z ∙ b.part.at };
       })
-      (λ ne. record { seat = b.seat; view = b.view; there = Rattle.atomic_table.proofs.Lists.set_else s.views id b.seat w ne ∙ b.there; part = b.part })
+      (λ ne. record { seat = b.seat; view = b.view; there = set_else s.views id b.seat w ne ∙ b.there; part = b.part })
 
 -- ---- what the keeper knows
 
@@ -290,10 +286,10 @@ module _ (t : Site) (s : Board) (r : LogMemoryRuled t s) (id : ℕ) (v : LogView
             memory = record {
               shelves = (takes before).long ∙ r.memory.shelves;
               unit = r.memory.unit;
-              edge = Rattle.log_memory.proofs.Resting.edge_on t ps ps' look (r.freed + size) (subst (λ (x : ℕ). IsEdgeOf t.key ps (x + size)) h edge);
-              passed = Rattle.log_memory.proofs.Resting.passed_on t ps ps' look (r.freed + size) (subst (λ (x : ℕ). AreCommitted ps (x + size)) h passed);
+              edge = edge_on t ps ps' look (r.freed + size) (subst (λ (x : ℕ). IsEdgeOf t.key ps (x + size)) h edge);
+              passed = passed_on t ps ps' look (r.freed + size) (subst (λ (x : ℕ). AreCommitted ps (x + size)) h passed);
               ahead = subst (λ (l : List ℕ). limit_in (slice_index l 0) + greatest_claim (shape t) * 8 < r.freed + 3 * term t) (sym same) r.memory.ahead;
-              free = λ x ux from to. (let e = Rattle.log_memory.proofs.Resting.tail_on t ps ps' look in let a = end_f in let g = r.memory.free x ux (omega arith) to in record {
+              free = λ x ux from to. (let e = tail_on t ps ps' look in let a = end_f in let g = r.memory.free x ux (omega arith) to in record {
                 room = home_on x 0 _ ux (omega arith) to (omega arith) (omega arith) g.room;
                 others = λ j lt. home_on x j _ ux (omega arith) to (omega arith) lt (g.others j lt);
               });

@@ -1,5 +1,5 @@
 -- What the keeper took back becomes room, where it stores zero over the frame's word.
-use Rattle.std.proofs.Common.{◌≡◌, ◌≢◌, ℕ, zero, suc, ◌+◌, ◌-◌, ◌*◌, ◌/◌, ◌%◌, ◌^◌, ◌<◌, ◌≤◌, ◌⊎◌, inl, inr, ⊎_elim, List, [], ◌∷◌, length, map, set, length-set, get_or-set_same, get_or-set_other, sym, refl, ap, ◌∙◌, subst, lt_of_not-le, arith}
+use Rattle.std.proofs.Common.{◌≡◌, ℕ, suc, ◌+◌, ◌-◌, ◌*◌, ◌/◌, ◌%◌, ◌<◌, ◌≤◌, inl, inr, ⊎_elim, List, length, set, length-set, get_or-set_same, get_or-set_other, sym, refl, ap, ◌∙◌, subst, lt_of_not-le, arith}
 use Rattle.std.proofs.Math.Nat.{add-mod_right}
 use mathlib.Core.Option.{some}
 use mathlib.Core.Logic.{dite}
@@ -12,11 +12,8 @@ use Rattle.theory.specs.Placed.{Among}
 use Rattle.theory.specs.Position.{greatest_claim}
 use Rattle.theory.specs.Refusal.{limit_in}
 use Rattle.publication.specs.declared.pass.FrameWords.{FrameWords}
-use Rattle.publication.specs.declared.pass.Pass.{Pass}
-use Rattle.publication.specs.declared.pass.Reading.{Reading}
 use Rattle.region.specs.declared.access.Access.{Access}
 use Rattle.log_rule.specs.Edges.{AreCommitted, IsAmong}
-use Rattle.log_rule.specs.Readings.{end_of}
 use Rattle.log_memory.specs.declared.view.LogView.{LogView}
 use Rattle.log_memory.specs.declared.view.Site.{Site}
 use Rattle.log_memory.specs.Places.{head_place, slot_of}

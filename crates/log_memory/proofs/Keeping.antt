@@ -1,29 +1,23 @@
 -- The keeper's other steps move no memory.
-use Rattle.std.proofs.Common.{◌≡◌, ◌≢◌, ℕ, zero, suc, ◌+◌, ◌-◌, ◌*◌, ◌<◌, ◌≤◌, ◌⊎◌, inl, inr, ⊎_elim, List, [], ◌∷◌, ◌++◌, length, set, get_or-set_same, get_or-set_other, sym, refl, ap, ◌∙◌, subst, lt_of_not-le, arith}
-use mathlib.Core.Option.{some}
+use Rattle.std.proofs.Common.{◌≡◌, ℕ, zero, suc, ◌<◌, ◌≤◌, ◌⊎◌, inl, inr, ⊎_elim, List, [], ◌∷◌, length, set, get_or-set_same, get_or-set_other, sym, ap, ◌∙◌, subst, lt_of_not-le, arith}
 use mathlib.Core.Logic.{dite}
 use native.Mathlib.Decide.{dec_le, ℕ_discrete}
-use lib.ListN.{get_elem?}
 use Rattle.std.specs.Prelude.{drop, slice_index, take}
 use Rattle.atomic_table.specs.Table.{Allows}
 use Rattle.theory.specs.Placed.{Among}
-use Rattle.theory.specs.Position.{greatest_claim}
 use Rattle.theory.specs.Refusal.{limit_in}
 use Rattle.theory.proofs.Lists.{among_cases}
 use Rattle.publication.specs.declared.pass.Pass.{Pass}
 use Rattle.publication.specs.declared.pass.Reading.{Reading}
-use Rattle.publication.specs.Steps.{geometry_of, term_of}
 use Rattle.log_rule.specs.declared.claims.view.View.{View}
 use Rattle.log_rule.specs.Claims.Packs.{consumer_place, limit_place}
 use Rattle.log_rule.specs.Claims.Sure.{LearnsControls}
 use Rattle.log_rule.specs.Kept.{IsThere}
 use Rattle.log_rule.specs.Keepings.{Joins, LearnsLimit, Leaves, MayJoin, MayLeave, MayRaise, Raises, SeesConsumer, keeping, newly, sweeping}
-use Rattle.log_rule.proofs.Growing.{there_low}
 use Rattle.log_rule.proofs.Joining as joining
 use Rattle.log_rule.proofs.Keeping as keepings
-use Rattle.log_memory.specs.declared.view.LogView.{LogView}
 use Rattle.log_memory.specs.declared.view.Site.{Site}
-use Rattle.log_memory.specs.Rule.{Board, LogMemoryRuled}
+use Rattle.log_memory.specs.Rule.{LogMemoryRuled}
 use Rattle.log_memory.specs.Steps.{IsCalm, IsIdle, IsQuiet, Mine, Rests, SawBehind, as_view}
 use Rattle.log_memory.proofs.Facts.{pass_at}
 use Rattle.log_memory.proofs.Lifting.{lift}

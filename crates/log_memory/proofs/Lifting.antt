@@ -1,18 +1,17 @@
 -- Steps on control words that move no memory keep the rule.
-use Rattle.std.proofs.Common.{◌≡◌, ◌≢◌, ℕ, zero, suc, ◌+◌, ◌*◌, ◌^◌, ◌<◌, ◌≤◌, ◌⊎◌, inl, inr, ⊎_elim, List, [], ◌∷◌, length, map, set, length-set, get_or-set_same, get_or-set_other, sym, refl, ap, ◌∙◌, subst, arith}
+use Rattle.std.proofs.Common.{◌≡◌, ℕ, zero, suc, ◌+◌, ◌*◌, ◌^◌, ◌<◌, ◌≤◌, ◌⊎◌, inl, ⊎_elim, List, [], ◌∷◌, length, map, set, length-set, get_or-set_same, get_or-set_other, sym, refl, ap, ◌∙◌, subst, arith}
 use mathlib.Core.Option.{Option, some, some-injective, some-ne-none}
 use mathlib.Core.Logic.{dite}
 use native.Mathlib.Decide.{ℕ_discrete}
 use lib.ListN.{get_elem?}
 use Rattle.std.specs.Prelude.{slice_index}
 use Rattle.std.proofs.lemmas.List.{map-set}
-use Rattle.atomic_table.specs.Table.{Act, Allows, State, Valid, chain, carried_after, gives, homes_after, keeps, takes}
-use Rattle.atomic_table.proofs.Lists.{at_map, at_set, set_else, set_here}
+use Rattle.atomic_table.specs.Table.{Act, Allows, Valid, carried_after, chain, gives, homes_after, keeps, put_back, rest, takes}
+use Rattle.atomic_table.proofs.Lists.{at_map, at_set, set_else}
 use Rattle.theory.specs.Bytes.{Identity}
 use Rattle.theory.specs.Placed.{Among}
 use Rattle.theory.specs.Position.{greatest_claim}
 use Rattle.theory.specs.Refusal.{limit_in}
-use Rattle.publication.specs.declared.pass.FrameWords.{FrameWords}
 use Rattle.publication.specs.declared.pass.Keeping.{Keeping}
 use Rattle.publication.specs.declared.pass.Pass.{Pass}
 use Rattle.publication.specs.declared.pass.Reading.{Reading}
@@ -20,7 +19,6 @@ use Rattle.publication.specs.Steps.{term_of}
 use Rattle.log_rule.specs.declared.claims.view.View.{View}
 use Rattle.log_rule.specs.Claims.Admits.{Same}
 use Rattle.log_rule.specs.Claims.Events.{IsLook, committed_weight}
-use Rattle.log_rule.specs.Claims.Packs.{limit_place}
 use Rattle.log_rule.specs.Claims.Plays as plays
 use Rattle.log_rule.specs.Claims.Plays.{pass_in}
 use Rattle.log_rule.specs.Claims.Rule.{entry_of, weight}
@@ -30,9 +28,9 @@ use Rattle.log_rule.specs.Table.{LogRuled}
 use Rattle.log_rule.proofs.Growing.{same_sum}
 use Rattle.log_memory.specs.declared.view.LogView.{LogView}
 use Rattle.log_memory.specs.declared.view.Site.{Site}
-use Rattle.log_memory.specs.Rule.{AreSmall, Board, HasPart, IsBeyond, IsWithReader, KnowsRoom, LogMemoryRuled, passes_of, shape, stream_state, term, view_in}
-use Rattle.log_memory.specs.Steps.{IsCalm, IsIdle, IsQuiet, Mine, Rests, SawBehind, StandsBehind, as_view}
-use Rattle.log_memory.proofs.Facts.{pass_at, whole_term}
+use Rattle.log_memory.specs.Rule.{AreSmall, Board, IsBeyond, IsWithReader, KnowsRoom, LogMemoryRuled, passes_of, shape, stream_state, term, view_in}
+use Rattle.log_memory.specs.Steps.{IsCalm, IsIdle, IsQuiet, Mine, Rests, SawBehind, as_view}
+use Rattle.log_memory.proofs.Facts.{pass_at}
 use Rattle.log_memory.proofs.Resting.{IsStill, Leaves, rests, still}
 
 -- ---- without slots there is no act
@@ -40,7 +38,7 @@ use Rattle.log_memory.proofs.Resting.{IsStill, Leaves, rests, still}
 pub no_act : {S : Type 0} (hs : List (Option S)) (c : List (ℕ × S)) (a : Act S) → hs ≡ [] → c ≡ [] → Valid hs c a → (carried_after c a ≡ []) × (homes_after hs c a ≡ [])
 no_act {S} hs c keeps eh ec v = (ec, eh)
 no_act {S} hs c (takes k y) eh ec v = absurd (some-ne-none (some y) (sym (subst (λ (l : List (Option S)). get_elem? l k ≡ some (some y)) eh v)))
-no_act {S} hs c gives eh ec v = (ap Rattle.atomic_table.specs.Table.rest ec, ap (Rattle.atomic_table.specs.Table.put_back hs) ec ∙ eh)
+no_act {S} hs c gives eh ec v = (ap rest ec, ap (put_back hs) ec ∙ eh)
 no_act {S} hs c (chain a b) eh ec v = let one = no_act hs c a eh ec v.0 in no_act (homes_after hs c a) (carried_after c a) b one.1 one.0 v.1
 
 -- ---- one seat's view changes

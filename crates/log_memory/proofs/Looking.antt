@@ -1,13 +1,12 @@
 -- The loads of a reader, and the store of its position.
-use Rattle.std.proofs.Common.{◌≡◌, ◌≢◌, ℕ, zero, suc, ◌+◌, ◌-◌, ◌*◌, ◌/◌, ◌%◌, ◌^◌, ◌<◌, ◌≤◌, ◌⊎◌, inl, inr, ⊎_elim, List, [], ◌∷◌, ◌++◌, length, map, set, length-set, sym, refl, ap, ◌∙◌, subst, lt_of_not-le, arith}
-use mathlib.Core.Option.{Option, some, none, some-injective, some-ne-none}
+use Rattle.std.proofs.Common.{◌≡◌, ℕ, zero, suc, ◌+◌, ◌*◌, ◌^◌, ◌<◌, ◌≤◌, ◌⊎◌, inl, inr, ⊎_elim, List, [], ◌∷◌, ◌++◌, length, map, set, sym, refl, ap, ◌∙◌, subst, lt_of_not-le, arith}
+use mathlib.Core.Option.{some, some-injective}
 use mathlib.Core.Logic.{dite}
-use native.Mathlib.Decide.{dec_le, ℕ_discrete}
+use native.Mathlib.Decide.{dec_le}
 use lib.ListN.{get_elem?}
 use Rattle.std.specs.Prelude.{slice_index}
-use Rattle.std.specs.List.{AllByRecursion}
 use Rattle.std.proofs.lemmas.List.{map-set, set-get_or}
-use Rattle.atomic_table.specs.Table.{Allows, State, gives, keeps, put_back, rest, takes}
+use Rattle.atomic_table.specs.Table.{Allows, gives, keeps, put_back, rest, takes}
 use Rattle.atomic_table.proofs.Lists.{at_map, set_here}
 use Rattle.theory.specs.Placed.{Among}
 use Rattle.theory.proofs.Lists.{all_at, all_behind}
@@ -16,9 +15,7 @@ use Rattle.publication.specs.declared.pass.Pass.{Pass}
 use Rattle.publication.specs.declared.pass.Reading.{Reading}
 use Rattle.region.specs.declared.access.Access.{Access}
 use Rattle.log_rule.specs.declared.claims.view.View.{View}
-use Rattle.log_rule.specs.Claims.Packs.{consumer_place, limit_place, slot}
-use Rattle.log_rule.specs.Claims.Plays as plays
-use Rattle.log_rule.specs.Claims.Plays.{pass_in}
+use Rattle.log_rule.specs.Claims.Packs.{consumer_place, slot}
 use Rattle.log_rule.specs.Edges.{IsAmong, IsPlaced}
 use Rattle.log_rule.specs.Kept.{IsReader, IsThere}
 use Rattle.log_rule.specs.Readings as readings
@@ -29,13 +26,16 @@ use Rattle.log_rule.proofs.Known.{among_at, finds, word_there}
 use Rattle.log_memory.specs.declared.view.LogView.{LogView}
 use Rattle.log_memory.specs.declared.view.Site.{Site}
 use Rattle.log_memory.specs.Places.{head_place, slot_of}
-use Rattle.log_memory.specs.Rule.{Board, LogMemoryRuled, passes_of, ring, stream_state, tail_in, term, view_in}
+use Rattle.log_memory.specs.Rule.{Board, LogMemoryRuled, passes_of, ring, shape, stream_state, tail_in, term, view_in}
 use Rattle.log_memory.specs.Steps.{Gives, IsIdle, IsQuiet, Looks, MayGive, MayReread, Mine, Rereads, Rests, TakesPart, as_view}
 use Rattle.log_memory.proofs.Committing.{quiet_step, stepped}
 use Rattle.log_memory.proofs.Facts.{bounds, done, long, mine, pass_at, tail_near}
 use Rattle.log_memory.proofs.Lifting.{leaves, lift, no_act, quiet_look, there_low}
 use Rattle.log_memory.proofs.Reading.{given, home, seat, taken, takes_it}
 use Rattle.log_memory.proofs.Resting.{rests, same_frames}
+use Rattle.log_rule.proofs.Edges.{edge_low}
+use Rattle.theory.specs.Position.{greatest_claim}
+use Rattle.theory.specs.Refusal.{limit_in}
 
 among_put : {A : Type 0} (xs : List A) (i : ℕ) (x y : A) → Among y (set xs i x) → (y ≡ x) ⊎ Among y xs
 among_put [] i x y a = inr a
@@ -91,7 +91,7 @@ module _ (t : Site) (id place : ℕ) (r : Reading) (m : Mine) (is : IsConsumer m
       clash n w z e pos = omega arith
 
       consumers_low : r.position ≤ tail_in t.key (passes_of s.views)
-      consumers_low = Rattle.log_rule.proofs.Edges.edge_low (bounds t k.stream s.views k.ruled) k.stream (passes_of s.views) k.ruled.ruled r.position placed.edge
+      consumers_low = edge_low (bounds t k.stream s.views k.ruled) k.stream (passes_of s.views) k.ruled.ruled r.position placed.edge
 
   ruled_on : (i : ℕ) (w : View) (homes : _) → LogRuled t.key (record { words = set k.stream i (slice_index k.stream i); homes = homes; views = set (map view_in s.views) id w }) → (x : LogView) → x.view ≡ w → LogRuled t.key (stream_state k.stream (set s.views id x))
   ruled_on i w homes q x e = subst (λ (y : List ℕ × List View). LogRuled t.key (record { words = y.0; homes = []; views = y.1 })) (λ j. (set-get_or k.stream i 0 j, (ap (set (map view_in s.views) id) (sym e) ∙ sym (map-set view_in s.views id x)) j)) record { cleaned = q.cleaned; there = q.there; ruled = q.ruled; kept = q.kept; sure = q.sure; numbered = q.numbered }
@@ -136,7 +136,7 @@ look t id place r m is low idle slots s k homes at small =
       rests t s k (set s.words h (slice_index s.words h)) k.stream (set s.views id (record v { view = w }))
           (leaves t s k id v (record v { view = w }) at refl quiet idle refl (set s.words h (slice_index s.words h)) k.stream (ruled_on t id place r m is low s k at i w _ g.3 (record v { view = w }) refl) k.words.small (ap length same)
           (λ j lt. ap (λ (l : List ℕ). slice_index l j) same ∙ k.words.controls j lt) (λ j lt. ap (λ (l : List ℕ). slice_index l j) same)
-          (subst (λ (l : List ℕ). Rattle.theory.specs.Refusal.limit_in (slice_index l 0) + Rattle.theory.specs.Position.greatest_claim (Rattle.log_memory.specs.Rule.shape t) * 8 < k.freed + 3 * term t) (sym same) k.memory.ahead)),
+          (subst (λ (l : List ℕ). limit_in (slice_index l 0) + greatest_claim (shape t) * 8 < k.freed + 3 * term t) (sym same) k.memory.ahead)),
       record { room = refl; told = told'; none = λ _. (refl, refl); found = λ pos. absurd (clash' n (slice_index s.words h) zero' e pos) },
     ))
   where

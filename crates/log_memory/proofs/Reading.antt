@@ -1,22 +1,18 @@
 -- A reader takes its part of a frame where it finds one, and gives it back.
-use Rattle.std.proofs.Common.{◌≡◌, ◌≢◌, ℕ, zero, suc, ◌+◌, ◌-◌, ◌*◌, ◌/◌, ◌%◌, ◌^◌, ◌<◌, ◌≤◌, ◌⊎◌, inl, inr, ⊎_elim, cond, Bool, List, [], ◌∷◌, length, map, set, length-set, eq-eqb, sym, refl, ap, ◌∙◌, subst, lt_of_not-le, arith}
-use mathlib.Core.Option.{Option, some, none, some-injective, some-ne-none}
+use Rattle.std.proofs.Common.{◌≡◌, ◌≢◌, ℕ, suc, ◌+◌, ◌*◌, ◌%◌, ◌<◌, ◌≤◌, inl, inr, ⊎_elim, cond, Bool, List, ◌∷◌, length, set, eq-eqb, sym, refl, ap, ◌∙◌, subst, arith}
+use mathlib.Core.Option.{Option, some, none, some-injective}
 use mathlib.Core.Logic.{dite}
-use native.Mathlib.Decide.{dec_le, ℕ_discrete}
+use native.Mathlib.Decide.{ℕ_discrete}
 use lib.ListN.{get_elem?}
 use Rattle.std.specs.Prelude.{slice_index}
-use Rattle.std.proofs.lemmas.List.{map-set, set-get_or}
-use Rattle.atomic_table.specs.Table.{Allows, State, gives, keeps, takes}
-use Rattle.atomic_table.proofs.Lists.{at_map, at_set, set_again, set_else, set_here}
+use Rattle.atomic_table.proofs.Lists.{at_set, set_else, set_here}
 use Rattle.theory.specs.Placed.{Among}
 use Rattle.theory.specs.Position.{greatest_claim}
 use Rattle.theory.specs.Refusal.{limit_in}
 use Rattle.publication.specs.declared.pass.FrameWords.{FrameWords}
-use Rattle.publication.specs.declared.pass.Pass.{Pass}
 use Rattle.publication.specs.declared.pass.Reading.{Reading}
 use Rattle.region.specs.declared.access.Access.{Access}
 use Rattle.log_rule.specs.declared.claims.view.View.{View}
-use Rattle.log_rule.specs.Claims.Packs.{slot}
 use Rattle.log_rule.specs.Claims.Sums.{total}
 use Rattle.log_rule.specs.Edges.{IsAmong}
 use Rattle.log_rule.specs.Kept.{readers_of, reads_as}
@@ -27,14 +23,14 @@ use Rattle.log_rule.proofs.Known.{among_total}
 use Rattle.log_memory.specs.declared.view.LogView.{LogView}
 use Rattle.log_memory.specs.declared.view.Part.{Part}
 use Rattle.log_memory.specs.declared.view.Site.{Site}
-use Rattle.log_memory.specs.Places.{head_place, slot_of}
-use Rattle.log_memory.specs.Rule.{Board, HasPart, IsHeld, IsHome, IsPart, IsPartOf, IsWithReader, Lies, LogMemoryRuled, passes_of, ring, shape, stream_state, tail_in, term, view_in}
-use Rattle.log_memory.specs.Steps.{IsIdle, IsQuiet, Mine, TakesPart}
+use Rattle.log_memory.specs.Places.{slot_of}
+use Rattle.log_memory.specs.Rule.{Board, IsHeld, IsHome, IsPart, IsPartOf, IsWithReader, LogMemoryRuled, passes_of, ring, shape, stream_state, tail_in, term}
+use Rattle.log_memory.specs.Steps.{IsIdle, IsQuiet, TakesPart}
 use Rattle.log_memory.proofs.Committing.{quiet_step, stepped}
 use Rattle.log_memory.proofs.Facts.{apart, end_low, one, pass_at, some_ring, start_low, tail_near, unit, width}
 use Rattle.log_memory.proofs.Lifting.{all_readers, all_rooms, quiet_look, there_low, with_reader_on}
 use Rattle.log_memory.proofs.Places.{one_unit, slot_low, slots_apart}
-use Rattle.log_memory.proofs.Resting.{Moves, moves}
+use Rattle.log_memory.proofs.Resting.{moves}
 use Rattle.log_memory.proofs.Rows.{set_long}
 
 -- a consumer of a pass counts for its number

@@ -1,5 +1,5 @@
 -- A step that changes neither what is claimed nor what is committed, and moves no memory, keeps the rule.
-use Rattle.std.proofs.Common.{◌≡◌, ◌≢◌, ℕ, ◌+◌, ◌*◌, ◌/◌, ◌%◌, ◌<◌, ◌≤◌, ◌⊎◌, inl, inr, ⊎_elim, List, [], ◌∷◌, length, map, set, sym, refl, ap, ◌∙◌, subst, arith}
+use Rattle.std.proofs.Common.{◌≡◌, ℕ, ◌+◌, ◌*◌, ◌/◌, ◌%◌, ◌<◌, ◌≤◌, inl, inr, ⊎_elim, List, length, sym, refl, ap, ◌∙◌, subst, arith}
 use mathlib.Core.Option.{Option, some}
 use lib.ListN.{get_elem?}
 use Rattle.std.specs.Prelude.{slice_index}
@@ -19,8 +19,8 @@ use Rattle.log_rule.specs.Table.{LogRuled}
 use Rattle.region.specs.declared.access.Access.{Access}
 use Rattle.log_memory.specs.declared.view.LogView.{LogView}
 use Rattle.log_memory.specs.declared.view.Site.{Site}
-use Rattle.log_memory.specs.Places.{head_place, slot_of}
-use Rattle.log_memory.specs.Rule.{AreSmall, Board, IsBeyond, IsEdgeOf, IsFree, IsHeld, IsHome, IsOut, IsPartOf, IsThereAny, IsWithReader, KnowsRoom, Lies, LogMemoryRuled, MemoryRuled, Rounds, WordsRuled, passes_of, ring, shape, stream_state, tail_in, term}
+use Rattle.log_memory.specs.Places.{head_place}
+use Rattle.log_memory.specs.Rule.{AreSmall, Board, IsBeyond, IsEdgeOf, IsFree, IsHeld, IsHome, IsOut, IsWithReader, KnowsRoom, Lies, LogMemoryRuled, Rounds, passes_of, ring, shape, stream_state, tail_in, term}
 
 -- ---- the same frames are committed
 

@@ -1,8 +1,7 @@
 -- Each kind of seat that is dealt or joined.
-use Rattle.std.proofs.Common.{◌≡◌, ◌≢◌, ℕ, suc, ◌+◌, ◌-◌, ◌%◌, ◌<◌, ◌≤◌, ◌⊎◌, inl, inr, ⊎_elim, List, [], ◌∷◌, ◌++◌, map, sym, refl, ap, ◌∙◌, subst, arith}
+use Rattle.std.proofs.Common.{◌≡◌, ℕ, ◌+◌, ◌%◌, ◌<◌, ◌⊎◌, inl, inr, ⊎_elim, List, [], ◌∷◌, ◌++◌, map, sym, refl, ap, ◌∙◌, subst, arith}
 use Rattle.std.specs.Prelude.{slice_index}
 use Rattle.atomic_table.specs.Table.{Joins, Splits}
-use Rattle.theory.specs.Bytes.{Identity}
 use Rattle.theory.specs.Entry.{Entry, length_of}
 use Rattle.theory.specs.Placed.{Among}
 use Rattle.theory.proofs.Lists.{among_cases, among_left, among_right}
@@ -11,10 +10,8 @@ use Rattle.publication.specs.declared.pass.FrameWords.{FrameWords}
 use Rattle.publication.specs.declared.pass.Keeping.{Keeping}
 use Rattle.publication.specs.declared.pass.Pass.{Pass}
 use Rattle.publication.specs.declared.pass.Reading.{Reading}
-use Rattle.publication.specs.Steps.{Extent}
 use Rattle.log_rule.specs.declared.claims.view.View.{View}
-use Rattle.log_rule.specs.declared.rule.Key.{Key}
-use Rattle.log_rule.specs.Claims.Closing.{both_seats, handing_seats, numbered_seat, owned_by, renamed, spent_seat}
+use Rattle.log_rule.specs.Claims.Closing.{both_seats, handing_seats, numbered_seat, owned_by, spent_seat}
 use Rattle.log_rule.specs.Claims.Events.{committed_weight}
 use Rattle.log_rule.specs.Claims.Packs.{tail_place}
 use Rattle.log_rule.specs.Claims.Plays.{dealing_seat, dealt_seat, newcomer, no_keeping}
@@ -22,10 +19,10 @@ use Rattle.log_rule.specs.Claims.Rule.{entries_of, entry_of, weight}
 use Rattle.log_rule.specs.Claims.Sums.{total}
 use Rattle.log_rule.specs.Edges.{in_entry}
 use Rattle.log_rule.specs.Kept.{IsThere}
-use Rattle.log_rule.specs.Meetings.{ShowsTail, Steadies, Steady, back_left, back_right, meeting, meeting_seats, showing, was_shown}
+use Rattle.log_rule.specs.Meetings.{Steadies, Steady, back_left, back_right, meeting, meeting_seats, showing, was_shown}
 use Rattle.log_rule.specs.Readings.{reading}
 use Rattle.log_rule.specs.Shares.{Weighs}
-use Rattle.log_rule.specs.Table.{LogRuled, first_reading, keeper_left, keeper_right, knowledge_right, knows_all, news_left, news_right, other_readings, reader_alone, reader_left, reader_right, returned_seat, told_seat}
+use Rattle.log_rule.specs.Table.{first_reading, keeper_left, keeper_right, knowledge_right, knows_all, news_left, news_right, other_readings, reader_alone, reader_left, reader_right, returned_seat, told_seat}
 use Rattle.log_rule.proofs.Claimed.Memories.{maps_append}
 use Rattle.log_rule.proofs.Claimed.Totals.{total_append}
 use Rattle.log_rule.proofs.Dealing as dealing
@@ -40,7 +37,7 @@ use Rattle.log_memory.specs.Law.{Keeps, SeatsKeep}
 use Rattle.log_memory.specs.Rule.{LogMemoryRuled}
 use Rattle.log_memory.specs.Seats.{dealt_with, spent_with, viewing}
 use Rattle.log_memory.specs.Seats as seats
-use Rattle.log_memory.specs.Steps.{IsIdle, IsQuiet, Mine, Rests, SawBehind, StandsBehind, as_view}
+use Rattle.log_memory.specs.Steps.{IsIdle, IsQuiet, Mine, SawBehind, StandsBehind, as_view}
 use Rattle.log_memory.proofs.Dealing.{ComesFrom, ComesFromBoth, joins, splits}
 use Rattle.log_memory.proofs.Lifting.{lift}
 

@@ -1,22 +1,20 @@
 -- The words of a frame are stored in the stream one behind the other, and the frame is committed: so many events, in which no control word changes.
-use Rattle.std.proofs.Common.{◌≡◌, ◌≢◌, ℕ, zero, suc, ◌+◌, ◌-◌, ◌*◌, ◌/◌, ◌%◌, ◌^◌, ◌<◌, ◌≤◌, ◌⊎◌, inl, inr, List, [], ◌∷◌, ◌++◌, length, map, replicate, set, length-set, get_or-set_same, get_or-set_other, sym, refl, ap, ◌∙◌, subst, arith}
-use mathlib.Core.Option.{some, some-injective, some-ne-none}
+use Rattle.std.proofs.Common.{◌≡◌, ℕ, zero, suc, ◌+◌, ◌-◌, ◌*◌, ◌/◌, ◌^◌, ◌<◌, ◌≤◌, ◌⊎◌, inl, inr, List, [], ◌∷◌, ◌++◌, length, replicate, set, length-set, get_or-set_same, get_or-set_other, sym, refl, ap, ◌∙◌, subst, arith}
+use mathlib.Core.Option.{some}
 use mathlib.Core.Logic.{dite}
 use native.Mathlib.Decide.{ℕ_discrete}
 use lib.ListN.{get_elem?}
 use Rattle.std.specs.Prelude.{slice_index}
 use Rattle.std.specs.List.{AllByRecursion}
-use Rattle.std.proofs.lemmas.List.{ext_get_or, length-replicate, map-set}
-use Rattle.atomic_table.specs.Table.{State}
-use Rattle.atomic_table.proofs.Lists.{at_map, at_set, set_again, set_here}
+use Rattle.std.proofs.lemmas.List.{ext_get_or, length-replicate}
+use Rattle.atomic_table.proofs.Lists.{at_map, set_again, set_here}
 use Rattle.theory.specs.Bytes.{Identity}
 use Rattle.theory.specs.Position.{aligned}
 use Rattle.theory.proofs.Lists.{all_behind}
-use Rattle.publication.specs.declared.pass.Controls.{Controls}
 use Rattle.publication.specs.declared.pass.FrameWords.{FrameWords}
 use Rattle.publication.specs.declared.pass.Pass.{Pass}
 use Rattle.publication.specs.Frames.{CompletesFrame}
-use Rattle.publication.specs.Steps.{Commits, HasWord, Stores, blank, frame, frames_of, geometry_of, with_work, works, written}
+use Rattle.publication.specs.Steps.{Commits, HasWord, Stores, blank, frame, geometry_of, with_work, written}
 use Rattle.log_rule.specs.declared.claims.view.View.{View}
 use Rattle.log_rule.specs.declared.rule.Key.{Key}
 use Rattle.log_rule.specs.Claims.Memory.{IsCommittedFrame, StandsInTable}
@@ -30,6 +28,8 @@ use Rattle.log_rule.proofs.Lifting.{lifted, other_spares}
 use Rattle.log_rule.proofs.Owning.{commits_goes, stores_goes}
 use Rattle.log_memory.specs.Rule.{AreSmall}
 use Rattle.log_memory.proofs.Lifting.{there_low}
+use Rattle.frame_words.specs.Words.{IsLegal, frame_words}
+use Rattle.log_rule.specs.Claims.Events.{Eventful}
 
 pub set_twice : {A : Type 0} (l : List A) (i : ℕ) (a b : A) → set (set l i a) i b ≡ set l i b
 set_twice [] i a b = refl
@@ -141,7 +141,7 @@ module _ (key : Key) (stream : List ℕ) (views : List View) (q : LogRuled key (
         let u = b.view in let x : ℕ = p + 8 * suc k in let n : ℕ = slice_index ws (suc k) in let i : ℕ = slot key.identity.geometry x in let e = filled_long ws k in
         let has : HasWord u.pass 1 x = record { front = front; draft = frame p cut (filled ws k); behind = behind; parts = drafts_are; place = suc k; above = omega arith; inside = omega arith; position = refl } in
         let g = lifted key 0 id i (u, []) (λ _. n) (λ _ w. Stores u.pass x n w) (λ _. []) (data_turns i n (omega arith)) (inr (data_leaves i n (omega arith))) (other_spares i (λ _. n) (λ e. omega arith) (λ j lt e. omega arith)) (λ _ w. stores_goes u.pass x n w has)
-        (λ bs. subst (λ (y : ℕ). Rattle.log_rule.specs.Claims.Events.Eventful bs id u.pass y (λ _. n) (λ _ w. Stores u.pass x n w)) (ap (λ g. slot g x) shape) (steps_are_events.store bs id u.pass x n has))
+        (λ bs. subst (λ (y : ℕ). Eventful bs id u.pass y (λ _. n) (λ _ w. Stores u.pass x n w)) (ap (λ g. slot g x) shape) (steps_are_events.store bs id u.pass x n has))
         (record { words = now; homes = []; views = set views id u }) b.ruled refl here (subst (λ (y : ℕ). y < 2 ^ 64) (sym (none_yet (suc k) (inr (omega arith)) lt)) (omega arith)) in
         let told = g.4 in let r = g.3 in record {
           view = g.0;
@@ -158,9 +158,9 @@ module _ (key : Key) (stream : List ℕ) (views : List View) (q : LogRuled key (
         let u = b.view in let n : ℕ = slice_index ws 0 in let i : ℕ = slot key.identity.geometry p in let e = filled_long ws k in let d = frame p cut (filled ws k) in
         let whole : set (filled ws k) 0 n ≡ ws = all_filled ws k last in
         let own : u.pass.identity ≡ key.identity = ap (λ (x : Pass). x.identity) b.pass_is ∙ identity_is in
-        let completes : CompletesFrame u.pass p n = record { front = front; draft = d; behind = behind; parts = drafts_are; inside = omega arith; position = refl; content = done.content; legal = subst (λ (y : Identity). Rattle.frame_words.specs.Words.IsLegal y.geometry done.content) (sym own) done.legal; whole = done.whole; spelt = whole ∙ done.spelt ∙ ap (λ (y : Identity). Rattle.frame_words.specs.Words.frame_words y p done.content) (sym own) } in
+        let completes : CompletesFrame u.pass p n = record { front = front; draft = d; behind = behind; parts = drafts_are; inside = omega arith; position = refl; content = done.content; legal = subst (λ (y : Identity). IsLegal y.geometry done.content) (sym own) done.legal; whole = done.whole; spelt = whole ∙ done.spelt ∙ ap (λ (y : Identity). frame_words y p done.content) (sym own) } in
         let g = lifted key 0 id i (u, []) (λ _. n) (λ _ w. Commits u.pass p n w) (λ _. []) (data_turns i n (omega arith)) (inr (data_leaves i n (omega arith))) (other_spares i (λ _. n) (λ e. omega arith) (λ j lt e. omega arith)) (λ _ w. commits_goes u.pass p n w completes)
-        (λ bs. subst (λ (y : ℕ). Rattle.log_rule.specs.Claims.Events.Eventful bs id u.pass y (λ _. n) (λ _ w. Commits u.pass p n w)) (ap (λ g. slot g p) shape) (steps_are_events.commit bs id u.pass p n completes done.first))
+        (λ bs. subst (λ (y : ℕ). Eventful bs id u.pass y (λ _. n) (λ _ w. Commits u.pass p n w)) (ap (λ g. slot g p) shape) (steps_are_events.commit bs id u.pass p n completes done.first))
         (record { words = now; homes = []; views = set views id u }) b.ruled refl here (subst (λ (y : ℕ). y < 2 ^ 64) (sym (ap (λ (y : ℕ). slice_index now (slot key.identity.geometry y)) (let z : p ≡ p + 8 * 0 = omega arith in z) ∙ none_yet 0 (inl refl) (omega arith))) (omega arith)) in
         let told = g.4 in let r = g.3 in record {
           view = g.0;

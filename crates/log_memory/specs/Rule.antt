@@ -2,7 +2,7 @@
 -- The stream's words are those that `LogRuled` speaks of. They exist in the proofs alone: the table has the control words
 -- and, for each unit, the first word of the frame that begins there; all other bytes of a committed frame lie in memory,
 -- and slots have the right to read them, or to write what is room.
-use Rattle.std.specs.Prelude.{◌≡◌, ℕ, ◌+◌, ◌*◌, ◌/◌, ◌%◌, ◌^◌, ◌<◌, ◌≤◌, ◌⊎◌, List, [], length, map, replicate, slice_index}
+use Rattle.std.specs.Prelude.{◌≡◌, ℕ, ◌+◌, ◌*◌, ◌%◌, ◌^◌, ◌<◌, ◌≤◌, ◌⊎◌, List, [], length, map, replicate, slice_index}
 use mathlib.Core.Option.{some}
 use lib.ListN.{get_elem?}
 use Rattle.atomic_table.specs.Table.{State}
@@ -27,7 +27,6 @@ use Rattle.log_rule.specs.Table as words
 use Rattle.log_rule.specs.Table.{LogRuled}
 use Rattle.log_memory.specs.declared.view.LogView.{LogView}
 use Rattle.log_memory.specs.declared.view.Part.{Part}
-use Rattle.log_memory.specs.declared.view.Room.{Room}
 use Rattle.log_memory.specs.declared.view.Site.{Site}
 use Rattle.log_memory.specs.Places.{head_place, slot_of, units}
 

@@ -1,6 +1,4 @@
 -- Seats that are dealt and joined, by what they know of the stream.
-use Rattle.std.specs.Prelude.{◌≡◌, ℕ}
-use Rattle.theory.specs.Bytes.{Identity}
 use Rattle.log_rule.specs.declared.claims.view.View.{View}
 use Rattle.log_memory.specs.declared.view.LogView.{LogView}
 use Rattle.log_memory.specs.Rule.{no_part}
