@@ -113,7 +113,7 @@ clean_to t id i end m may idle slots s r homes at small =
             (λ a. r.memory.keeper j x a.1 one)
             (at_set s.views id j w x here);
       },
-      record { carried = refl; part = refl; room = refl; steps = refl; sure = b.sure; leads = b.leads; pass = e },
+      record { carried = refl; part = refl; room = refl; steps = refl; learns = record { sure = b.sure; leads = b.leads }; pass = e },
     )
   where
     clash : (a c : ℕ) → a ≡ c → c ≡ 1 → a ≡ 0 → ⊥

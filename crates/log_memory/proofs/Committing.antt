@@ -5,18 +5,18 @@ use mathlib.Core.Logic.{dite}
 use native.Mathlib.Decide.{dec_le}
 use lib.ListN.{get_elem?}
 use Rattle.std.specs.Prelude.{slice_index}
-use Rattle.std.proofs.lemmas.List.{map-set}
+use Rattle.std.proofs.lemmas.List.{length-replicate, map-set}
 use Rattle.atomic_table.specs.Table.{Allows, homes_after}
 use Rattle.atomic_table.proofs.Lists.{at_map, at_set, set_again, set_else, set_here}
 use Rattle.theory.specs.Entry.{Entry, length_of}
 use Rattle.theory.specs.Placed.{Among}
-use Rattle.theory.specs.Position.{greatest_claim}
+use Rattle.theory.specs.Position.{aligned, greatest_claim}
 use Rattle.theory.specs.Refusal.{limit_in}
 use Rattle.theory.proofs.Lists.{among_cases, among_right}
 use Rattle.publication.specs.declared.pass.FrameWords.{FrameWords}
 use Rattle.publication.specs.declared.pass.Keeping.{Keeping}
 use Rattle.publication.specs.declared.pass.Pass.{Pass}
-use Rattle.publication.specs.Steps.{blank, extent_of, frame, with_work}
+use Rattle.publication.specs.Steps.{Extent, blank, extent_of, frame, with_work}
 use Rattle.region.specs.declared.access.Access.{Access}
 use Rattle.log_rule.specs.declared.claims.view.View.{View}
 use Rattle.log_rule.specs.declared.rule.Key.{Key}
@@ -37,11 +37,11 @@ use Rattle.log_memory.specs.declared.view.LogView.{LogView}
 use Rattle.log_memory.specs.declared.view.Site.{Site}
 use Rattle.log_memory.specs.Places.{head_place, slot_of}
 use Rattle.log_memory.specs.Rule.{Board, IsBeyond, IsHome, IsPart, KnowsRoom, Lies, LogMemoryRuled, Rounds, passes_of, ring, shape, stream_state, tail_in, term, view_in}
-use Rattle.log_memory.specs.Steps.{Committed, IsIdle, IsPartAt, IsQuiet, MayCommit, Mine}
+use Rattle.log_memory.specs.Steps.{Commits, IsIdle, IsPartAt, IsQuiet, MayCommit, Mine}
 use Rattle.log_memory.proofs.Facts.{apart, bounds, end_low, in_row_of, long as long_frame, pass_at, some_ring, tail_near, unit, whole, width}
 use Rattle.log_memory.proofs.Lifting.{passes_set, there_low, with_reader_on}
 use Rattle.log_memory.proofs.Places.{head_apart, in_range, one_unit, place_is, row_apart}
-use Rattle.log_memory.proofs.Rows.{GivesRow, gives_row}
+use Rattle.log_memory.proofs.Rows.{GivesRow, carried_behind, gives_row}
 use Rattle.log_memory.proofs.Storing.{Stored, stored}
 use Rattle.log_rule.specs.Claims.Memory.{Ruled}
 use Rattle.log_rule.specs.Numbers.{AreNumbered}
@@ -62,6 +62,51 @@ restep key words views id n w low q =
       };
       numbered = subst AreNumbered (sym same) q.numbered;
     }
+
+-- a frame stands once in a list in which its position is covered once
+first_of : FrameWords → List FrameWords → FrameWords
+first_of d [] = d
+first_of d (x ∷ xs) = x
+
+others_of : List FrameWords → List FrameWords
+others_of [] = []
+others_of (x ∷ xs) = xs
+
+-- how often the frames have a position
+abbrev there_in : ℕ → List FrameWords → ℕ
+there_in p fs = total (λ f. covers p f.start (8 * length f.words)) fs
+
+taken_out : (p : ℕ) (d : FrameWords) (xs ys xs' ys' : List FrameWords) → 1 ≤ covers p d.start (8 * length d.words) → there_in p (xs ++ d ∷ ys) ≤ 1 → xs ++ d ∷ ys ≡ xs' ++ d ∷ ys' → xs ++ ys ≡ xs' ++ ys'
+unfolding first_of others_of
+taken_out p d [] ys [] ys' one most e = ap others_of e
+taken_out p d [] ys (x' ∷ xs') ys' one most e =
+    let a = ap (there_in p) (ap others_of e) in let c = total_append (λ f. covers p f.start (8 * length f.words)) xs' (d ∷ ys') in
+    absurd (many (covers p d.start (8 * length d.words)) (there_in p ys) (there_in p xs') (there_in p ys') (there_in p (xs' ++ d ∷ ys')) one most a c)
+  where
+    many : (c y x y' t : ℕ) → 1 ≤ c → c + y ≤ 1 → y ≡ t → t ≡ x + (c + y') → ⊥
+    many c y x y' t one most e f = omega arith
+taken_out p d (x ∷ xs) ys [] ys' one most e =
+    let c = total_append (λ f. covers p f.start (8 * length f.words)) xs (d ∷ ys) in let z = ap (λ (f : FrameWords). covers p f.start (8 * length f.words)) (ap (first_of d) e) in
+    absurd (many (covers p d.start (8 * length d.words)) (covers p x.start (8 * length x.words)) (there_in p xs) (there_in p ys) (there_in p (xs ++ d ∷ ys)) one z most c)
+  where
+    many : (c x m y t : ℕ) → 1 ≤ c → x ≡ c → x + t ≤ 1 → t ≡ m + (c + y) → ⊥
+    many c x m y t one e most f = omega arith
+taken_out p d (x ∷ xs) ys (x' ∷ xs') ys' one most e = λ i. ap (first_of d) e i ∷ taken_out p d xs ys xs' ys' one (omega arith) (ap others_of e) i
+
+twice : (p : ℕ) (z : FrameWords) (zs : List FrameWords) (f g : FrameWords) → covers p z.start (8 * length z.words) + there_in p zs ≤ 1 → f ≡ z → Among g zs → 1 ≤ covers p f.start (8 * length f.words) → 1 ≤ covers p g.start (8 * length g.words) → ⊥
+twice p z zs f g most e c x y =
+    let d = among_total (λ h. covers p h.start (8 * length h.words)) zs g c in let k = ap (λ (h : FrameWords). covers p h.start (8 * length h.words)) e in
+    many (covers p f.start (8 * length f.words)) (covers p z.start (8 * length z.words)) (covers p g.start (8 * length g.words)) (there_in p zs) k most d x y
+  where
+    many : (f z g t : ℕ) → f ≡ z → z + t ≤ 1 → g ≤ t → 1 ≤ f → 1 ≤ g → ⊥
+    many f z g t e most le x y = omega arith
+
+one_there : (p : ℕ) (fs : List FrameWords) (f g : FrameWords) → there_in p fs ≤ 1 → Among f fs → Among g fs → 1 ≤ covers p f.start (8 * length f.words) → 1 ≤ covers p g.start (8 * length g.words) → f ≡ g
+one_there p [] f g most a c x y = absurd a
+one_there p (z ∷ zs) f g most (inl e) (inl e') x y = e ∙ sym e'
+one_there p (z ∷ zs) f g most (inl e) (inr c) x y = absurd (twice p z zs f g most e c x y)
+one_there p (z ∷ zs) f g most (inr a) (inl e') x y = absurd (twice p z zs g f most e' a y x)
+one_there p (z ∷ zs) f g most (inr a) (inr c) x y = one_there p zs f g (omega arith) a c x y
 
 -- the round of the frame at a position is another
 abbrev pub rounds_with : ℕ → ℕ × ℕ → Rounds → Rounds
@@ -268,6 +313,27 @@ module _ (t : Site) (s : Board) (r : LogMemoryRuled t s) (id p : ℕ) (ws : List
   head_else x ux lo hi ne = let w = width t r.stream s.views r.ruled in let g = gone_low in let a = near in let b = may.some in let n = tail_near t s r in
       get_or-set_other s.words (head_place (ring t) p) (head_place (ring t) x) (slice_index ws 0) 0 (λ e. ne (one_unit (ring t) r.freed x p ux unit_p lo (omega arith) (omega arith) (omega arith) (head_apart (ring t) x p e)))
 
+  -- however its open frames are parted
+  pub filled : (front : List FrameWords) (cut : ℕ) (behind : List FrameWords) → 0 < cut → m.0.view.pass.work.drafts ≡ front ++ blank p cut ∷ behind → seat.view.pass ≡ with_work (m.0.view.pass.work.frames ++ frame p cut ws ∷ []) (front ++ behind) m.0.view.pass
+  filled front cut behind pos drafts =
+      let b = bounds t r.stream s.views r.ruled in let h : Extent → ℕ = covering p in
+      let once = covered b r.stream (passes_of s.views) r.ruled.ruled.claims p in let two = parted h in let mine = total_at (open_weight h) (passes_of s.views) id m.0.view.pass here in
+      let all : there_in p (may.front ++ blank p may.cut ∷ may.behind) ≤ 1 = subst (λ (l : List FrameWords). there_in p l ≤ 1) may.drafts (least (open_weight h m.0.view.pass) (open_sum h (passes_of s.views)) (committed_sum h (passes_of s.views)) (claimed_sum h (passes_of s.views)) (min (p + 1 - t.key.start) (tail_in t.key (passes_of s.views) - p)) mine two once) in
+      let one' = its p (length (blank p may.cut).words) some_words in
+      let same : blank p may.cut ≡ blank p cut = one_there p (may.front ++ blank p may.cut ∷ may.behind) (blank p may.cut) (blank p cut) all (among_right (blank p may.cut) may.front (blank p may.cut ∷ may.behind) (inl refl)) (subst (Among (blank p cut)) (sym drafts ∙ may.drafts) (among_right (blank p cut) front (blank p cut ∷ behind) (inl refl))) one' (its p (length (blank p cut).words) (let e = length-replicate (aligned cut / 8) 0 in words_in_cut cut (length (blank p cut).words) pos e)) in
+      let cuts : may.cut ≡ cut = ap (λ (f : FrameWords). f.cut) same in
+      let lists = taken_out p (blank p may.cut) may.front may.behind front behind one' all (sym may.drafts ∙ drafts ∙ ap (λ (f : FrameWords). front ++ f ∷ behind) (sym same)) in
+      pass_is ∙ (λ i. with_work (m.0.view.pass.work.frames ++ frame p (cuts i) ws ∷ []) (lists i) m.0.view.pass)
+    where
+      least : (a o c s y : ℕ) → a ≤ o → s ≡ c + o → s ≡ min 1 y → a ≤ 1
+      least a o c s y le e f = omega arith
+
+      its : (p l : ℕ) → 0 < l → 1 ≤ covers p p (8 * l)
+      its p l pos = omega arith
+
+      words_in_cut : (cut n : ℕ) → 0 < cut → n ≡ aligned cut / 8 → 0 < n
+      words_in_cut cut n pos e = omega arith
+
   pub committing : LogMemoryRuled t after
   committing = record {
     stream = made.after;
@@ -336,13 +402,20 @@ module _ (t : Site) (s : Board) (r : LogMemoryRuled t s) (id p : ℕ) (ws : List
       clash : (a c : ℕ) → a ≡ c → c ≡ 1 → a ≡ 0 → ⊥
       clash a c e has none' = omega arith
 
-pub commit : (t : Site) (id p : ℕ) (ws : List ℕ) (m : Mine) → IsIdle m.0 → (may : MayCommit t p ws m) → (slots : ℕ) → Allows (LogMemoryRuled t) slots id m (head_place (ring t) p) (λ _. slice_index ws 0) (λ _ w. Committed t p ws m may w)
+pub commit : (t : Site) (id p : ℕ) (ws : List ℕ) (m : Mine) → IsIdle m.0 → MayCommit t p ws m → (slots : ℕ) → Allows (LogMemoryRuled t) slots id m (head_place (ring t) p) (λ _. slice_index ws 0) (λ _ w. Commits t p ws m w)
 commit t id p ws m idle may slots s r homes at small = let g = gives t s r id p ws m at idle may in (
   seat t s r id p ws m at idle may,
   g.act,
   g.valid,
   committing t s r id p ws m at idle may,
-  record { carried = g.rest; part = refl; room = refl; pass = (made t s r id p ws m at idle may).became.pass_is; steps = refl },
+  record {
+    carried = g.rest ∙ sym (carried_behind (IsPartAt t (slot_of (ring t) p 0) ws may.round may.book) (slot_of (ring t) p 0) (8 * length ws / 4) may.before m.1 may.carries);
+    part = refl;
+    room = refl;
+    steps = refl;
+    learns = record { sure = (made t s r id p ws m at idle may).became.sure; leads = (made t s r id p ws m at idle may).became.leads };
+    fills = filled t s r id p ws m at idle may;
+  },
 )
 
 -- a seat that has made one step more, and nothing else

@@ -25,7 +25,7 @@ use Rattle.log_memory.proofs.Freeing.{only, reader_on, room}
 use Rattle.log_memory.proofs.Lifting.{quiet_look}
 use Rattle.log_memory.proofs.Places.{head_apart, in_range, one_unit, place_is, row_apart}
 use Rattle.log_memory.proofs.Resting.{SameFrames, beyond_on, edge_on, held_on, passed_on, same_frames, tail_on}
-use Rattle.log_memory.proofs.Rows.{GivesRow, gives_row}
+use Rattle.log_memory.proofs.Rows.{GivesRow, carried_behind, gives_row}
 
 module _ (t : Site) (s : Board) (r : LogMemoryRuled t s) (id : ℕ) (m : Mine) (at : get_elem? s.views id ≡ some m.0) (may : MayGiveRoom t m) where
   knows : KnowsRoom t (passes_of s.views) r.freed r.out m.0
@@ -172,12 +172,12 @@ module _ (t : Site) (s : Board) (r : LogMemoryRuled t s) (id : ℕ) (m : Mine) (
         };
       }
 
-pub give_room : (t : Site) (id : ℕ) (m : Mine) (may : MayGiveRoom t m) → (slots : ℕ) → Allows (LogMemoryRuled t) slots id m (head_place (ring t) m.0.room.freed) (λ _. 0) (λ _ w. GivesRoom t m may w)
+pub give_room : (t : Site) (id : ℕ) (m : Mine) → MayGiveRoom t m → (slots : ℕ) → Allows (LogMemoryRuled t) slots id m (head_place (ring t) m.0.room.freed) (λ _. 0) (λ _ w. GivesRoom m w)
 give_room t id m may slots s r homes at small =
     let g = given t s r id m at may in let freed = (room t s r id m.0 at may.keeper).freed_is in (
       seat t s r id m at may,
       g.act,
       g.valid,
       subst (λ (x : ℕ). LogMemoryRuled t (record { words = set s.words (head_place (ring t) x) 0; homes = homes_after s.homes m.1 g.act; views = set s.views id (seat t s r id m at may) })) (sym freed) (gave t s r id m at may),
-      record { carried = g.rest; part = refl; room = refl; rests = refl },
+      record { carried = g.rest ∙ sym (carried_behind (IsRoomAt t) (slot_of (ring t) m.0.room.freed 0) (m.0.room.out / 4) may.before m.1 may.carries); part = refl; room = refl; rests = refl },
     )

@@ -1,5 +1,5 @@
 -- The loads of a reader, and the store of its position.
-use Rattle.std.proofs.Common.{◌≡◌, ℕ, zero, suc, ◌+◌, ◌*◌, ◌^◌, ◌<◌, ◌≤◌, ◌⊎◌, inl, inr, ⊎_elim, List, [], ◌∷◌, ◌++◌, length, map, set, sym, refl, ap, ◌∙◌, subst, lt_of_not-le, arith}
+use Rattle.std.proofs.Common.{◌≡◌, ℕ, zero, suc, ◌+◌, ◌*◌, ◌^◌, ◌<◌, ◌≤◌, ◌⊎◌, inl, inr, ⊎_elim, List, [], ◌∷◌, ◌++◌, length, map, set, sym, refl, ap, ◌∙◌, subst, lt_of_not-le, arith, drop}
 use mathlib.Core.Option.{some, some-injective}
 use mathlib.Core.Logic.{dite}
 use native.Mathlib.Decide.{dec_le}
@@ -194,7 +194,7 @@ reread t id place r f m may idle slots s k homes at small =
 
 -- ---- its part goes back
 
-pub give : (t : Site) (id i : ℕ) (r : Reading) (f : FrameWords) (m : Mine) (may : MayGive t r f m) → (slots : ℕ) → Allows (LogMemoryRuled t) slots id m i (λ n. n) (λ _ w. Gives t r f m may w)
+pub give : (t : Site) (id i : ℕ) (r : Reading) (f : FrameWords) (m : Mine) → MayGive t r f m → (slots : ℕ) → Allows (LogMemoryRuled t) slots id m i (λ n. n) (λ _ w. Gives m w)
 give t id i r f m may slots s k homes at small =
     let v = m.0 in let same : set s.words i (slice_index s.words i) ≡ s.words = set-get_or s.words i 0 in let ps = passes_of s.views in
     let among : IsAmong ps f = ⊎_elim
@@ -208,8 +208,12 @@ give t id i r f m may slots s k homes at small =
       gives,
       tt,
       subst (λ (c : List (ℕ × Access)). LogMemoryRuled t (record { words = set s.words i (slice_index s.words i); homes = put_back s.homes c; views = set s.views id (record v { view = record v.view { steps = suc v.view.steps }; part = record v.part { has = 0 } }) })) (sym may.carries) after,
-      record { room = refl; part = refl; rests = refl; carried = ap rest may.carries },
+      record { room = refl; part = refl; rests = refl; carried = ap rest may.carries ∙ sym (ap (drop 1) may.carries ∙ none_dropped may.before) },
     )
+  where
+    none_dropped : (l : List (ℕ × Access)) → drop 0 l ≡ l
+    none_dropped [] = refl
+    none_dropped (x ∷ xs) = refl
 
 -- ---- a consumer's position is stored
 

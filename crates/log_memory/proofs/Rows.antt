@@ -1,5 +1,5 @@
 -- Slots that follow one another are taken, and given back.
-use Rattle.std.proofs.Common.{◌≡◌, ℕ, zero, suc, ◌+◌, ◌<◌, ◌≤◌, ◌⊎◌, inl, inr, ⊎_elim, List, [], ◌∷◌, set, length, sym, refl, ap, ◌∙◌, subst, arith}
+use Rattle.std.proofs.Common.{◌≡◌, ℕ, zero, suc, ◌+◌, ◌<◌, ◌≤◌, ◌⊎◌, inl, inr, ⊎_elim, List, [], ◌∷◌, drop, set, length, sym, refl, ap, ◌∙◌, subst, arith}
 use mathlib.Core.Option.{Option, some, none}
 use mathlib.Core.Logic.{dite}
 use native.Mathlib.Decide.{ℕ_discrete}
@@ -42,6 +42,15 @@ takes_row hs is k (suc count) before full =
       long = set_long rest k none ∙ back.long;
       others = λ i apart. set_else rest k i none (⊎_elim (λ lo e. omega arith) (λ hi e. omega arith) apart) ∙ back.others i (⊎_elim (λ lo. inl (omega arith)) (λ hi. inr (omega arith)) apart);
     }
+
+-- what is carried behind them
+pub carried_behind : (is : ℕ → Access → Type 0) (k count : ℕ) (before mine : List (ℕ × Access)) → Carries is k count before mine → drop count mine ≡ before
+carried_behind is k zero before mine c = none_dropped mine ∙ c
+  where
+    none_dropped : (l : List (ℕ × Access)) → drop 0 l ≡ l
+    none_dropped [] = refl
+    none_dropped (x ∷ xs) = refl
+carried_behind is k (suc count) before mine c = ap (drop (suc count)) c.2 ∙ carried_behind is (suc k) count before c.1 c.4
 
 -- ---- they are given back
 

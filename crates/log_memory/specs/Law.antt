@@ -28,7 +28,7 @@ use Rattle.log_memory.specs.Places.{head_place}
 use Rattle.log_memory.specs.Opening.{SlotsBegun, WordsBegun}
 use Rattle.log_memory.specs.Rule.{LogMemoryRuled, ring, whole_seat}
 use Rattle.log_memory.specs.Seats.{dealt_with, joining, spent_with, viewing}
-use Rattle.log_memory.specs.Steps.{Adds, CleansTo, Committed, Gives, GivesRoom, IsIdle, Looks, MayCleanTo, MayCommit, MayGive, MayGiveRoom, MayReread, MayTakeBack, Mine, Rereads, Rests, TakesBack, any_step}
+use Rattle.log_memory.specs.Steps.{Adds, CleansTo, Commits, Gives, GivesRoom, IsIdle, Looks, MayCleanTo, MayCommit, MayGive, MayGiveRoom, MayReread, MayTakeBack, Mine, Rereads, Rests, TakesBack, any_step}
 
 -- such a step, whatever stands, keeps the rule, tells this of what its seat knows of the stream, and moves no memory
 abbrev pub Keeps : Site → ℕ → ℕ → (ℕ → ℕ) → (words.Mine → ℕ → words.Mine → Type 0) → Mine → Type 0
@@ -49,16 +49,16 @@ pub record StepsKeep : Type 0 where
   pub add : (t : Site) (id size : ℕ) (m : Mine) → IsIdle m.0 → 120 ≤ m.0.view.pass.right.parts → m.0.view.pass.right.armed ≡ 1 → size ≤ max_message (geometry_of m.0.view.pass)
       → (slots : ℕ) → Allows (LogMemoryRuled t) slots id m (tail_place m.0.view.pass.seen.term) (λ n. (n + framed_length (geometry_of m.0.view.pass) size) % 2 ^ 64) (Adds t size m)
   -- a frame is committed, and its memory goes to those who read it
-  pub commit : (t : Site) (id p : ℕ) (ws : List ℕ) (m : Mine) → IsIdle m.0 → (may : MayCommit t p ws m) → (slots : ℕ) → Allows (LogMemoryRuled t) slots id m (head_place (ring t) p) (λ _. slice_index ws 0) (λ _ w. Committed t p ws m may w)
+  pub commit : (t : Site) (id p : ℕ) (ws : List ℕ) (m : Mine) → IsIdle m.0 → MayCommit t p ws m → (slots : ℕ) → Allows (LogMemoryRuled t) slots id m (head_place (ring t) p) (λ _. slice_index ws 0) (λ _ w. Commits t p ws m w)
   -- a reader takes its part of a frame, where it stands or one that it has, and gives it back; and its position is stored
   pub look : (t : Site) (id place : ℕ) (r : Reading) (m : Mine) (is : IsConsumer m.0.view.pass place r) → r.number < 8 → IsIdle m.0 → (slots : ℕ) → Allows (LogMemoryRuled t) slots id m (head_place (ring t) r.position) (λ n. n) (λ n w. Looks t place r m is n w)
   pub reread : (t : Site) (id place : ℕ) (r : Reading) (f : FrameWords) (m : Mine) → MayReread place r f m.0.view.pass → IsIdle m.0 → (slots : ℕ) → Allows (LogMemoryRuled t) slots id m (head_place (ring t) f.start) (λ n. n) (λ n w. Rereads t r f m n w)
-  pub give : (t : Site) (id i : ℕ) (r : Reading) (f : FrameWords) (m : Mine) (may : MayGive t r f m) → (slots : ℕ) → Allows (LogMemoryRuled t) slots id m i (λ n. n) (λ _ w. Gives t r f m may w)
+  pub give : (t : Site) (id i : ℕ) (r : Reading) (f : FrameWords) (m : Mine) → MayGive t r f m → (slots : ℕ) → Allows (LogMemoryRuled t) slots id m i (λ n. n) (λ _ w. Gives m w)
   pub move : (t : Site) (id place : ℕ) (r : Reading) (end : ℕ) (m : Mine) → IsConsumer m.0.view.pass place r → MayPass m.0.view.pass place end → r.number < 8 → IsIdle m.0 → (slots : ℕ) → Allows (LogMemoryRuled t) slots id m (consumer_place r.number) (λ _. end) (λ n w. Rests (λ a _ c. reading (λ v k w. Consumes v place end w) a 0 c) m n w)
   -- the keeper takes the memory of a frame back that all consumers have left, a term ago
   pub take_back : (t : Site) (id : ℕ) (m : Mine) → MayTakeBack m.0 → (slots : ℕ) → Allows (LogMemoryRuled t) slots id m (head_place (ring t) m.0.room.freed) (λ n. n) (λ n w. TakesBack t m n w)
   -- what it took back becomes room, as zeros, where it stores zero over the frame's word
-  pub give_room : (t : Site) (id : ℕ) (m : Mine) (may : MayGiveRoom t m) → (slots : ℕ) → Allows (LogMemoryRuled t) slots id m (head_place (ring t) m.0.room.freed) (λ _. 0) (λ _ w. GivesRoom t m may w)
+  pub give_room : (t : Site) (id : ℕ) (m : Mine) → MayGiveRoom t m → (slots : ℕ) → Allows (LogMemoryRuled t) slots id m (head_place (ring t) m.0.room.freed) (λ _. 0) (λ _ w. GivesRoom m w)
   -- it knows, at any load, how far all is zero
   pub clean_to : (t : Site) (id i end : ℕ) (m : Mine) → MayCleanTo end m.0 → IsIdle m.0 → (slots : ℕ) → Allows (LogMemoryRuled t) slots id m i (λ n. n) (λ _ w. CleansTo end m w)
   -- the keeper's other steps move no memory

@@ -1,5 +1,5 @@
 -- What each kind of step asks and tells.
-use Rattle.std.specs.Prelude.{◌≡◌, ◌≢◌, ℕ, zero, suc, ◌+◌, ◌-◌, ◌*◌, ◌/◌, ◌%◌, ◌^◌, ◌<◌, ◌≤◌, ◌⊎◌, List, [], ◌∷◌, ◌++◌, length, max, slice_index}
+use Rattle.std.specs.Prelude.{◌≡◌, ◌≢◌, ℕ, zero, suc, ◌+◌, ◌-◌, ◌*◌, ◌/◌, ◌%◌, ◌^◌, ◌<◌, ◌≤◌, ◌⊎◌, List, [], ◌∷◌, ◌++◌, drop, length, max, slice_index}
 use mathlib.Core.Option.{none}
 use Rattle.atomic_table.specs.Table.{Me, Step, step}
 use Rattle.theory.specs.Placed.{Among}
@@ -14,6 +14,7 @@ use Rattle.publication.specs.Steps.{addition, blank, frame, geometry_of, start_i
 use Rattle.region.specs.declared.access.Access.{Access}
 use Rattle.log_rule.specs.declared.claims.view.View.{View}
 use Rattle.log_rule.specs.Claims.Memory.{IsCommittedFrame}
+use Rattle.log_rule.specs.Claims.Sure.{LearnsControls}
 use Rattle.log_rule.specs.Claims.Plays as words
 use Rattle.log_rule.specs.Claims.Plays.{playing}
 use Rattle.log_rule.specs.Keepings.{least_there, with_keeping}
@@ -92,13 +93,14 @@ pub record MayCommit (t : Site) (p : ℕ) (ws : List ℕ) (m : Mine) : Type 0 wh
   pub before : List (ℕ × Access)
   pub carries : CarriesRange t (IsPartAt t (slot_of (ring t) p 0) ws round book) p (8 * length ws) before m.1
 
--- it is one of the pass's committed frames then
-pub record Committed (t : Site) (p : ℕ) (ws : List ℕ) (m : Mine) (may : MayCommit t p ws m) (m' : Mine) : Type 0 where
-  pub carried : m'.1 ≡ may.before
+-- it is one of the pass's committed frames then, and its slots are given
+pub record Commits (t : Site) (p : ℕ) (ws : List ℕ) (m m' : Mine) : Type 0 where
+  pub carried : m'.1 ≡ drop (8 * length ws / 4) m.1
   pub part : m'.0.part ≡ m.0.part
   pub room : m'.0.room ≡ m.0.room
-  pub pass : m'.0.view.pass ≡ with_work (m.0.view.pass.work.frames ++ frame p may.cut ws ∷ []) (may.front ++ may.behind) m.0.view.pass
   pub steps : m'.0.view.steps ≡ suc m.0.view.steps
+  pub learns : LearnsControls [] m.0.view m'.0.view
+  pub fills : (front : List FrameWords) (cut : ℕ) (behind : List FrameWords) → 0 < cut → m.0.view.pass.work.drafts ≡ front ++ blank p cut ∷ behind → m'.0.view.pass ≡ with_work (m.0.view.pass.work.frames ++ frame p cut ws ∷ []) (front ++ behind) m.0.view.pass
 
 -- ---- a reader takes its part of a frame, and gives it back
 
@@ -144,11 +146,11 @@ pub record MayGive (t : Site) (r : Reading) (f : FrameWords) (m : Mine) : Type 0
   pub carries : m.1 ≡ (slot_of (ring t) f.start r.number, access) ∷ before
 
 -- it goes back
-pub record Gives (t : Site) (r : Reading) (f : FrameWords) (m : Mine) (may : MayGive t r f m) (m' : Mine) : Type 0 where
+pub record Gives (m m' : Mine) : Type 0 where
   pub room : m'.0.room ≡ m.0.room
   pub part : m'.0.part ≡ record m.0.part { has = 0 }
   pub rests : m'.0.view ≡ record m.0.view { steps = suc m.0.view.steps }
-  pub carried : m'.1 ≡ may.before
+  pub carried : m'.1 ≡ drop 1 m.1
 
 -- ---- the keeper takes a frame's memory back, and gives it as room
 
@@ -178,8 +180,8 @@ pub record MayGiveRoom (t : Site) (m : Mine) : Type 0 where
   pub before : List (ℕ × Access)
   pub carries : CarriesRange t (IsRoomAt t) m.0.room.freed m.0.room.out before m.1
 
-pub record GivesRoom (t : Site) (m : Mine) (may : MayGiveRoom t m) (m' : Mine) : Type 0 where
-  pub carried : m'.1 ≡ may.before
+pub record GivesRoom (m m' : Mine) : Type 0 where
+  pub carried : m'.1 ≡ drop (m.0.room.out / 4) m.1
   pub part : m'.0.part ≡ m.0.part
   pub room : m'.0.room ≡ record { freed = m.0.room.freed + m.0.room.out; out = 0 }
   pub rests : m'.0.view ≡ record m.0.view { steps = suc m.0.view.steps }
@@ -199,8 +201,7 @@ pub record CleansTo (end : ℕ) (m m' : Mine) : Type 0 where
   pub part : m'.0.part ≡ m.0.part
   pub room : m'.0.room ≡ m.0.room
   pub steps : m'.0.view.steps ≡ suc m.0.view.steps
-  pub sure : m'.0.view.sure ≡ m.0.view.sure
-  pub leads : m.0.view.sure ≡ 1 → m'.0.view.controls ≡ m.0.view.controls
+  pub learns : LearnsControls [] m.0.view m'.0.view
   pub pass : m'.0.view.pass ≡ with_keeping m.0.view.pass (record m.0.view.pass.keeping { cleaned = end })
 
 -- ---- steps that move no memory
