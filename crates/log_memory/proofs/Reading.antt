@@ -137,7 +137,7 @@ module _ (t : Site) (s : Board) (r : LogMemoryRuled t s) (f : FrameWords) (among
     }
 
     pub takes_it : (carried : List (ℕ × Access)) → TakesPart t j f (v, carried) (seat, (slot_of (ring t) f.start j, home.access) ∷ carried)
-    takes_it carried = record { access = home.access; is = home.so; after = refl; part = refl }
+    takes_it carried = record { access = home.access; is = home.so; shows = home.so.items; after = refl; part = refl }
 
   -- ---- it is given back
 

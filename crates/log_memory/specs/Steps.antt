@@ -6,6 +6,7 @@ use Rattle.theory.specs.Placed.{Among}
 use Rattle.theory.specs.Position.{framed_length, greatest_claim}
 use Rattle.theory.specs.Refusal.{limit_in}
 use Rattle.theory.specs.Words.{offset_in}
+use Rattle.frame_words.specs.Contents.{bytes_in}
 use Rattle.publication.specs.declared.pass.FrameWords.{FrameWords}
 use Rattle.publication.specs.declared.pass.Pass.{Pass}
 use Rattle.publication.specs.declared.pass.Reading.{Reading}
@@ -108,6 +109,8 @@ pub record Commits (t : Site) (p : ℕ) (ws : List ℕ) (m m' : Mine) : Type 0 w
 pub record TakesPart (t : Site) (number : ℕ) (f : FrameWords) (m m' : Mine) : Type 0 where
   pub access : Access
   pub is : IsPart t (slot_of (ring t) f.start 0) f.words m'.0.part.round m'.0.part.book access
+  -- it shows the frame's bytes
+  pub shows : access.read.items ≡ bytes_in f.words
   pub after : m'.1 ≡ (slot_of (ring t) f.start number, access) ∷ m.1
   pub part : m'.0.part ≡ record { has = 1; number = number; at = f.start; round = m'.0.part.round; book = m'.0.part.book }
 
