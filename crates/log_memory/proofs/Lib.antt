@@ -17,4 +17,5 @@ pub mod Cleaning
 pub mod Beginning
 pub mod Dealing
 pub mod Seating
+pub mod Rounds
 pub mod Kept

@@ -3,4 +3,5 @@ pub mod Rule
 pub mod Steps
 pub mod Opening
 pub mod Seats
+pub mod Rights
 pub mod Law

@@ -21,9 +21,11 @@
 #![tactic(auto)]
 
 mod law;
+mod rights;
 mod rule;
 mod view;
 
 pub use law::{seats_keep, steps_keep};
+pub use rights::{LogSeat, LogTable, gather};
 pub use rule::LogMemoryRule;
 pub use view::{LogView, Part, Room, Site};

@@ -1,0 +1,23 @@
+-- Slots that a seat carries, on their way round.
+use Rattle.std.specs.Prelude.{◌≡◌, ℕ, ◌+◌, ◌-◌, ◌*◌, ◌≤◌, List, [], replicate}
+use Rattle.region.specs.declared.access.Access.{Access}
+use Rattle.region.specs.declared.access.WriteAccess.{WriteAccess}
+use Rattle.log_memory.specs.declared.view.Site.{Site}
+use Rattle.log_memory.specs.Steps.{Carries}
+
+-- whatever a slot has
+abbrev pub IsAnything : ℕ → Access → Type 0
+IsAnything k g = Unit {0}
+
+-- of so many slots from the number k on, the first i were seen to, and went behind the others
+pub record IsHalfway (now later : ℕ → Access → Type 0) (k count i : ℕ) (mine : List (ℕ × Access)) : Type 0 where
+  pub low : i ≤ count
+  pub behind : List (ℕ × Access)
+  pub done : Carries later k i [] behind
+  pub left : Carries now (k + i) (count - i) behind mine
+
+-- the right to write so many bytes, from those of the slot k on, which are zero
+pub record IsRun (t : Site) (k bytes : ℕ) (w : WriteAccess) : Type 0 where
+  pub identity : w.identity ≡ t.region.identity
+  pub at : w.at ≡ 4 * k
+  pub zeros : w.items ≡ replicate bytes 0

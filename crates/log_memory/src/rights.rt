@@ -1,0 +1,78 @@
+//! Rights to a log's bytes, between the slots that a seat carries and whoever writes there. They take no memory, so no call here
+//! leaves an instruction.
+
+ghost use Rattle.std.specs.Prelude.{◌≡◌, ℕ, ◌+◌, ◌*◌, ◌%◌, ◌^◌, ◌<◌, ◌≤◌, []};
+ghost use Rattle.atomic_table.specs.Table.{turned};
+ghost use Rattle.log_memory.specs.Rights.{IsAnything, IsHalfway, IsRun};
+ghost use Rattle.log_memory.specs.Steps.{Carries, IsRoomAt};
+
+use crate::rule::LogMemoryRule;
+use crate::view::{LogView, Site};
+use atomic_table::{Seat, Shared};
+use region::{Access, WriteAccess};
+
+/// A log's table, and a seat of it.
+pub type LogTable = Shared<Access, LogView, Site, LogMemoryRule>;
+
+pub type LogSeat = Seat<Access, LogView>;
+
+/// Seven slots go behind the others.
+fn pass_seven(seat: &mut LogSeat)
+    ensures same { (seat.new.table_id ≡ seat.old.table_id) × (seat.new.id ≡ seat.old.id) }
+    ensures turned { seat.new.me ≡ (
+      seat.old.me.0,
+      turned (turned (turned (turned (turned (turned
+          (turned seat.old.me.1)))))),
+    ) }
+{
+    seat.turn();
+    seat.turn();
+    seat.turn();
+    seat.turn();
+    seat.turn();
+    seat.turn();
+    seat.turn();
+}
+
+/// The right to write the next of so many units, of which the first `done` slots were emptied.
+#[tactic(auto, using(crate::proofs::Rounds::next_unit))]
+fn take_unit(
+    table: &LogTable,
+    seat: &mut LogSeat,
+    first: usize,
+    units: usize,
+    done: usize,
+) -> WriteAccess
+    requires seat { seat.old.table_id ≡ table.now.table_id }
+    requires place { (first % 8 ≡ 0) × (done % 8 ≡ 0) × (done + 8 ≤ 8 * units)
+        × (first + 8 * units < 2 ^ 60) }
+    requires row { IsHalfway (IsRoomAt table.now.key) IsAnything first (8 * units) done seat.old.me.1 }
+    ensures seat { (seat.new.table_id ≡ seat.old.table_id) × (seat.new.id ≡ seat.old.id)
+        × (seat.new.me.0 ≡ seat.old.me.0) }
+    ensures row { IsHalfway (IsRoomAt table.now.key) IsAnything first (8 * units) (done + 8) seat.new.me.1 }
+    ensures run { IsRun table.now.key (first + done) 32 result }
+{
+    let Access { write, read: _ } = table.exchange(seat, first + done, Access::none());
+    seat.turn();
+    pass_seven(seat);
+    write
+}
+
+/// The right to write all bytes of so many units, whose slots the seat carries, from the slot `first` on.
+pub fn gather(table: &LogTable, seat: &mut LogSeat, first: usize, units: usize) -> WriteAccess
+    requires seat { seat.old.table_id ≡ table.now.table_id }
+    requires place { (first % 8 ≡ 0) × (0 < units) × (first + 8 * units < 2 ^ 60) }
+    requires row { Carries (IsRoomAt table.now.key) first (8 * units) [] seat.old.me.1 }
+    ensures seat { (seat.new.table_id ≡ seat.old.table_id) × (seat.new.id ≡ seat.old.id)
+        × (seat.new.me.0 ≡ seat.old.me.0) }
+    ensures row { Carries IsAnything first (8 * units) [] seat.new.me.1 }
+    ensures run { IsRun table.now.key first (32 * units) result }
+{
+    let mut run = take_unit(table, seat, first, units, 0);
+    let mut taken = 1;
+    while taken < units {
+        run = run.append(take_unit(table, seat, first, units, 8 * taken));
+        taken += 1;
+    }
+    run
+}
