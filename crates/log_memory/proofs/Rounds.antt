@@ -4,7 +4,7 @@ use Rattle.atomic_table.specs.Table.{rest, turned}
 use Rattle.region.specs.declared.access.Access.{Access}
 use Rattle.region.specs.declared.access.WriteAccess.{WriteAccess}
 use Rattle.log_memory.specs.declared.view.Site.{Site}
-use Rattle.log_memory.specs.Rights.{IsHalfway, IsRun}
+use Rattle.log_memory.specs.Rights.{IsHalfway, IsRun, turned_by}
 use Rattle.log_memory.specs.Steps.{Carries}
 
 -- what is behind a row may be more
@@ -70,3 +70,10 @@ longer_run t k n a b x y = record {
     more : (m p : ℕ) → replicate {A = ℕ} m 0 ++ replicate p 0 ≡ replicate (m + p) 0
     more zero p = ap (λ (q : ℕ). replicate q 0) (let e : p ≡ 0 + p = omega arith in e)
     more (suc m) p = ap (λ (l : List ℕ). 0 ∷ l) (more m p) ∙ ap (λ (q : ℕ). replicate q 0) (let e : suc (m + p) ≡ suc m + p = omega arith in e)
+
+-- those that are left go behind the others, as they are
+pub turn_rest : (now later : ℕ → Access → Type 0) (k count i n : ℕ) (mine : List (ℕ × Access)) → IsHalfway now later k count i mine → i + n ≤ count → ((j : ℕ) (g : Access) → k + i ≤ j → now j g → later j g) → IsHalfway now later k count (i + n) (turned_by n mine)
+turn_rest now later k count i zero mine h le go = subst (λ (x : ℕ). IsHalfway now later k count x mine) (let e : i ≡ i + 0 = omega arith in e) h
+turn_rest now later k count i (suc n) mine h le go =
+    subst (λ (x : ℕ). IsHalfway now later k count x (turned_by n (turned mine))) (let e : i + 1 + n ≡ i + suc n = omega arith in e)
+    (turn_rest now later k count (i + 1) n (turned mine) (turn_left now later k count i mine h (omega arith) (λ g a. go (k + i) g (omega arith) a)) (omega arith) (λ j g le' a. go j g (omega arith) a))

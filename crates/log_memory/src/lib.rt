@@ -1,5 +1,5 @@
-//! The rule of a log whose frames lie in plain memory, and the kinds of step that keep it. No code stands over it yet: the
-//! log that threads share still has its frames in the words of its table.
+//! The rule of a log whose frames lie in plain memory, and the kinds of step that keep it. The log that threads share isn't
+//! over it yet: its frames are still words of its table.
 //!
 //! The words that `log_rule` speaks of, three terms of them, exist in the proofs alone here (`stream`). The table has the
 //! control words, and for each unit of 32 bytes one word more: the first of the committed frame that begins there, else
@@ -14,6 +14,9 @@
 //! consumers, and has all its slots then (`take_back`); it makes the bytes zero, and the store of zero over the word gives
 //! the units back as room (`give_room`).
 //!
+//! A seat carries slots in a row. `gather` makes one run of the memory of the units in it, and `deal_parts` puts the parts of a
+//! frame there: neither leaves an instruction.
+//!
 //! So each byte is written by one seat alone, or read by as many as have a part of it, in any schedule. A commit is many
 //! events of the stream at once: a store of each word of the frame, and that of its first. So is the load by which the
 //! keeper knows how far all is zero (`clean_to`): a store of zero over each word up to there. Every other kind of step is
@@ -26,6 +29,6 @@ mod rule;
 mod view;
 
 pub use law::{seats_keep, steps_keep};
-pub use rights::{LogSeat, LogTable, gather};
+pub use rights::{LogSeat, LogTable, deal_parts, gather};
 pub use rule::LogMemoryRule;
 pub use view::{LogView, Part, Room, Site};

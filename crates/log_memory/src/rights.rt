@@ -3,13 +3,13 @@
 
 ghost use Rattle.std.specs.Prelude.{◌≡◌, ℕ, ◌+◌, ◌*◌, ◌%◌, ◌^◌, ◌<◌, ◌≤◌, []};
 ghost use Rattle.atomic_table.specs.Table.{turned};
-ghost use Rattle.log_memory.specs.Rights.{IsAnything, IsHalfway, IsRun};
+ghost use Rattle.log_memory.specs.Rights.{IsAnything, IsEighthAt, IsHalfway, IsRun, turned_by};
 ghost use Rattle.log_memory.specs.Steps.{Carries, IsRoomAt};
 
 use crate::rule::LogMemoryRule;
 use crate::view::{LogView, Site};
 use atomic_table::{Seat, Shared};
-use region::{Access, WriteAccess};
+use region::{Access, EIGHTH, ReadAccess, WriteAccess};
 
 /// A log's table, and a seat of it.
 pub type LogTable = Shared<Access, LogView, Site, LogMemoryRule>;
@@ -75,4 +75,44 @@ pub fn gather(table: &LogTable, seat: &mut LogSeat, first: usize, units: usize) 
         taken += 1;
     }
     run
+}
+
+/// So many slots go behind the others.
+fn pass_slots(seat: &mut LogSeat, count: usize)
+    ensures same { (seat.new.table_id ≡ seat.old.table_id) × (seat.new.id ≡ seat.old.id) }
+    ensures turned { seat.new.me ≡ (seat.old.me.0, turned_by count seat.old.me.1) }
+{
+    let mut left = count;
+    while left > 0 {
+        seat.turn();
+        left -= 1;
+    }
+}
+
+/// A right to read all bytes of a frame is parted among its first unit's eight slots, of so many units that the seat carries.
+pub fn deal_parts(
+    table: &LogTable,
+    seat: &mut LogSeat,
+    whole: ReadAccess,
+    first: usize,
+    units: usize,
+)
+    requires seat { seat.old.table_id ≡ table.now.table_id }
+    requires whole { whole.count ≡ 2 ^ 63 }
+    requires place { (0 < units) × (first + 8 * units < 2 ^ 60) }
+    requires row { Carries IsAnything first (8 * units) [] seat.old.me.1 }
+    ensures seat { (seat.new.table_id ≡ seat.old.table_id) × (seat.new.id ≡ seat.old.id)
+        × (seat.new.me.0 ≡ seat.old.me.0) }
+    ensures row { Carries (IsEighthAt first whole) first (8 * units) [] seat.new.me.1 }
+{
+    let mut rest = whole;
+    let mut dealt = 0;
+    while dealt < 8 {
+        let (part, others) = rest.split(EIGHTH);
+        rest = others;
+        let _old = table.exchange(seat, first + dealt, Access::of_read(part));
+        seat.turn();
+        dealt += 1;
+    }
+    pass_slots(seat, 8 * units - 8);
 }
