@@ -15,7 +15,7 @@
 //! the units back as room (`give_room`).
 //!
 //! A seat carries slots in a row. `gather` makes one run of the memory of the units in it, and `deal_parts` puts the parts of a
-//! frame there: neither leaves an instruction.
+//! frame there: neither moves a byte.
 //!
 //! So each byte is written by one seat alone, or read by as many as have a part of it, in any schedule. A commit is many
 //! events of the stream at once: a store of each word of the frame, and that of its first. So is the load by which the

@@ -1,5 +1,5 @@
 //! Rights to a log's bytes, between the slots that a seat carries and whoever writes there. They take no memory, so no call here
-//! leaves an instruction.
+//! moves a byte.
 
 ghost use Rattle.std.specs.Prelude.{◌≡◌, ℕ, ◌+◌, ◌*◌, ◌%◌, ◌^◌, ◌<◌, ◌≤◌, []};
 ghost use Rattle.atomic_table.specs.Table.{turned};
