@@ -49,7 +49,7 @@ fn units_of(key: &Key) -> u64
     3 * u64::from(key.identity.geometry().term_length()) / 32
 }
 
-/// The power of two that the units of a term are.
+/// By how many bits the number of a unit is shifted to count the terms before it.
 fn shift_of(key: &Key) -> u32
     ensures power { 32 * 2 ^ result ≡ key.now.identity.geometry.term_length }
     ensures low { result < 32 }

@@ -20,8 +20,8 @@ pub(crate) const IMAGE: usize = 128;
 /// The words of an image, and the slots with the parts of its frames.
 pub(crate) type ImageTable = Table<ReadAccess, View, Site, ImageRule, Global>;
 
-/// The table, what it is told of, the units of its ring, which of them make a term, as a power of two, and the region where the
-/// frames lie.
+/// The table, what it is told of, the units of its ring, by how many bits a unit's number is shifted to count the terms before it,
+/// and the region where the frames lie.
 #[derive(Drop)]
 pub(crate) struct Words {
     pub(crate) table: ImageTable,

@@ -112,7 +112,8 @@ fn set_first_as<N: Picked>(image: &Words, hand: &mut Hand, place: usize, draft: 
     commit_as::<N>(image, hand, place, word);
 }
 
-/// Sets the bits of a frame whose parts are in its slots, which are out. Its start bit and its first held bit have these words.
+/// Sets the bits of a frame whose parts are in its slots, which are out. Its start bit lies in the word with the number `start`,
+/// its first held bit in that with the number `held`.
 fn mark(image: &Words, hand: &mut Hand, start: usize, held: usize, draft: &Draft<'_>)
     requires fits { hand.old.seat.table_id ≡ image.now.table.shared.table_id }
     requires start { (start ≡ start_place (ring image.now.key) draft.now.unit) × (start <
@@ -133,7 +134,8 @@ fn mark(image: &Words, hand: &mut Hand, start: usize, held: usize, draft: &Draft
     set_first_as::<Brand>(image, hand, held, draft);
 }
 
-/// Stores a frame that may be inserted, of whose bytes this is all of the right to read them; its bits have these words.
+/// Stores a frame that may be inserted, whose bytes are written: `whole` is all of the right to read them. Its start bit lies in
+/// the word with the number `start`, its first held bit in that with the number `held`.
 fn store(
     image: &Words,
     hand: &mut Hand,
@@ -192,6 +194,7 @@ pub(crate) fn store_frame(
         frame: spell(&words.key.identity, start, frame),
     };
     let first = first_of(&draft.frame);
+    // All places are found before the first store, since nothing that was loaded before it is kept in a register.
     let place = words.place(draft.unit);
     let at = words.byte(draft.unit);
     let start = words.start_word(draft.unit);
