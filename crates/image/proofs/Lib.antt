@@ -16,7 +16,6 @@ pub mod Memories
 pub mod OneHand
 pub mod Opening
 pub mod Places
-pub mod Puts
 pub mod Resting
 pub mod RingPlaces
 pub mod Runs

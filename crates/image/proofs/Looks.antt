@@ -1,8 +1,8 @@
 -- What the inserter's words say of the units that it stored.
 use Rattle.std.proofs.Common.{◌≡◌, ℕ, ◌+◌, ◌-◌, ◌*◌, ◌/◌, ◌%◌, ◌^◌, ◌<◌, ◌≤◌, inl, inr, ⊎_elim, min, sym, ap, ◌∙◌, subst, arith, mod-lt, List}
 use Rattle.std.proofs.lemmas.Nat.{and_le_l}
-use Rattle.std.proofs.lemmas.Bool.{cases_lt, eq-eqb, eqb-true}
-use Rattle.std.specs.Prelude.{◌↔◌, Bool, IsTrue, bit_and, nat_eq, slice_index}
+use Rattle.std.proofs.lemmas.Bool.{cases_lt}
+use Rattle.std.specs.Prelude.{◌↔◌, Bool, IsTrue, bit_and, slice_index}
 use Rattle.std.specs.Int.{bit_at, w64, to_le_bytes, trailing_zeros}
 use Rattle.std.proofs.lemmas.Nat.Bits.{bit_at-lt, bit_at-trailing_zeros, bit_at_and, shr_and_one}
 use Rattle.theory.specs.Placed.{Placed}
@@ -108,11 +108,10 @@ pub on_free : (n m : InserterSeat) (from to : ℕ) (b : Bool) → n ≡ m → Is
 on_free n m from to b e is p q free = subst (λ (x : InserterSeat). IsTrue b ↔ AreFree x from to) e (λ yes'. free_to n is from to p q (free.0 yes'), λ f. free.1 (free_of n is from to p q f))
 
 pub on_start : (n m : InserterSeat) (position word : ℕ) → n ≡ m → IsInserting n.key n.view → position % 32 ≡ 0 → 32 * n.view.held.floor ≤ position → position < 32 * n.view.held.floor + 3 * n.key.identity.geometry.term_length → word ≡ slice_index n.view.held.words (start_place (ring n.key) (position / 32))
-    → IsTrue (nat_eq (bit_and (word / 2 ^ (position / 32 % 64)) 1) 1) ↔ HasStart (stored_by m) position
+    → (bit_and (word / 2 ^ (position / 32 % 64)) 1 ≡ 1) ↔ HasStart (stored_by m) position
 on_start n m p word e is unit lo hi w =
     let t = tells_start n is p word unit lo hi w in let k : ℕ = p / 32 % 64 in
-    subst (λ (x : InserterSeat). IsTrue (nat_eq (bit_and (word / 2 ^ k) 1) 1) ↔ HasStart (stored_by x) p) e
-    (λ yes'. t.0 (sym (shr_and_one word k) ∙ eqb-true (bit_and (word / 2 ^ k) 1) 1 yes'), λ s. eq-eqb (bit_and (word / 2 ^ k) 1) 1 (shr_and_one word k ∙ t.1 s))
+    subst (λ (x : InserterSeat). (bit_and (word / 2 ^ k) 1 ≡ 1) ↔ HasStart (stored_by x) p) e (λ one. t.0 (sym (shr_and_one word k) ∙ one), λ s. shr_and_one word k ∙ t.1 s)
 
 pub on_head : (n m : InserterSeat) (position first : ℕ) (head : FrameHead) → n ≡ m → IsInserting n.key n.view → IsFirstWord m position first → head ≡ head_by position (to_le_bytes w64 first) → IsHeadOf m position head
 on_head n m p first head e is is_first is_head = subst (λ (x : InserterSeat). IsHeadOf x p head) e (head_is n is p first head (subst (λ (x : InserterSeat). IsFirstWord x p first) (sym e) is_first) is_head)

@@ -5,8 +5,9 @@ use native.Mathlib.Decide.{dec_le}
 use Rattle.std.proofs.Math.Nat.{add-mul, div-div-eq-div-mul, dvd-mul_left, mod-mod_of_dvd, mul-le-mul_right, mul_left_comm}
 use Rattle.std.proofs.Math.Pow.{pow-lt}
 use Rattle.std.proofs.lemmas.Bool.{cases_lt}
-use Rattle.std.proofs.lemmas.Nat.{mod-mul-add, pow-add}
-use Rattle.std.specs.Int.{IsPowerOfTwo}
+use Rattle.std.proofs.lemmas.Nat.{mod-mul-add, pow-add, pow_pos}
+use Rattle.std.proofs.lemmas.Nat.Bits.{bit_at-pow_other, bit_at-trailing_zeros}
+use Rattle.std.specs.Int.{IsPowerOfTwo, bit_at, trailing_zeros, w32}
 
 -- ---- a unit's place
 
@@ -22,9 +23,24 @@ unit_power t (k, is) least =
           (k - 5, ap (λ m. m / 32) (is ∙ split) ∙ mul-div_cancel (2 ^ (k - 5)) (omega arith))
     ]
 
--- the units of three terms
-pub three_terms : (n t : ℕ) → 32 * n ≡ 3 * t → t % 65536 ≡ 0 → n ≡ 3 * (t / 32)
-three_terms n t bytes whole = omega arith
+-- a power of two has one bit
+one_bit : (k i : ℕ) → bit_at (2 ^ k) i ≡ 1 → i ≡ k
+one_bit k i set =
+    elim (cases_lt i k) [
+      | inl less ↦ absurd (omega (arith, set, bit_at-pow_other k i (λ e. absurd (omega (arith, e)))))
+      | inr more ↦
+          elim (cases_lt k i) [
+            | inl less ↦ absurd (omega (arith, set, bit_at-pow_other k i (λ e. absurd (omega (arith, e)))))
+            | inr most ↦ omega arith
+          ]
+    ]
+
+pub shift_power : (n : ℕ) → IsPowerOfTwo n → n < 2 ^ 32 → (2 ^ trailing_zeros w32 n ≡ n) × (trailing_zeros w32 n < 32)
+shift_power n (k, is) fits =
+    let some : 0 < n = rw is (pow_pos k) in
+    let low = bit_at-trailing_zeros w32 n some fits in
+    let place : trailing_zeros w32 n ≡ k = one_bit k (trailing_zeros w32 n) (ap (λ x. bit_at x (trailing_zeros w32 n)) (sym is) ∙ low.1) in
+    (ap (λ j. 2 ^ j) place ∙ sym is, low.0)
 
 -- what is left of a unit's number without the whole rings before it, which three terms make each
 pub ring_rest : (u n term terms : ℕ) → n ≡ 3 * term → terms ≡ u / term → (terms / 3 * n ≤ u) × (u - terms / 3 * n ≡ u % n)

@@ -78,10 +78,10 @@ pub record IsFound (ss : List Placed) (p : ℕ) (head : FrameHead) : Type 0 wher
   pub here : frame.at ≡ p
   pub size : head.frame_length ≡ frame_length frame.frame
 
-pub found : (n m k : InserterSeat) (p : ℕ) (head : FrameHead) → n ≡ m → k ≡ n → HasStart (stored_by n) p → IsHeadOf k p head → IsFound (stored_by m) p head
-found n m k p head same was h is = subst (λ (x : InserterSeat). IsFound (stored_by x) p head) same record {
+pub found : (n m : InserterSeat) (p : ℕ) (head : FrameHead) → n ≡ m → HasStart (stored_by n) p → IsHeadOf n p head → IsFound (stored_by m) p head
+found n m p head same h is = subst (λ (x : InserterSeat). IsFound (stored_by x) p head) same record {
   frame = h.frame;
   among = h.among;
   here = h.here;
-  size = ap (λ (x : FrameHead). x.frame_length) ((subst (λ (x : InserterSeat). IsHeadOf x p head) was is) h.frame h.among h.here) ∙ head_length p h.frame.frame;
+  size = ap (λ (x : FrameHead). x.frame_length) (is h.frame h.among h.here) ∙ head_length p h.frame.frame;
 }

@@ -49,6 +49,14 @@ fn units_of(key: &Key) -> u64
     3 * u64::from(key.identity.geometry().term_length()) / 32
 }
 
+/// By how many bits the number of a unit is shifted to count the terms before it.
+fn shift_of(key: &Key) -> u32
+    ensures power { 32 * 2 ^ result ≡ key.now.identity.geometry.term_length }
+    ensures low { result < 32 }
+{
+    (key.identity.geometry().term_length() / 32).trailing_zeros()
+}
+
 /// Its consumers stand at the join.
 fn begin(words: &mut Vec<u64>, consumers: u64, join: u64)
     requires few { consumers ≤ 8 }
@@ -179,6 +187,7 @@ pub(crate) fn open_words(
             table,
             key,
             units,
+            shift: shift_of(&key),
             region,
             start,
         },

@@ -8,7 +8,7 @@ ghost use Rattle.region.specs.Identity.{start_address};
 
 use atomic_table::Table;
 use image_rule::{ImageRule, Key, Site, View};
-use position::{Identity, split_by};
+use position::Identity;
 use region::{ReadAccess, Region, RegionStart};
 use std::alloc::Global;
 use std::marker::Model;
@@ -20,12 +20,14 @@ pub(crate) const IMAGE: usize = 128;
 /// The words of an image, and the slots with the parts of its frames.
 pub(crate) type ImageTable = Table<ReadAccess, View, Site, ImageRule, Global>;
 
-/// The table, what it is told of, the units of its ring, and the region where the frames lie.
+/// The table, what it is told of, the units of its ring, by how many bits a unit's number is shifted to count the terms before it,
+/// and the region where the frames lie.
 #[derive(Drop)]
 pub(crate) struct Words {
     pub(crate) table: ImageTable,
     pub(crate) key: Key,
     pub(crate) units: u64,
+    pub(crate) shift: u32,
     pub(crate) region: Arc<Region>,
     pub(crate) start: RegionStart,
     ghost is_of: { table.shared.key.key ≡ key },
@@ -34,6 +36,8 @@ pub(crate) struct Words {
     ghost is_key: { IsKey key },
     ghost units_is: { units ≡ ring key },
     ghost few: { units ≤ 2 ^ 40 },
+    ghost terms: { units ≡ 3 * 2 ^ shift },
+    ghost shifts: { shift < 32 },
     ghost low: { key.join ≤ 2 ^ 56 },
     ghost wide: { table.shared.table_id.words ≡ image_place + image_length units },
     ghost shelves: { table.shared.table_id.slots ≡ 8 * units },
@@ -42,13 +46,12 @@ pub(crate) struct Words {
 impl Words {
     /// Where a unit lies in the ring. It takes no division but by three.
     #[inline(always)]
-    fn ring_unit(&self, unit: u64) -> u64
+    pub(crate) fn place(&self, unit: u64) -> usize
         ensures is { result ≡ unit % ring self.now.key }
         ensures low { result < ring self.now.key }
     {
         let _ = &self.table;
-        let (terms, _) = split_by(unit, self.key.identity.geometry().term_length() / 32);
-        unit - terms / 3 * self.units
+        (unit - (unit >> self.shift) / 3 * self.units) as usize
     }
 
     /// The word of the image with a unit's held bit.
@@ -59,7 +62,7 @@ impl Words {
         ensures inside { result < image_length (ring self.now.key) }
     {
         let _ = &self.table;
-        (self.ring_unit(unit) / 64) as usize
+        self.place(unit) / 64
     }
 
     /// The word of the image with a unit's start bit.
@@ -69,17 +72,7 @@ impl Words {
         ensures inside { result < image_length (ring self.now.key) }
     {
         let _ = &self.table;
-        (self.units / 64 + self.ring_unit(unit) / 64) as usize
-    }
-
-    /// Where a unit lies in the ring.
-    #[inline(always)]
-    pub(crate) fn place(&self, unit: u64) -> usize
-        ensures is { result ≡ unit % ring self.now.key }
-        ensures low { result < ring self.now.key }
-    {
-        let _ = &self.table;
-        self.ring_unit(unit) as usize
+        self.units as usize / 64 + self.place(unit) / 64
     }
 
     /// The slot with the part of a consumer of the frame that begins at a unit.
@@ -90,7 +83,7 @@ impl Words {
         ensures inside { result < 8 * ring self.now.key }
     {
         let _ = &self.table;
-        (8 * self.ring_unit(unit) + number) as usize
+        8 * self.place(unit) + number as usize
     }
 
     /// Where a unit's bytes begin in the region.
@@ -100,7 +93,7 @@ impl Words {
         ensures inside { result + 32 ≤ 32 * ring self.now.key }
     {
         let _ = &self.table;
-        (32 * self.ring_unit(unit)) as usize
+        32 * self.place(unit)
     }
 }
 
@@ -111,7 +104,7 @@ pub(crate) fn mask(low: u64, high: u64) -> u64
     requires within { high ≤ 64 }
     ensures { IsMask result low high }
 {
-    (u64::MAX << low) & (u64::MAX >> (64 - high))
+    (u64::MAX >> (64 - (high - low))) << low
 }
 
 /// An image that threads share: its words stand in a table, its frames lie in a region.

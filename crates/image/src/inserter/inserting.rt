@@ -3,6 +3,7 @@
 ghost use Rattle.std.specs.Prelude.{◌≡◌, ◌+◌, ◌*◌, ◌%◌, ◌^◌, ◌<◌, ◌≤◌, ℕ, false, true, pos, map, ◌-◌, ◌/◌};
 ghost use Rattle.frames.specs.Frames.{wire};
 ghost use Rattle.theory.specs.Insert.{head_of, insert_answer_at, insert_answer, is_duplicate};
+ghost use Rattle.theory.specs.Placed as placed;
 ghost use Rattle.theory.specs.Placed.{frame_length, is_padding};
 ghost use Rattle.theory.specs.Wire.{IsFrame};
 ghost use Rattle.image.specs.Seen.{accepts, least, crosses};
@@ -14,49 +15,17 @@ ghost use Rattle.image.specs.Kinds.{is_pad};
 ghost use Rattle.image.specs.Handles as seats;
 ghost use Rattle.image.specs.Handles.{floor_of, stored_by};
 ghost use Rattle.theory.specs.Units.{IsContiguous};
-ghost use Rattle.image.specs.Inserting.{Stores};
 ghost use Rattle.image.specs.Runs.{AreBelow, IsRun};
 
 use crate::answer::Insert;
 use crate::held::{crosses_term, is_like, measure};
 use crate::inserter::frame_store::FrameStore;
-use crate::inserter::looking::{head_at, is_free, starts_at};
+use crate::inserter::looking::{head_at, is_free};
 use crate::inserter::storing::store_frame;
 use crate::inserter::{Inserter, least};
 use crate::words::Image;
 use frames::Frame;
-use position::{FrameHead, FrameKind, UNFRAGMENTED, align32};
-
-/// Stores a frame that fits.
-pub(crate) fn put(image: &Image, words: &mut FrameStore, start: u64, frame: &Frame<'_>)
-    requires fits { seats.IsStoreOf image.now words.old }
-    requires frame { IsFrame (wire frame.now) }
-    requires of_stream { IsOfStream frame.now }
-    requires may { FitsIn words.old.key.identity.geometry (floor_of words.old) (stored_by words.old) (record { at = start; frame = stream_frame frame.now }) }
-    ensures { Stores words.old (record { at = start; frame = stream_frame frame.now }) words.new }
-{
-    match *frame {
-        Frame::Data { flags, payload, .. } => {
-            let head = FrameHead {
-                start,
-                kind: FrameKind::Data,
-                flags,
-                frame_length: payload.len() as u32 + 32,
-            };
-            store_frame(image, words, &head, payload);
-        }
-        Frame::Pad { frame_length, .. } => {
-            let head = FrameHead {
-                start,
-                kind: FrameKind::Pad,
-                flags: UNFRAGMENTED,
-                frame_length,
-            };
-            store_frame(image, words, &head, &[]);
-        }
-        _ => unreachable!(),
-    }
-}
+use position::{FrameKind, align32};
 
 /// The end of what was stored without a gap, which lies from a position on, at the high-water mark or below.
 pub(crate) fn run_end(image: &Image, words: &mut FrameStore, from: u64, high_water: u64) -> u64
@@ -75,10 +44,9 @@ pub(crate) fn run_end(image: &Image, words: &mut FrameStore, from: u64, high_wat
 {
     let mut end = from;
     while end < high_water {
-        if !starts_at(image, words, end) {
+        let Some(head) = head_at(image, words, end) else {
             return end;
-        }
-        let head = head_at(image, words, end);
+        };
         end += u64::from(align32(head.frame_length));
     }
     end
@@ -101,10 +69,9 @@ fn has_like(
     ensures same { words.new ≡ words.old }
     ensures like { result ≡ list_any (is_duplicate (record { at = start; padding = is_pad kind; length = frame_length })) (map head_of (stored_by words.old)) }
 {
-    if !starts_at(image, words, start) {
+    let Some(head) = head_at(image, words, start) else {
         return false;
-    }
-    let head = head_at(image, words, start);
+    };
     is_like(&head, kind, frame_length)
 }
 
@@ -183,18 +150,19 @@ pub(crate) fn judge(
     )
 }
 
-/// Stores one more frame.
-fn store(image: &Image, inserter: &mut Inserter, start: u64, frame: &Frame<'_>)
+/// Stores one more frame, of this length.
+fn store(image: &Image, inserter: &mut Inserter, start: u64, frame_length: u32, frame: &Frame<'_>)
     requires fits { IsInserterOf image.now inserter.old }
     requires frame { IsFrame (wire frame.now) }
     requires of_stream { IsOfStream frame.now }
+    requires length { frame_length ≡ placed.frame_length (stream_frame frame.now) }
+    requires short { frame_length ≤ 2 ^ 24 }
     requires may { FitsIn (geometry_of inserter.old) inserter.old.floor inserter.old.stored (record { at = start; frame = stream_frame frame.now }) }
     ensures { inserter.new ≡ with_frame inserter.old (record { at = start; frame = stream_frame frame.now }) }
 {
     let _ = &inserter.words;
-    let (_, frame_length) = measure(frame);
     let end = start + u64::from(align32(frame_length));
-    put(image, &mut inserter.words, start, frame);
+    store_frame(image, &mut inserter.words, start, frame_length, frame);
     inserter.high_water = inserter.high_water.max(end);
     inserter.rebuilt = run_end(
         image,
@@ -222,7 +190,7 @@ pub fn insert(image: &Image, inserter: &mut Inserter, position: i64, frame: &Fra
     let answer = judge(image, inserter, position, kind, frame_length);
     if answer == Insert::Stored {
         let _ = &inserter.words;
-        store(image, inserter, position as u64, frame);
+        store(image, inserter, position as u64, frame_length, frame);
     }
     answer
 }

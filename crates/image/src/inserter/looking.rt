@@ -1,6 +1,6 @@
 //! The inserter looks at what it has stored.
 
-ghost use Rattle.std.specs.Prelude.{◌≡◌, ◌+◌, ◌*◌, ◌/◌, ◌%◌, ◌^◌, ◌<◌, ◌≤◌, ◌↔◌, IsTrue};
+ghost use Rattle.std.specs.Prelude.{◌≡◌, ◌+◌, ◌*◌, ◌/◌, ◌%◌, ◌<◌, ◌≤◌, ◌↔◌, IfNone, IfSome, IsTrue};
 ghost use Rattle.image_rule.specs.Frames.{HasStart, ring};
 ghost use Rattle.image_rule.specs.Bits as bits;
 ghost use Rattle.image_rule.specs.Bits.{IsExact};
@@ -66,34 +66,25 @@ pub(crate) fn held_bits(image: &Image, inserter: &mut FrameStore, index: usize) 
     fetch_as::<Brand>(&image.words, &mut inserter.hand, index)
 }
 
-/// Whether a frame that was stored starts at a position from the floor on, below three terms more.
-pub(crate) fn starts_at(image: &Image, inserter: &mut FrameStore, position: u64) -> bool
+/// The head of the frame that was stored at a position from the floor on, below three terms more, where one starts there.
+pub(crate) fn head_at(image: &Image, inserter: &mut FrameStore, position: u64) -> Option<FrameHead>
     requires fits { IsStoreOf image.now inserter.old }
     requires unit { position % 32 ≡ 0 }
     requires low { floor_of inserter.old ≤ position }
     requires near { position < floor_of inserter.old + 3 * inserter.old.key.identity.geometry.term_length }
     ensures same { inserter.new ≡ inserter.old }
-    ensures starts { IsTrue result ↔ HasStart (stored_by inserter.old) position }
+    ensures none { IfNone result (HasStart (stored_by inserter.old) position → ⊥) }
+    ensures head { IfSome result (λ head. HasStart (stored_by inserter.old) position × IsHeadOf
+        inserter.old position head) }
 {
     let _ = &image.words;
     let _ = &inserter.hand;
     let unit = position / 32;
-    let place = image.words.start_word(unit);
-    let word = fetch_as::<Brand>(&image.words, &mut inserter.hand, place);
-    (word >> (unit % 64)) & 1 == 1
-}
-
-/// The head of the frame that was stored at a position from the floor on.
-pub(crate) fn head_at(image: &Image, inserter: &mut FrameStore, position: u64) -> FrameHead
-    requires fits { IsStoreOf image.now inserter.old }
-    requires unit { position % 32 ≡ 0 }
-    requires low { floor_of inserter.old ≤ position }
-    requires below { position < 2 ^ 62 }
-    requires starts { HasStart (stored_by inserter.old) position }
-    ensures same { inserter.new ≡ inserter.old }
-    ensures head { IsHeadOf inserter.old position result }
-{
-    let _ = &inserter.hand;
-    let place = image.words.place(position / 32);
-    head_in(inserter.heads.as_slice()[place], position)
+    let place = image.words.place(unit);
+    let start = image.words.start_word(unit);
+    let word = fetch_as::<Brand>(&image.words, &mut inserter.hand, start);
+    if (word >> (unit % 64)) & 1 != 1 {
+        return None;
+    }
+    Some(head_in(inserter.heads.as_slice()[place], position))
 }

@@ -29,18 +29,22 @@ pub(crate) struct Room {
     ghost starts: { start.address ≡ start_address region.value.identity },
 }
 
-/// A frame that is stored: the unit at which it starts, how many units it covers, its first eight bytes as a word, and what it
-/// is on the wire.
+/// A frame that is stored: the unit at which it starts, how many units it covers, and what it is on the wire.
 #[derive(Clone, Copy)]
 pub(crate) struct Draft<'a> {
     pub(crate) unit: u64,
     pub(crate) units: u64,
-    pub(crate) first: u64,
     pub(crate) frame: Frame<'a>,
 }
 
-/// Writes a frame to its place in the ring, whose bytes were free. The answer is all of the right to read it.
-pub(crate) fn write_draft(image: &Words, room: Room, draft: &Draft<'_>) -> (Room, ReadAccess)
+/// Writes a frame to its place in the ring, where its bytes begin, which were free. The answer is all of the right to read it.
+pub(crate) fn write_draft(
+    image: &Words,
+    room: Room,
+    at: usize,
+    draft: &Draft<'_>,
+) -> (Room, ReadAccess)
+    requires at { at ≡ byte_place (ring image.now.key) draft.now.unit }
     requires frame { IsFrame (wire draft.now.frame) }
     requires some { 0 < draft.now.units }
     requires short { draft.now.units ≤ 2 ^ 40 }
@@ -60,7 +64,6 @@ pub(crate) fn write_draft(image: &Words, room: Room, draft: &Draft<'_>) -> (Room
         region,
         start,
     } = room;
-    let at = image.byte(draft.unit);
     let length = 32 * draft.units as usize;
     let (access, pool) = pool.take(at, length);
     let (mut bytes, loan) = access.lend(region, start, at, length);

@@ -1,25 +1,28 @@
 //! A frame is stored: its bytes, the right to read them, its start bit, the held bits in later words than its first unit's, and
 //! last those in that word.
 
-ghost use Rattle.std.specs.Prelude.{◌≡◌, [], suc, ◌+◌, ◌*◌, ◌/◌, ◌%◌, ◌^◌, ◌<◌, ◌≤◌, true, false, length};
+ghost use Rattle.std.specs.Prelude.{◌≡◌, [], ◌+◌, ◌*◌, ◌/◌, ◌%◌, ◌^◌, ◌<◌, ◌≤◌, length};
 ghost use Rattle.frames.specs.Frames.{wire};
+ghost use Rattle.theory.specs.Placed as placed;
 ghost use Rattle.theory.specs.Wire.{IsFrame};
-ghost use Rattle.region.specs.Pooled.{AreAll, stands};
-ghost use Rattle.image_rule.specs.Frames.{byte_place, held_place, image_length, ring, start_place};
+ghost use Rattle.image_rule.specs.Frames.{held_place, image_length, ring, start_place};
 ghost use Rattle.image_rule.specs.Bits.{IsExact, Marked, MayInsert, MaySet, SetsBits, Stored, next_word, rest_end};
-ghost use Rattle.image_rule.specs.Steps.{Carries, MayCommit};
-ghost use Rattle.image.specs.Parts.{AnyPart, IsShare};
+ghost use Rattle.image_rule.specs.Steps.{MayCommit};
 ghost use Rattle.image.specs.Drafted.{drafted};
-ghost use Rattle.image.specs.Handles.{IsStoreOf};
-ghost use Rattle.image.specs.Inserting.{MayStore, Stores, placed_by};
+ghost use Rattle.image.specs.Handles.{IsStoreOf, floor_of, stored_by};
+ghost use Rattle.image.specs.Inserting.{Stores};
+ghost use Rattle.image.specs.Parts.{IsShare};
+ghost use Rattle.image.specs.Rebuilding.{FitsIn};
+ghost use Rattle.image.specs.Stored.{IsOfStream, stream_frame};
 
 use crate::inserter::frame_store::FrameStore;
 use crate::inserter::hand::{Hand, commit_as, fetch_as, store_as, take_as};
-use crate::inserter::room::{Draft, Room, deal_parts, write_draft};
+use crate::inserter::room::{Draft, deal_parts, write_draft};
 use crate::inserter::spelling::{first_of, spell};
 use crate::words::{Image, Words, mask};
+use frames::Frame;
 use image_rule::{Changing, Picked};
-use position::{FrameHead, align32};
+use position::align32;
 use region::ReadAccess;
 use std::marker::Brand;
 
@@ -109,24 +112,14 @@ fn set_first_as<N: Picked>(image: &Words, hand: &mut Hand, place: usize, draft: 
     commit_as::<N>(image, hand, place, word);
 }
 
-/// Puts each consumer's part of a frame into its slot.
-fn deal_draft(image: &Words, hand: &mut Hand, draft: &Draft<'_>, whole: ReadAccess)
+/// Sets the bits of a frame whose parts are in its slots, which are out. Its start bit lies in the word with the number `start`,
+/// its first held bit in that with the number `held`.
+fn mark(image: &Words, hand: &mut Hand, start: usize, held: usize, draft: &Draft<'_>)
     requires fits { hand.old.seat.table_id ≡ image.now.table.shared.table_id }
-    requires out { hand.old.seat.me.0.held.out ≡ suc draft.now.unit }
-    requires slots { Carries image.now.table.shared.key AnyPart draft.now.unit hand.old.seat.me.1 }
-    requires whole { IsShare (ring image.now.key) image.now.table.shared.key.region (drafted
-        draft.now) (2 ^ 63) whole }
-    ensures fits { hand.new.seat.table_id ≡ hand.old.seat.table_id }
-    ensures same { hand.new.seat.me.0 ≡ hand.old.seat.me.0 }
-    ensures parts { MayCommit image.now.table.shared.key (drafted draft.now) hand.new.seat.me }
-{
-    let _ = &image.table;
-    deal_parts::<Brand>(image, hand, draft, whole);
-}
-
-/// Sets the bits of a frame whose parts are in its slots, which are out.
-fn mark(image: &Words, hand: &mut Hand, draft: &Draft<'_>)
-    requires fits { hand.old.seat.table_id ≡ image.now.table.shared.table_id }
+    requires start { (start ≡ start_place (ring image.now.key) draft.now.unit) × (start <
+        image_length (ring image.now.key)) }
+    requires held { (held ≡ held_place (ring image.now.key) draft.now.unit) × (held < image_length
+        (ring image.now.key)) }
     requires exact { IsExact image.now.key hand.old.seat.me.0.held }
     requires may { MayInsert image.now.key hand.old.seat.me.0.held (drafted draft.now) }
     requires parts { MayCommit image.now.table.shared.key (drafted draft.now) hand.old.seat.me }
@@ -136,67 +129,81 @@ fn mark(image: &Words, hand: &mut Hand, draft: &Draft<'_>)
 {
     let _ = &image.table;
     let _ = &hand.seat;
-    let start = image.start_word(draft.unit);
-    let held = image.held_word(draft.unit);
     set_start(image, hand, start, draft);
     mark_rest(image, hand, draft);
     set_first_as::<Brand>(image, hand, held, draft);
 }
 
-/// Stores a frame that may be inserted, whose bytes are free yet.
-fn store(image: &Words, hand: &mut Hand, room: Room, draft: &Draft<'_>) -> Room
+/// Stores a frame that may be inserted, whose bytes are written: `whole` is all of the right to read them. Its start bit lies in
+/// the word with the number `start`, its first held bit in that with the number `held`.
+fn store(
+    image: &Words,
+    hand: &mut Hand,
+    start: usize,
+    held: usize,
+    draft: &Draft<'_>,
+    whole: ReadAccess,
+)
     requires fits { hand.old.seat.table_id ≡ image.now.table.shared.table_id }
+    requires start { (start ≡ start_place (ring image.now.key) draft.now.unit) × (start <
+        image_length (ring image.now.key)) }
+    requires held { (held ≡ held_place (ring image.now.key) draft.now.unit) × (held < image_length
+        (ring image.now.key)) }
     requires idle { (hand.old.seat.me.1 ≡ []) × (hand.old.seat.me.0.held.out ≡ 0) }
     requires exact { IsExact image.now.key hand.old.seat.me.0.held }
     requires may { MayInsert image.now.key hand.old.seat.me.0.held (drafted draft.now) }
-    requires frame { IsFrame (wire draft.now.frame) }
-    requires lies { room.pool.identity ≡ image.now.table.shared.key.region.identity }
-    requires free { AreAll true (byte_place (ring image.now.key) draft.now.unit) (32 *
-        draft.now.units) room.pool.free }
+    requires whole { IsShare (ring image.now.key) image.now.table.shared.key.region (drafted
+        draft.now) (2 ^ 63) whole }
     ensures fits { hand.new.seat.table_id ≡ hand.old.seat.table_id }
     ensures slots { hand.new.seat.me.1 ≡ [] }
     ensures stored { Stored image.now.key hand.old.seat.me.0 (drafted draft.now) hand.new.seat.me.0 }
-    ensures lies { result.pool.identity ≡ room.pool.identity }
-    ensures rest { result.pool.free ≡ stands false (byte_place (ring image.now.key) draft.now.unit)
-        (32 * draft.now.units) room.pool.free }
 {
     let _ = &image.table;
     let _ = &hand.seat;
-    let (room, whole) = write_draft(image, room, draft);
     take_as::<Brand>(image, hand, draft.unit);
-    deal_draft(image, hand, draft, whole);
-    mark(image, hand, draft);
-    room
+    deal_parts::<Brand>(image, hand, draft, whole);
+    mark(image, hand, start, held, draft);
 }
 
-/// Stores a frame that lies at or above the floor, at most three terms above it, where none of its units was stored: a DATA
-/// frame with this payload, or a padding. It counts as stored from the store of its first unit's held bit on, which comes
-/// last.
+/// Stores a frame of a stream, of this length, at a position from the floor on, where none of its units was stored. It counts
+/// as stored from the store of its first unit's held bit on, which comes last.
 pub(crate) fn store_frame(
     image: &Image,
     inserter: &mut FrameStore,
-    head: &FrameHead,
-    payload: &[u8],
+    start: u64,
+    frame_length: u32,
+    frame: &Frame<'_>,
 )
     requires fits { IsStoreOf image.now inserter.old }
-    requires may { MayStore inserter.old head.now payload.now }
+    requires frame { IsFrame (wire frame.now) }
+    requires of_stream { IsOfStream frame.now }
+    requires length { frame_length ≡ placed.frame_length (stream_frame frame.now) }
+    requires short { frame_length ≤ 2 ^ 24 }
+    requires may { FitsIn inserter.old.key.identity.geometry (floor_of inserter.old) (stored_by
+        inserter.old) (record { at = start; frame = stream_frame frame.now }) }
     ensures fits { IsStoreOf image.now inserter.new }
-    ensures stored { Stores inserter.old (placed_by head.now payload.now) inserter.new }
+    ensures stored { Stores inserter.old (record { at = start; frame = stream_frame frame.now })
+        inserter.new }
 {
     let _ = &image.words;
     let _ = &inserter.hand;
-    let unit = head.start / 32;
+    let words = &image.words;
     let draft = Draft {
-        unit,
-        units: u64::from(align32(head.frame_length)) / 32,
-        first: first_of(head),
-        frame: spell(&image.words.key.identity, head, payload),
+        unit: start / 32,
+        units: u64::from(align32(frame_length)) / 32,
+        frame: spell(&words.key.identity, start, frame),
     };
+    let first = first_of(&draft.frame);
+    // All places are found before the first store, since nothing that was loaded before it is kept in a register.
+    let place = words.place(draft.unit);
+    let at = words.byte(draft.unit);
+    let start = words.start_word(draft.unit);
+    let held = words.held_word(draft.unit);
     let Some(room) = inserter.room.take() else {
         unreachable!();
     };
-    let room = store(&image.words, &mut inserter.hand, room, &draft);
+    let (room, whole) = write_draft(words, room, at, &draft);
     inserter.room = Some(room);
-    let place = image.words.place(unit);
-    inserter.heads[place] = draft.first;
+    inserter.heads[place] = first;
+    store(words, &mut inserter.hand, start, held, &draft, whole);
 }

@@ -4,7 +4,7 @@ ghost use Rattle.std.specs.Prelude.{◌≡◌, ℕ, ◌*◌, ◌^◌, ◌≤◌,
 ghost use Rattle.theory.specs.Placed.{payload_of};
 ghost use Rattle.position.specs.Heads.{head_of};
 ghost use Rattle.frame_words.specs.Contents.{head_by};
-ghost use Rattle.image_rule.specs.Frames.{Says, end_of, frame_said, ring};
+ghost use Rattle.image_rule.specs.Frames.{Says, byte_place, end_of, frame_said, ring};
 ghost use Rattle.image_rule.specs.Reads.{IsFound, first_of};
 ghost use Rattle.image.specs.Finding.{FindsFrame, FindsHere, FindsNothing, PassesOn};
 ghost use Rattle.image.specs.Handles.{IsReaderOf, position_of};
@@ -38,34 +38,33 @@ fn head_among(bytes: &[u8], start: u64) -> FrameHead
     }
 }
 
-/// The head of the frame at a unit that a part shows.
-fn shown_head<N: Picked>(image: &Words, part: &ReadAccess, unit: u64) -> FrameHead
+/// The head of the frame at a unit, whose bytes begin here, that a part shows.
+fn shown_head<N: Picked>(image: &Words, part: &ReadAccess, unit: u64, at: usize) -> FrameHead
     requires says { Says N.frame × (N.frame.unit ≡ unit) }
     requires few { unit ≤ 2 ^ 56 }
+    requires at { at ≡ byte_place (ring image.now.key) N.frame.unit }
     requires part { IsPartOf (ring image.now.key) image.now.table.shared.key.region N.frame part.now }
     ensures { result ≡ head_of (32 * unit) (frame_said N.frame.bytes) }
 {
     let _ = &image.table;
-    let at = image.byte(unit);
     head_among(part.bytes(&image.region, image.start, at, 8), 32 * unit)
 }
 
-/// The payload of the frame at a unit that a part shows, which has so many bytes, where it lies.
+/// The payload of the frame that a part shows, whose bytes begin here, and whose payload has so many, where it lies.
 fn shown_payload<'a, N: Picked>(
     image: &'a Words,
     part: &'a ReadAccess,
-    unit: u64,
+    at: usize,
     count: usize,
 ) -> &'a [u8]
-    requires says { Says N.frame × (N.frame.unit ≡ unit) }
-    requires few { unit ≤ 2 ^ 56 }
+    requires says { Says N.frame }
+    requires at { at ≡ byte_place (ring image.now.key) N.frame.unit }
     requires part { IsPartOf (ring image.now.key) image.now.table.shared.key.region N.frame part.now }
     requires count { count ≡ length (payload_of (frame_said N.frame.bytes)) }
     requires low { count ≤ 65472 }
     ensures { result.now ≡ payload_of (frame_said N.frame.bytes) }
 {
     let _ = &image.table;
-    let at = image.byte(unit);
     &part.bytes(&image.region, image.start, at, 32 + count)[32..]
 }
 
@@ -82,32 +81,36 @@ fn payload_length<N: Picked>(head: &FrameHead) -> usize
     }
 }
 
-/// Hands the frame at a unit that a part shows to who takes it.
+/// Hands the frame at a unit, whose bytes begin here, that a part shows to who takes it.
 fn read_part<N: Picked, H: FrameHandler>(
     image: &Words,
     part: &ReadAccess,
     unit: u64,
+    at: usize,
     handler: &mut H,
 ) -> FrameHead
     requires says { Says N.frame × (N.frame.unit ≡ unit) }
     requires few { unit ≤ 2 ^ 56 }
+    requires at { at ≡ byte_place (ring image.now.key) N.frame.unit }
     requires part { IsPartOf (ring image.now.key) image.now.table.shared.key.region N.frame part.now }
     ensures head { result ≡ head_of (32 * unit) (frame_said N.frame.bytes) }
     ensures handed { H.takes handler.old result (payload_of (frame_said N.frame.bytes)) handler.new }
 {
     let _ = &image.table;
-    let head = shown_head::<N>(image, part, unit);
+    let head = shown_head::<N>(image, part, unit, at);
     let count = payload_length::<N>(&head);
-    handler.on_frame(&head, shown_payload::<N>(image, part, unit, count));
+    handler.on_frame(&head, shown_payload::<N>(image, part, at, count));
     head
 }
 
-/// Hands the frame that the reader found last, of which it has its part, to who takes it.
+/// Hands the frame that the reader found last, of which it has its part and whose bytes begin here, to who takes it.
 fn read_held<N: Picked, H: FrameHandler>(
     image: &Words,
     reader: &mut Standing,
+    at: usize,
     handler: &mut H,
 ) -> FrameHead
+    requires at { at ≡ byte_place (ring image.now.key) reader.old.unit }
     requires chosen { N.frame ≡ first_of reader.old.seat.me.0.reading.known }
     requires fits { reader.old.seat.table_id ≡ image.now.table.shared.table_id }
     requires ring { (reader.old.units ≡ ring image.now.key) × (reader.old.region ≡
@@ -126,7 +129,7 @@ fn read_held<N: Picked, H: FrameHandler>(
     let words = &image.table.shared;
     let slot = image.slot(reader.unit, reader.number);
     let part = words.exchange(&mut reader.seat, slot, ReadAccess::none());
-    let head = read_part::<N, H>(image, &part, reader.unit, handler);
+    let head = read_part::<N, H>(image, &part, reader.unit, at, handler);
     let _none = words.exchange(&mut reader.seat, slot, part);
     reader.read_to = reader.unit + u64::from(align32(head.frame_length)) / 32;
     head
@@ -149,11 +152,12 @@ pub fn read_with<H: FrameHandler>(
     ensures may { IfSome result (λ _. MayAdvance reader.new) }
 {
     let _ = &image.words;
+    let at = image.words.byte(reader.standing.unit);
     let word = look_as::<Brand>(&image.words, &mut reader.standing);
     if (word >> (reader.standing.unit % 64)) & 1 == 0 {
         return None;
     }
-    Some(read_held::<Brand, H>(&image.words, &mut reader.standing, handler))
+    Some(read_held::<Brand, H>(&image.words, &mut reader.standing, at, handler))
 }
 
 /// Reads the frame that was stored where the reader stands: its payload is copied to the block's front, and the reader stays.

@@ -1,4 +1,4 @@
-use Rattle.std.proofs.Common.{◌≡◌, ℕ, false, true, refl, subst, ◌∙◌}
+use Rattle.std.proofs.Common.{◌≡◌, ℕ, refl, subst, ◌∙◌}
 use Rattle.theory.specs.Placed.{Among, Placed}
 use Rattle.position.specs.declared.head.FrameHead.{FrameHead}
 use Rattle.image.specs.Kinds.{head_at, is_pad}
@@ -7,13 +7,13 @@ use Rattle.image.specs.Looking.{IsHeadOf}
 use Rattle.image.proofs.Judged.{head_shown, like, unlike}
 use Rattle.image.proofs.inserter.inserting.has_like.Goals as goal
 
-pub returns-then-not-starts_at-clause-like : goal.returns-then-not-starts_at-clause-like
-returns-then-not-starts_at-clause-like c = unlike c.args.start (is_pad c.args.kind) c.args.frame_length (stored_by c.args.words.now) (λ h. let e : false ≡ true = c.if-not-starts_at.ensures.starts.1 h in absurd (cc))
+pub returns-in_default-clause-like : goal.returns-in_default-clause-like
+returns-in_default-clause-like c = unlike c.args.start (is_pad c.args.kind) c.args.frame_length (stored_by c.args.words.now) c.in_default.ensures.none
 
 shown : (n m : InserterSeat) (p : ℕ) (head : FrameHead) → n ≡ m → IsHeadOf n p head → (s : Placed) → Among s (stored_by m) → s.at ≡ p → head ≡ head_at p s.frame
 shown n m p head same is s a e = (subst (λ (x : InserterSeat). IsHeadOf x p head) same is) s a e ∙ head_shown p s.frame
 
 pub returns-clause-like : goal.returns-clause-like
 returns-clause-like c =
-    c.is_like.ensures
-    ∙ like c.args.start (is_pad c.args.kind) c.args.frame_length (stored_by c.args.words.now) c.head_at-head.result c.requires.laid (c.if-not-starts_at.ensures.starts.0 refl) (shown c.starts_at.new.inserter c.args.words.now c.args.start c.head_at-head.result c.starts_at.ensures.same c.head_at-head.ensures.head)
+    let at = c.in-Some.ensures.head in
+    c.is_like.ensures ∙ like c.args.start (is_pad c.args.kind) c.args.frame_length (stored_by c.args.words.now) c.in-Some.head c.requires.laid at.0 (shown c.args.words.now c.args.words.now c.args.start c.in-Some.head refl at.1)

@@ -1,4 +1,4 @@
-use Rattle.std.proofs.Common.{◌≡◌, ◌+◌, ◌*◌, ◌≤◌, refl, ap, ◌∙◌, subst, arith}
+use Rattle.std.proofs.Common.{◌≡◌, ◌+◌, ◌*◌, ◌≤◌, ap, ◌∙◌, subst, arith}
 use Rattle.theory.specs.Placed.{Placed, covered, end_of}
 use Rattle.theory.specs.Position.{aligned}
 use Rattle.theory.proofs.Lists.{all_at}
@@ -7,12 +7,12 @@ use Rattle.image.specs.Runs.{IsRun}
 use Rattle.image.proofs.Judged.{full_at}
 use Rattle.image.proofs.Runs.{IsFound, found, run_past, run_tops}
 use Rattle.image.proofs.inserter.inserting.run_end.Goals as goal
-use Rattle.image.proofs.inserter.inserting.run_end.Goals.{After-head_at-head}
+use Rattle.image.proofs.inserter.inserting.run_end.Goals.{In-Some}
 
-there : (c : After-head_at-head) → IsFound (stored_by c.args.words.now) c.loop-end.end c.head_at-head.result
-there c = found c.loop-end.words c.args.words.now c.starts_at.new.inserter c.loop-end.end c.head_at-head.result c.loop-end.invariant.same c.starts_at.ensures.same (c.if-not-starts_at.ensures.starts.0 refl) c.head_at-head.ensures.head
+there : (c : In-Some) → IsFound (stored_by c.args.words.now) c.loop-end.end c.in-Some.head
+there c = let at = c.in-Some.ensures.head in found c.loop-end.words c.args.words.now c.loop-end.end c.in-Some.head c.loop-end.invariant.same at.0 at.1
 
-short : (c : After-head_at-head) → covered (there c).frame ≤ 16777216
+short : (c : In-Some) → covered (there c).frame ≤ 16777216
 short c = let f = there c in all_at (λ (x : Placed). covered x ≤ 16777216) f.frame (stored_by c.args.words.now) c.requires.below.short f.among
 
 pub align32-requires : goal.align32-requires
@@ -31,7 +31,7 @@ loop-end-preserved c =
     let low = all_at (λ (x : Placed). end_of x ≤ c.args.high_water) f.frame (stored_by c.args.words.now) c.requires.below.ends f.among in
     let from = c.loop-end.invariant.from in
     record {
-      same = c.head_at-head.ensures.same ∙ c.starts_at.ensures.same ∙ c.loop-end.invariant.same;
+      same = c.head_at.ensures.same ∙ c.loop-end.invariant.same;
       run = subst (IsRun (stored_by c.args.words.now) (32 * c.args.words.now.key.join)) end (run_past (stored_by c.args.words.now) (32 * c.args.words.now.key.join) c.loop-end.end f.frame c.requires.laid c.loop-end.invariant.run f.among f.here);
       from = omega arith;
       within = omega arith;

@@ -6,4 +6,4 @@ use Rattle.image.proofs.reader.reading.shown_payload.Goals as goal
 pub returns : goal.returns
 returns g c =
     let whole = c.bytes.result.now in
-    take_rest whole 32 ∙ payload_here g.N.Picked.frame c.args.count c.args.part.now.items (drop 32 whole) c.requires.says.0 c.requires.part.spells c.requires.count (ap (drop 32) c.bytes.ensures)
+    take_rest whole 32 ∙ payload_here g.N.Picked.frame c.args.count c.args.part.now.items (drop 32 whole) c.requires.says c.requires.part.spells c.requires.count (ap (drop 32) c.bytes.ensures)

@@ -1,4 +1,4 @@
-use Rattle.image.proofs.inserter.looking.starts_at.Given as goal
+use Rattle.image.proofs.inserter.looking.head_at.Given as goal
 
 abbrev pub ghosts-fetch_as : goal.ghosts-fetch_as
 ghosts-fetch_as a = record { number = a.place }
