@@ -18,4 +18,5 @@ pub mod Beginning
 pub mod Dealing
 pub mod Seating
 pub mod Rounds
+pub mod Parts
 pub mod Kept

@@ -1,5 +1,6 @@
 -- Slots that a seat carries go round.
-use Rattle.std.proofs.Common.{◌≡◌, ℕ, zero, suc, ◌+◌, ◌-◌, ◌*◌, ◌<◌, ◌≤◌, List, [], ◌∷◌, ◌++◌, replicate, sym, refl, ap, ◌∙◌, subst, arith}
+use Rattle.std.proofs.Common.{◌≡◌, ℕ, zero, suc, ◌+◌, ◌-◌, ◌*◌, ◌<◌, ◌≤◌, List, [], ◌∷◌, ◌++◌, drop, replicate, take, sym, refl, ap, ◌∙◌, subst, arith}
+use Rattle.std.proofs.lemmas.List.{drop-replicate, take-replicate}
 use Rattle.atomic_table.specs.Table.{rest, turned}
 use Rattle.region.specs.declared.access.Access.{Access}
 use Rattle.region.specs.declared.access.WriteAccess.{WriteAccess}
@@ -70,6 +71,18 @@ longer_run t k n a b x y = record {
     more : (m p : ℕ) → replicate {A = ℕ} m 0 ++ replicate p 0 ≡ replicate (m + p) 0
     more zero p = ap (λ (q : ℕ). replicate q 0) (let e : p ≡ 0 + p = omega arith in e)
     more (suc m) p = ap (λ (l : List ℕ). 0 ∷ l) (more m p) ∙ ap (λ (q : ℕ). replicate q 0) (let e : suc (m + p) ≡ suc m + p = omega arith in e)
+
+-- a run's first unit, and the others
+module _ (t : Site) (k m : ℕ) (w : WriteAccess) (run : IsRun t k (32 * m) w) (some : 0 < m) where
+  pub first_unit : IsRun t k 32 (record w { items = take 32 w.items })
+  first_unit = record { identity = run.identity; at = run.at; zeros = ap (take 32) run.zeros ∙ take-replicate 32 (32 * m) 0 (omega arith) }
+
+  pub other_units : IsRun t (k + 8) (32 * (m - 1)) (record w { at = w.at + 32; items = drop 32 w.items })
+  other_units = record {
+    identity = run.identity;
+    at = (let a = run.at in omega arith);
+    zeros = ap (drop 32) run.zeros ∙ drop-replicate 32 (32 * m) 0 ∙ ap (λ (n : ℕ). replicate n 0) (let e : 32 * m - 32 ≡ 32 * (m - 1) = omega arith in e);
+  }
 
 -- those that are left go behind the others, as they are
 pub turn_rest : (now later : ℕ → Access → Type 0) (k count i n : ℕ) (mine : List (ℕ × Access)) → IsHalfway now later k count i mine → i + n ≤ count → ((j : ℕ) (g : Access) → k + i ≤ j → now j g → later j g) → IsHalfway now later k count (i + n) (turned_by n mine)

@@ -15,7 +15,7 @@
 //! the units back as room (`give_room`).
 //!
 //! A seat carries slots in a row. `gather` makes one run of the memory of the units in it, and `deal_parts` puts the parts of a
-//! frame there: neither moves a byte.
+//! frame there; `collect_parts` takes them back as one right, and `deal_room` makes units of a run of zeros. None moves a byte.
 //!
 //! So each byte is written by one seat alone, or read by as many as have a part of it, in any schedule. A commit is many
 //! events of the stream at once: a store of each word of the frame, and that of its first. So is the load by which the
@@ -29,6 +29,6 @@ mod rule;
 mod view;
 
 pub use law::{seats_keep, steps_keep};
-pub use rights::{LogSeat, LogTable, deal_parts, gather};
+pub use rights::{LogSeat, LogTable, collect_parts, deal_parts, deal_room, gather};
 pub use rule::LogMemoryRule;
 pub use view::{LogView, Part, Room, Site};

@@ -1,10 +1,11 @@
 //! Rights to a log's bytes, between the slots that a seat carries and whoever writes there. They take no memory, so no call here
 //! moves a byte.
 
-ghost use Rattle.std.specs.Prelude.{◌≡◌, ℕ, ◌+◌, ◌*◌, ◌%◌, ◌^◌, ◌<◌, ◌≤◌, []};
-ghost use Rattle.atomic_table.specs.Table.{turned};
-ghost use Rattle.log_memory.specs.Rights.{IsAnything, IsEighthAt, IsHalfway, IsRun, turned_by};
-ghost use Rattle.log_memory.specs.Steps.{Carries, IsRoomAt};
+ghost use Rattle.std.specs.Prelude.{◌≡◌, ◌∷◌, ◌++◌, List, ℕ, ◌+◌, ◌*◌, ◌%◌, ◌^◌, ◌<◌, ◌≤◌, []};
+ghost use Rattle.atomic_table.specs.Table.{rest, turned};
+ghost use Rattle.region.specs.declared.access.Access.{Access as Kept};
+ghost use Rattle.log_memory.specs.Rights.{HaveParts, IsAnything, IsEighthAt, IsHalfway, IsRun, IsWholeOf, turned_by};
+ghost use Rattle.log_memory.specs.Steps.{Carries, IsPartAt, IsRoomAt};
 
 use crate::rule::LogMemoryRule;
 use crate::view::{LogView, Site};
@@ -115,4 +116,62 @@ pub fn deal_parts(
         dealt += 1;
     }
     pass_slots(seat, 8 * units - 8);
+}
+
+/// What the slot that the seat took last has. It goes behind the others, empty.
+fn take_slot(table: &LogTable, seat: &mut LogSeat, slot: usize) -> Access
+    requires seat { seat.old.table_id ≡ table.now.table_id }
+    requires here { (g : Kept) × (seat.old.me.1 ≡ (slot, g) ∷ rest seat.old.me.1) }
+    ensures seat { (seat.new.table_id ≡ seat.old.table_id) × (seat.new.id ≡ seat.old.id)
+        × (seat.new.me.0 ≡ seat.old.me.0) }
+    ensures had { seat.old.me.1 ≡ (slot, result) ∷ rest seat.old.me.1 }
+    ensures turned { (g : Kept) × (seat.new.me.1 ≡ rest seat.old.me.1 ++ (slot, g) ∷ []) }
+{
+    let access = table.exchange(seat, slot, Access::none());
+    seat.turn();
+    access
+}
+
+/// The right to read a frame, whole, whose eight parts the first unit's slots have, of so many units that the seat carries.
+pub fn collect_parts(table: &LogTable, seat: &mut LogSeat, first: usize, units: usize) -> ReadAccess
+    requires seat { seat.old.table_id ≡ table.now.table_id }
+    requires place { (0 < units) × (first + 8 * units < 2 ^ 60) }
+    requires row { HaveParts table.now.key first (8 * units) seat.old.me.1 }
+    ensures seat { (seat.new.table_id ≡ seat.old.table_id) × (seat.new.id ≡ seat.old.id)
+        × (seat.new.me.0 ≡ seat.old.me.0) }
+    ensures row { Carries IsAnything first (8 * units) [] seat.new.me.1 }
+    ensures whole { (ws : List ℕ) (life book : ℕ)
+        → Carries (IsPartAt table.now.key first ws life book) first (8 * units) [] seat.old.me.1
+        → IsWholeOf table.now.key first ws (2 ^ 63) life book result }
+{
+    let mut whole = take_slot(table, seat, first).read;
+    let mut taken = 1;
+    while taken < 8 {
+        whole = whole.join(take_slot(table, seat, first + taken).read);
+        taken += 1;
+    }
+    pass_slots(seat, 8 * units - 8);
+    whole
+}
+
+/// A run of zeros is dealt as room among so many units, whose slots the seat carries, from the slot `first` on.
+pub fn deal_room(table: &LogTable, seat: &mut LogSeat, run: WriteAccess, first: usize, units: usize)
+    requires seat { seat.old.table_id ≡ table.now.table_id }
+    requires run { IsRun table.now.key first (32 * units) run }
+    requires place { (first % 8 ≡ 0) × (first + 8 * units < 2 ^ 60) }
+    requires row { Carries IsAnything first (8 * units) [] seat.old.me.1 }
+    ensures seat { (seat.new.table_id ≡ seat.old.table_id) × (seat.new.id ≡ seat.old.id)
+        × (seat.new.me.0 ≡ seat.old.me.0) }
+    ensures row { Carries (IsRoomAt table.now.key) first (8 * units) [] seat.new.me.1 }
+{
+    let mut rest = run;
+    let mut dealt = 0;
+    while dealt < units {
+        let (unit, others) = rest.split_at(32);
+        rest = others;
+        let _old = table.exchange(seat, first + 8 * dealt, Access::of_write(unit));
+        seat.turn();
+        pass_seven(seat);
+        dealt += 1;
+    }
 }
