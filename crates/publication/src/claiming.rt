@@ -11,7 +11,6 @@ use crate::refusal::Refusal;
 use crate::tail::{position_at, term_count, term_offset};
 use crate::turn::turn_from;
 use crate::words::WordCalls;
-use crate::writing::write_padding;
 
 /// Claims a range for a message of `size` bytes at the tail, or says why there is none. The range's frames are open then,
 /// and nothing of them is stored. Where the message didn't fit the rest of its term, and the addition began in it, a
@@ -95,6 +94,11 @@ fn pad<W: WordCalls>(words: &mut W, pass: &mut W::Pass, word: u64)
     let offset = term_offset(word);
     if offset < geometry.term_length() {
         let start = position_at(&geometry, term_count(&geometry, word), offset);
-        write_padding(words, pass, start, geometry.term_length() - offset);
+        words.fill_padding(
+            &InOrder::new(),
+            pass,
+            start,
+            geometry.term_length() - offset,
+        );
     }
 }

@@ -1,6 +1,7 @@
 //! Publishing without a lock: offers and claims of a publisher, their commit and abort, and the turn to the next
-//! term, written once over the trait of word calls (`WordCalls`): each is one step on one word, but
-//! for that which stores the words of a frame behind its first.
+//! term, written once over the trait of word calls (`WordCalls`): each is one step on one word, but for those that fill an
+//! open frame, which store it whole and commit it. A log whose frames are words fills them by `write_data` and
+//! `write_padding`, over the trait of its stores (`FrameStores`).
 //!
 //! Each contract speaks of the pass before and after and of the answer, never of the log. An accepted `offer` gives
 //! its pass one claim more, at the position of the word that its addition answered, with the message in its frames'
@@ -26,6 +27,7 @@ mod order;
 mod pass;
 mod refusal;
 mod step;
+mod stores;
 mod tail;
 mod turn;
 mod words;
@@ -38,6 +40,8 @@ pub use order::{InOrder, claims_in_order};
 pub use pass::{ClaimRange, Controls, FrameWords, Keeping, Pass, Reading, Right, Seen, Work};
 pub use refusal::Refusal;
 pub use step::WordStep;
+pub use stores::FrameStores;
 pub use tail::{position_shown, taken, term_offset};
 pub use turn::{rotate, turn_from};
 pub use words::WordCalls;
+pub use writing::{write_data, write_padding};

@@ -9,9 +9,10 @@ ghost use Rattle.publication.specs.Claims.{Called, Fills, HasBlank, Justified, P
 ghost use Rattle.publication.specs.Offers.{Offered, Opened};
 
 use crate::claiming::claim;
+use crate::order::InOrder;
 use crate::refusal::Refusal;
 use crate::words::WordCalls;
-use crate::writing::{write_data, write_message, write_padding};
+use crate::writing::write_message;
 use position::{UNFRAGMENTED, align32};
 
 /// Publishes a message of up to the greatest length, as one frame or as several. It is accepted if the log isn't closed,
@@ -64,7 +65,7 @@ pub fn commit<W: WordCalls>(words: &mut W, pass: &mut W::Pass, start: u64, messa
     ensures end { result ≡ start + aligned (32 + length message.now) }
 {
     let _ = words.identity(pass).geometry();
-    write_data(words, pass, start, UNFRAGMENTED, message);
+    words.fill_data(&InOrder::new(), pass, start, UNFRAGMENTED, message);
     start + u64::from(align32(message.len() as u32 + 32))
 }
 
@@ -80,6 +81,6 @@ pub fn abort<W: WordCalls>(words: &mut W, pass: &mut W::Pass, start: u64, size: 
     ensures end { result ≡ start + aligned (32 + size) }
 {
     let _ = words.identity(pass).geometry();
-    write_padding(words, pass, start, size + 32);
+    words.fill_padding(&InOrder::new(), pass, start, size + 32);
     start + u64::from(align32(size + 32))
 }

@@ -1,21 +1,22 @@
 //! The word calls.
 
-ghost use Rattle.std.specs.Prelude.{◌≡◌, ℕ, ◌+◌, ◌-◌, ◌/◌, ◌%◌, ◌^◌, ◌<◌, ◌≤◌, ◌∷◌, ◌++◌, [], List, suc, length};
-ghost use Rattle.theory.specs.Position.{max_message};
+ghost use Rattle.std.specs.Prelude.{◌≡◌, ℕ, ◌+◌, ◌-◌, ◌%◌, ◌^◌, ◌<◌, ◌≤◌, ◌∷◌, ◌++◌, [], List, suc, length};
+ghost use Rattle.theory.specs.Position.{max_message, max_position};
+ghost use Rattle.theory.specs.Placed.{Data, Pad};
+ghost use Rattle.theory.specs.Wire.{IsDataFlags};
 ghost use Rattle.theory.specs.Words.{id_before, id_in};
-ghost use Rattle.frame_words.specs.Words.{payload_words};
 ghost use Rattle.publication.specs.declared.pass.Pass.{Pass};
 ghost use Rattle.publication.specs.declared.step.WordStep.{WordStep};
 ghost use Rattle.publication.specs.declared.step.WordStep.TheVariants as steps;
-ghost use Rattle.publication.specs.Frames.{CompletesFrame};
-ghost use Rattle.publication.specs.Steps.{Adds, Arms, Commits, Counts, ExchangesCount, Moved, Nexts, Rotates, Sees, addition, begun_word, geometry_of, tail_step};
-ghost use Rattle.publication.specs.Offers.{HasRoom, Puts};
+ghost use Rattle.publication.specs.Frames.{stored_words};
+ghost use Rattle.publication.specs.Claims.{Fills, HasBlank, PartOfCall, exactly};
+ghost use Rattle.publication.specs.Steps.{Adds, Arms, Counts, ExchangesCount, Moved, Nexts, Rotates, Sees, addition, begun_word, geometry_of, tail_step};
 
 use crate::order::InOrder;
 use position::Identity;
 
-/// What has the words of a log. Each call but `identity` and `store_body` is one step on one word, and its contract speaks of
-/// its pass and of the word that it answers. Counts of terms lie below 2^31, positions at or below the greatest.
+/// What has the words of a log. Each call but `identity` and those that fill a frame is one step on one word, and its contract
+/// speaks of its pass and of the word that it answers. Counts of terms lie below 2^31, positions at or below the greatest.
 pub trait WordCalls {
     type Pass;
 
@@ -105,32 +106,38 @@ pub trait WordCalls {
         ensures took { took self.old pass.old self.new pass.new (steps.CountExchange count result ∷ []) 0 }
         ensures told { ExchangesCount (pass_of self.old pass.old) count result (pass_of self.new pass.new) };
 
-    /// Stores the words of an open frame of the pass behind its first, each by a step of its own: the second and the third of
-    /// its header, a zero, and those of its payload, the last of them with zeros up to its end.
-    fn store_body(
+    /// Stores a data frame into an open frame of its length, of which nothing is stored, and commits it.
+    fn fill_data(
         &mut self,
+        order: &InOrder,
         pass: &mut Self::Pass,
         start: u64,
-        second: u64,
-        third: u64,
+        flags: u8,
         payload: &[u8],
     )
         requires fits { fits self.old pass.old }
-        requires below { start < 2 ^ 56 }
-        requires short { length payload.now < 2 ^ 32 }
-        requires room { HasRoom (pass_of self.old pass.old) start (4 + (length payload.now + 7) / 8) }
-        ensures moved { Moved fits pass_of name id self.old pass.old self.new pass.new }
-        ensures took { took self.old pass.old self.new pass.new [] (3 + (length payload.now + 7) / 8) }
-        ensures told { Puts (pass_of self.old pass.old) start 1 (second ∷ third ∷ 0 ∷ payload_words payload.now) (pass_of self.new pass.new) };
+        requires in_stream { start ≤ max_position (pass_of self.old pass.old).identity.geometry }
+        requires flags { IsDataFlags flags }
+        requires short { 32 + length payload.now ≤ (pass_of self.old pass.old).identity.geometry.mtu }
+        requires blank { HasBlank (pass_of self.old pass.old) start (32 + length payload.now) }
+        ensures part { PartOfCall fits pass_of name id took self.old pass.old self.new pass.new (exactly (stored_words ((32 + length payload.now) ∷ []))) }
+        ensures fills { Fills (pass_of self.old pass.old) start (Data flags payload.now) (pass_of self.new pass.new) };
 
-    /// Stores the first word of an open frame of the pass, which is then committed: a message's frame or a padding, whole.
-    fn commit(&mut self, order: &InOrder, pass: &mut Self::Pass, start: u64, word: u64)
+    /// Stores a padding into an open frame of its length, of which nothing is stored, and commits it.
+    fn fill_padding(
+        &mut self,
+        order: &InOrder,
+        pass: &mut Self::Pass,
+        start: u64,
+        frame_length: u32,
+    )
         requires fits { fits self.old pass.old }
-        requires completes { CompletesFrame (pass_of self.old pass.old) start word }
-        requires word { 0 < word }
-        ensures moved { Moved fits pass_of name id self.old pass.old self.new pass.new }
-        ensures took { took self.old pass.old self.new pass.new [] 1 }
-        ensures told { Commits (pass_of self.old pass.old) start word (pass_of self.new pass.new) };
+        requires in_stream { start ≤ max_position (pass_of self.old pass.old).identity.geometry }
+        requires long { 32 ≤ frame_length }
+        requires short { frame_length ≤ (pass_of self.old pass.old).identity.geometry.term_length }
+        requires blank { HasBlank (pass_of self.old pass.old) start frame_length }
+        ensures part { PartOfCall fits pass_of name id took self.old pass.old self.new pass.new (exactly 4) }
+        ensures fills { Fills (pass_of self.old pass.old) start (Pad frame_length) (pass_of self.new pass.new) };
 
     ghost none: { (l : Self) (p : Self.Pass) → took l p l p [] 0 };
 

@@ -9,14 +9,16 @@ ghost use Rattle.publication.specs.Claims.{Fills, HasBlank, PartOfCall, exactly,
 ghost use Rattle.publication.specs.Offers.{FillsAll, HasBlanks};
 
 use crate::order::InOrder;
+use crate::stores::FrameStores;
 use crate::words::WordCalls;
 use frame_words::{first_word, header_words};
 use position::{BEGIN, END, UNFRAGMENTED};
 
 /// Writes and commits a data frame into an open frame of its length, of which nothing is stored.
 #[inline(always)]
-pub(crate) fn write_data<W: WordCalls>(
+pub fn write_data<W: FrameStores>(
     words: &mut W,
+    order: &InOrder,
     pass: &mut W::Pass,
     start: u64,
     flags: u8,
@@ -35,13 +37,14 @@ pub(crate) fn write_data<W: WordCalls>(
     let (second, third) = header_words(&identity, start);
     words.store_body(pass, start, second, third, payload);
     let word = first_word(false, flags, payload.len() as u32 + 32);
-    words.commit(&InOrder::new(), pass, start, word);
+    words.commit(order, pass, start, word);
 }
 
 /// Writes and commits a padding into an open frame of its length, of which nothing is stored.
 #[inline(always)]
-pub(crate) fn write_padding<W: WordCalls>(
+pub fn write_padding<W: FrameStores>(
     words: &mut W,
+    order: &InOrder,
     pass: &mut W::Pass,
     start: u64,
     frame_length: u32,
@@ -57,8 +60,8 @@ pub(crate) fn write_padding<W: WordCalls>(
     let identity = words.identity(pass);
     let (second, third) = header_words(&identity, start);
     words.store_body(pass, start, second, third, &[]);
-    let word = first_word(true, UNFRAGMENTED, frame_length);
-    words.commit(&InOrder::new(), pass, start, word);
+    let padding = first_word(true, UNFRAGMENTED, frame_length);
+    words.commit(order, pass, start, padding);
 }
 
 /// The flags of a message's frame, by whether it is the first and the last.
@@ -89,6 +92,7 @@ pub(crate) fn write_message<W: WordCalls>(
     ensures part { PartOfCall W.fits W.pass_of W.name W.id W.took words.old pass.old words.new pass.new (message_words (length message.now)) }
     ensures fills { FillsAll (W.pass_of words.old pass.old) true start message.now (W.pass_of words.new pass.new) }
 {
+    let order = InOrder::new();
     let geometry = words.identity(pass).geometry();
     let most = geometry.max_payload() as usize;
     let mut first = true;
@@ -96,10 +100,10 @@ pub(crate) fn write_message<W: WordCalls>(
     let mut rest = message;
     while rest.len() > most {
         let (part, behind) = rest.split_at(most);
-        write_data(words, pass, at, flags_of(first, false), part);
+        words.fill_data(&order, pass, at, flags_of(first, false), part);
         first = false;
         at += u64::from(geometry.mtu());
         rest = behind;
     }
-    write_data(words, pass, at, flags_of(first, true), rest);
+    words.fill_data(&order, pass, at, flags_of(first, true), rest);
 }

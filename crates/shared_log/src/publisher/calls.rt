@@ -9,7 +9,7 @@ use crate::log::{Log, Publisher};
 use crate::publisher::storing::store_behind;
 use log_rule::Ring;
 use position::Identity;
-use publication::{InOrder, WordCalls};
+use publication::{FrameStores, InOrder, WordCalls, write_data, write_padding};
 use std::marker::{Brand, Model};
 
 /// A log, for the calls of one thread.
@@ -103,6 +103,55 @@ impl<'a> WordCalls for OnLog<'a> {
     fn exchange_count(&mut self, pass: &mut Publisher, count: u32) -> u32 {
         let log = self.log;
         log.exchange_count(pass, count)
+    }
+
+    #[inline(always)]
+    fn fill_data(
+        &mut self,
+        order: &InOrder,
+        pass: &mut Publisher,
+        start: u64,
+        flags: u8,
+        payload: &[u8],
+    ) {
+        write_data(self, order, pass, start, flags, payload);
+    }
+
+    #[inline(always)]
+    fn fill_padding(
+        &mut self,
+        order: &InOrder,
+        pass: &mut Publisher,
+        start: u64,
+        frame_length: u32,
+    ) {
+        write_padding(self, order, pass, start, frame_length);
+    }
+
+    ghost none = { λ l p. took_none p };
+
+    ghost more = { λ l p m q n r xs ys a b x y. took_more p q r xs ys a b x y };
+}
+
+impl<'a> FrameStores for OnLog<'a> {
+    type Pass = Publisher;
+
+    ghost fits = { λ l p. IsOf l p };
+
+    ghost pass_of = { λ l p. p.pass };
+
+    ghost Id = { LogValue };
+
+    ghost id = { λ l. l };
+
+    ghost name = { λ p. p.pass.number };
+
+    ghost took = { λ l p m q xs n. Took p xs n q };
+
+    #[inline(always)]
+    fn identity(&self, pass: &Publisher) -> Identity {
+        let log = self.log;
+        log.identity()
     }
 
     #[inline(always)]

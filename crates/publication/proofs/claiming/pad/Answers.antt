@@ -9,11 +9,11 @@ use Rattle.publication.proofs.Padded.{blank_here, none_more, one_more, pad_in_st
 use Rattle.publication.proofs.Steppings.{goes_as, moves_none, took_none}
 use Rattle.publication.proofs.claiming.pad.Goals as goal
 
-pub write_padding-requires-clause-fits : goal.write_padding-requires-clause-fits
-write_padding-requires-clause-fits g c = c.requires.fits
+pub fill_padding-requires-clause-fits : goal.fill_padding-requires-clause-fits
+fill_padding-requires-clause-fits g c = c.requires.fits
 
-pub write_padding-requires-clause-in_stream : goal.write_padding-requires-clause-in_stream
-write_padding-requires-clause-in_stream g c =
+pub fill_padding-requires-clause-in_stream : goal.fill_padding-requires-clause-in_stream
+fill_padding-requires-clause-in_stream g c =
     let v : Pass = g.W.WordCalls.pass_of c.args.words.now c.args.pass.now in
     let geometry : c.geometry-geometry.result ≡ geometry_of v = c.geometry-geometry.ensures.value ∙ ap (λ (i : Identity). i.geometry) c.identity.ensures in
     let offset : c.term_offset-offset.result ≡ offset_in c.args.word = c.term_offset-offset.ensures in
@@ -24,17 +24,17 @@ write_padding-requires-clause-in_stream g c =
     (let term : c.term_length.result ≡ term_of v = c.term_length.ensures.value ∙ ap (λ (h : Geometry). h.term_length) geometry in subst (λ (x : ℕ × ℕ). x.0 < x.1) (λ j. (offset j, term j)) c.if-offset-term_length.true) in
     pad_in_stream v c.args.word c.position_at-start.result at c.requires.draft.term below
 
-pub write_padding-requires-clause-long : goal.write_padding-requires-clause-long
-write_padding-requires-clause-long g c = pad_long c.term_offset-offset.result c.term_length-then-offset-term_length.result (ap (λ (n : ℕ). n % 32) c.term_offset-offset.ensures ∙ c.requires.draft.unit) c.term_length-then-offset-term_length.ensures.whole (subst (λ (n : ℕ). c.term_offset-offset.result < n) (c.term_length.ensures.value ∙ sym c.term_length-then-offset-term_length.ensures.value) c.if-offset-term_length.true)
+pub fill_padding-requires-clause-long : goal.fill_padding-requires-clause-long
+fill_padding-requires-clause-long g c = pad_long c.term_offset-offset.result c.term_length-then-offset-term_length.result (ap (λ (n : ℕ). n % 32) c.term_offset-offset.ensures ∙ c.requires.draft.unit) c.term_length-then-offset-term_length.ensures.whole (subst (λ (n : ℕ). c.term_offset-offset.result < n) (c.term_length.ensures.value ∙ sym c.term_length-then-offset-term_length.ensures.value) c.if-offset-term_length.true)
 
-pub write_padding-requires-clause-short : goal.write_padding-requires-clause-short
-write_padding-requires-clause-short g c =
+pub fill_padding-requires-clause-short : goal.fill_padding-requires-clause-short
+fill_padding-requires-clause-short g c =
     let v : Pass = g.W.WordCalls.pass_of c.args.words.now c.args.pass.now in
     let geometry : c.geometry-geometry.result ≡ geometry_of v = c.geometry-geometry.ensures.value ∙ ap (λ (i : Identity). i.geometry) c.identity.ensures in
     subst (λ (n : ℕ). c.term_length-then-offset-term_length.result - c.term_offset-offset.result ≤ n) (c.term_length-then-offset-term_length.ensures.value ∙ ap (λ (h : Geometry). h.term_length) geometry) (pad_short c.term_offset-offset.result c.term_length-then-offset-term_length.result)
 
-pub write_padding-requires-clause-blank : goal.write_padding-requires-clause-blank
-write_padding-requires-clause-blank g c =
+pub fill_padding-requires-clause-blank : goal.fill_padding-requires-clause-blank
+fill_padding-requires-clause-blank g c =
     let v : Pass = g.W.WordCalls.pass_of c.args.words.now c.args.pass.now in
     let geometry : c.geometry-geometry.result ≡ geometry_of v = c.geometry-geometry.ensures.value ∙ ap (λ (i : Identity). i.geometry) c.identity.ensures in
     let offset : c.term_offset-offset.result ≡ offset_in c.args.word = c.term_offset-offset.ensures in
@@ -60,7 +60,7 @@ returns-then-offset-term_length-clause-part g c =
     let below : offset_in c.args.word < term_of v =
     (let term : c.term_length.result ≡ term_of v = c.term_length.ensures.value ∙ ap (λ (h : Geometry). h.term_length) geometry in subst (λ (x : ℕ × ℕ). x.0 < x.1) (λ j. (offset j, term j)) c.if-offset-term_length.true) in
     let blank : HasBlank v c.position_at-start.result (c.term_length-then-offset-term_length.result - c.term_offset-offset.result) = blank_here v c.args.word c.position_at-start.result (c.term_length-then-offset-term_length.result - c.term_offset-offset.result) at long (c.requires.draft.draft below) in
-    goes_as g.W.WordCalls.fits g.W.WordCalls.pass_of g.W.WordCalls.name g.W.WordCalls.id g.W.WordCalls.took _ _ _ _ (exactly 4) padding_words c.write_padding.ensures.part (one_more v (g.W.WordCalls.pass_of c.write_padding.new.words c.write_padding.new.pass) c.position_at-start.result (c.term_length-then-offset-term_length.result - c.term_offset-offset.result) blank c.write_padding.ensures.fills)
+    goes_as g.W.WordCalls.fits g.W.WordCalls.pass_of g.W.WordCalls.name g.W.WordCalls.id g.W.WordCalls.took _ _ _ _ (exactly 4) padding_words c.fill_padding.ensures.part (one_more v (g.W.WordCalls.pass_of c.fill_padding.new.self c.fill_padding.new.pass) c.position_at-start.result (c.term_length-then-offset-term_length.result - c.term_offset-offset.result) blank c.fill_padding.ensures.fills)
 
 pub returns-then-offset-term_length-clause-pads : goal.returns-then-offset-term_length-clause-pads
 returns-then-offset-term_length-clause-pads g c =
@@ -74,7 +74,7 @@ returns-then-offset-term_length-clause-pads g c =
     (let term : c.term_length-then-offset-term_length.result ≡ term_of v = c.term_length-then-offset-term_length.ensures.value ∙ ap (λ (h : Geometry). h.term_length) geometry in λ j. term j - offset j) in
     let below : offset_in c.args.word < term_of v =
     (let term : c.term_length.result ≡ term_of v = c.term_length.ensures.value ∙ ap (λ (h : Geometry). h.term_length) geometry in subst (λ (x : ℕ × ℕ). x.0 < x.1) (λ j. (offset j, term j)) c.if-offset-term_length.true) in
-    pads_below v (g.W.WordCalls.pass_of c.write_padding.new.words c.write_padding.new.pass) c.args.word c.position_at-start.result (c.term_length-then-offset-term_length.result - c.term_offset-offset.result) at long below c.write_padding.ensures.fills
+    pads_below v (g.W.WordCalls.pass_of c.fill_padding.new.self c.fill_padding.new.pass) c.args.word c.position_at-start.result (c.term_length-then-offset-term_length.result - c.term_offset-offset.result) at long below c.fill_padding.ensures.fills
 
 pub returns-else-offset-term_length-clause-part : goal.returns-else-offset-term_length-clause-part
 returns-else-offset-term_length-clause-part g c =

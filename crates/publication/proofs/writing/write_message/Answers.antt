@@ -22,8 +22,8 @@ loop-rest-init g c = record {
   short = c.requires.short;
 }
 
-pub write_data-requires-clause-blank : goal.write_data-requires-clause-blank
-write_data-requires-clause-blank g c =
+pub fill_data-requires-clause-blank : goal.fill_data-requires-clause-blank
+fill_data-requires-clause-blank g c =
     let geometry : c.geometry-geometry.result ≡ (geometry_of (g.W.WordCalls.pass_of c.args.words.now c.args.pass.now)) = c.geometry-geometry.ensures.value ∙ ap (λ (i : Identity). i.geometry) c.identity.ensures in
     let legal : IsGeometry (geometry_of (g.W.WordCalls.pass_of c.args.words.now c.args.pass.now)) = subst IsGeometry geometry c.geometry-geometry.ensures.legal in
     let most : c.max_payload-most.result ≡ max_payload (geometry_of (g.W.WordCalls.pass_of c.args.words.now c.args.pass.now)) = c.max_payload-most.ensures.value ∙ ap max_payload geometry in
@@ -40,8 +40,8 @@ loop-rest-preserved g c =
     let high : max_payload (geometry_of (g.W.WordCalls.pass_of c.args.words.now c.args.pass.now)) < length c.loop-rest.rest.now = omega (arith, most, c.loop-rest-test.true) in
     let front : c.split_at.result.0.now ≡ take (max_payload (geometry_of (g.W.WordCalls.pass_of c.args.words.now c.args.pass.now))) c.loop-rest.rest.now = c.split_at.ensures.front ∙ ap (λ (n : ℕ). take n c.loop-rest.rest.now) most in
     let back : c.split_at.result.1.now ≡ drop (max_payload (geometry_of (g.W.WordCalls.pass_of c.args.words.now c.args.pass.now))) c.loop-rest.rest.now = c.split_at.ensures.back ∙ ap (λ (n : ℕ). drop n c.loop-rest.rest.now) most in
-    let fills : Fills (g.W.WordCalls.pass_of c.loop-rest.words c.loop-rest.pass) c.loop-rest.at (Data (frame_flags c.loop-rest.first false) (take (max_payload (geometry_of (g.W.WordCalls.pass_of c.args.words.now c.args.pass.now))) c.loop-rest.rest.now)) (g.W.WordCalls.pass_of c.write_data.new.words c.write_data.new.pass) =
-    subst (λ (n : ℕ). Fills (g.W.WordCalls.pass_of c.loop-rest.words c.loop-rest.pass) c.loop-rest.at (Data n (take (max_payload (geometry_of (g.W.WordCalls.pass_of c.args.words.now c.args.pass.now))) c.loop-rest.rest.now)) (g.W.WordCalls.pass_of c.write_data.new.words c.write_data.new.pass)) c.flags_of.ensures.value (subst (λ (xs : List ℕ). Fills (g.W.WordCalls.pass_of c.loop-rest.words c.loop-rest.pass) c.loop-rest.at (Data c.flags_of.result xs) (g.W.WordCalls.pass_of c.write_data.new.words c.write_data.new.pass)) front c.write_data.ensures.fills) in
+    let fills : Fills (g.W.WordCalls.pass_of c.loop-rest.words c.loop-rest.pass) c.loop-rest.at (Data (frame_flags c.loop-rest.first false) (take (max_payload (geometry_of (g.W.WordCalls.pass_of c.args.words.now c.args.pass.now))) c.loop-rest.rest.now)) (g.W.WordCalls.pass_of c.fill_data.new.self c.fill_data.new.pass) =
+    subst (λ (n : ℕ). Fills (g.W.WordCalls.pass_of c.loop-rest.words c.loop-rest.pass) c.loop-rest.at (Data n (take (max_payload (geometry_of (g.W.WordCalls.pass_of c.args.words.now c.args.pass.now))) c.loop-rest.rest.now)) (g.W.WordCalls.pass_of c.fill_data.new.self c.fill_data.new.pass)) c.flags_of.ensures.value (subst (λ (xs : List ℕ). Fills (g.W.WordCalls.pass_of c.loop-rest.words c.loop-rest.pass) c.loop-rest.at (Data c.flags_of.result xs) (g.W.WordCalls.pass_of c.fill_data.new.self c.fill_data.new.pass)) front c.fill_data.ensures.fills) in
     let mtu : c.from-at.result ≡ (geometry_of (g.W.WordCalls.pass_of c.args.words.now c.args.pass.now)).mtu = c.from-at.ensures ∙ c.mtu.ensures.value ∙ ap (λ (h : Geometry). h.mtu) geometry in
     let at : c.loop-rest.at + (geometry_of (g.W.WordCalls.pass_of c.args.words.now c.args.pass.now)).mtu ≡ c.loop-rest.at + c.from-at.result = ap (λ (n : ℕ). c.loop-rest.at + n) (sym mtu) in
     let part_long : length c.split_at.result.0.now ≡ max_payload (geometry_of (g.W.WordCalls.pass_of c.args.words.now c.args.pass.now)) = ap (λ (xs : List ℕ). length xs) front ∙ length-take-le (max_payload (geometry_of (g.W.WordCalls.pass_of c.args.words.now c.args.pass.now))) c.loop-rest.rest.now (omega (arith, high)) in
@@ -50,15 +50,15 @@ loop-rest-preserved g c =
     let back_stored : stored_words (cuts_of (geometry_of (g.W.WordCalls.pass_of c.args.words.now c.args.pass.now)) (length c.split_at.result.1.now)) ≡ stored_words (cuts_of (geometry_of (g.W.WordCalls.pass_of c.args.words.now c.args.pass.now)) (length c.loop-rest.rest.now - max_payload (geometry_of (g.W.WordCalls.pass_of c.args.words.now c.args.pass.now)))) = ap (λ (n : ℕ). stored_words (cuts_of (geometry_of (g.W.WordCalls.pass_of c.args.words.now c.args.pass.now)) n)) back_long in
     let back_framed : framed_length (geometry_of (g.W.WordCalls.pass_of c.args.words.now c.args.pass.now)) (length c.split_at.result.1.now) ≡ framed_length (geometry_of (g.W.WordCalls.pass_of c.args.words.now c.args.pass.now)) (length c.loop-rest.rest.now - max_payload (geometry_of (g.W.WordCalls.pass_of c.args.words.now c.args.pass.now))) = ap (λ (n : ℕ). framed_length (geometry_of (g.W.WordCalls.pass_of c.args.words.now c.args.pass.now)) n) back_long in
     record {
-      moved = moves g.W.WordCalls.fits g.W.WordCalls.pass_of g.W.WordCalls.name g.W.WordCalls.id _ _ _ _ _ _ c.loop-rest.invariant.moved c.write_data.ensures.part.moved;
+      moved = moves g.W.WordCalls.fits g.W.WordCalls.pass_of g.W.WordCalls.name g.W.WordCalls.id _ _ _ _ _ _ c.loop-rest.invariant.moved c.fill_data.ensures.part.moved;
       took = (
         c.loop-rest.invariant.took.0 + stored_words ((32 + length c.split_at.result.0.now) ∷ []),
-        took_more g.W.WordCalls.took g.W.WordCalls.pass_of g.met.W.WordCalls.more _ _ _ _ _ _ c.loop-rest.invariant.took.0 (stored_words ((32 + length c.split_at.result.0.now) ∷ [])) _ c.loop-rest.invariant.took.1 c.write_data.ensures.part.took refl,
+        took_more g.W.WordCalls.took g.W.WordCalls.pass_of g.met.W.WordCalls.more _ _ _ _ _ _ c.loop-rest.invariant.took.0 (stored_words ((32 + length c.split_at.result.0.now) ∷ [])) _ c.loop-rest.invariant.took.1 c.fill_data.ensures.part.took refl,
         omega (arith, part_stored, back_stored, full_stored (geometry_of (g.W.WordCalls.pass_of c.args.words.now c.args.pass.now)) legal (length c.loop-rest.rest.now) high, c.loop-rest.invariant.took.2),
       );
-      shape = full_shape (geometry_of (g.W.WordCalls.pass_of c.args.words.now c.args.pass.now)) legal c.loop-rest.rest.now high (g.W.WordCalls.pass_of c.loop-rest.words c.loop-rest.pass) c.loop-rest.invariant.shape c.loop-rest.first c.loop-rest.at (g.W.WordCalls.pass_of c.write_data.new.words c.write_data.new.pass) fills c.loop-rest.invariant.blanks;
-      blanks = subst (λ (n : ℕ). HasBlanks (g.W.WordCalls.pass_of c.write_data.new.words c.write_data.new.pass) n (cuts_of (geometry_of (g.W.WordCalls.pass_of c.write_data.new.words c.write_data.new.pass)) (length c.split_at.result.1.now))) at (subst (λ (xs : List ℕ). HasBlanks (g.W.WordCalls.pass_of c.write_data.new.words c.write_data.new.pass) (c.loop-rest.at + (geometry_of (g.W.WordCalls.pass_of c.args.words.now c.args.pass.now)).mtu) (cuts_of (geometry_of (g.W.WordCalls.pass_of c.write_data.new.words c.write_data.new.pass)) (length xs))) (sym back) (full_left (geometry_of (g.W.WordCalls.pass_of c.args.words.now c.args.pass.now)) legal c.loop-rest.rest.now high (g.W.WordCalls.pass_of c.loop-rest.words c.loop-rest.pass) c.loop-rest.invariant.shape c.loop-rest.first c.loop-rest.at (g.W.WordCalls.pass_of c.write_data.new.words c.write_data.new.pass) fills c.loop-rest.invariant.blanks));
-      fills = λ u h. c.loop-rest.invariant.fills u (full_filled (geometry_of (g.W.WordCalls.pass_of c.args.words.now c.args.pass.now)) legal c.loop-rest.rest.now high (g.W.WordCalls.pass_of c.loop-rest.words c.loop-rest.pass) c.loop-rest.invariant.shape c.loop-rest.first c.loop-rest.at (g.W.WordCalls.pass_of c.write_data.new.words c.write_data.new.pass) fills u (subst (λ (xs : List ℕ). FillsAll (g.W.WordCalls.pass_of c.write_data.new.words c.write_data.new.pass) false (c.loop-rest.at + (geometry_of (g.W.WordCalls.pass_of c.args.words.now c.args.pass.now)).mtu) xs u) back (subst (λ (n : ℕ). FillsAll (g.W.WordCalls.pass_of c.write_data.new.words c.write_data.new.pass) false n c.split_at.result.1.now u) (sym at) h)));
+      shape = full_shape (geometry_of (g.W.WordCalls.pass_of c.args.words.now c.args.pass.now)) legal c.loop-rest.rest.now high (g.W.WordCalls.pass_of c.loop-rest.words c.loop-rest.pass) c.loop-rest.invariant.shape c.loop-rest.first c.loop-rest.at (g.W.WordCalls.pass_of c.fill_data.new.self c.fill_data.new.pass) fills c.loop-rest.invariant.blanks;
+      blanks = subst (λ (n : ℕ). HasBlanks (g.W.WordCalls.pass_of c.fill_data.new.self c.fill_data.new.pass) n (cuts_of (geometry_of (g.W.WordCalls.pass_of c.fill_data.new.self c.fill_data.new.pass)) (length c.split_at.result.1.now))) at (subst (λ (xs : List ℕ). HasBlanks (g.W.WordCalls.pass_of c.fill_data.new.self c.fill_data.new.pass) (c.loop-rest.at + (geometry_of (g.W.WordCalls.pass_of c.args.words.now c.args.pass.now)).mtu) (cuts_of (geometry_of (g.W.WordCalls.pass_of c.fill_data.new.self c.fill_data.new.pass)) (length xs))) (sym back) (full_left (geometry_of (g.W.WordCalls.pass_of c.args.words.now c.args.pass.now)) legal c.loop-rest.rest.now high (g.W.WordCalls.pass_of c.loop-rest.words c.loop-rest.pass) c.loop-rest.invariant.shape c.loop-rest.first c.loop-rest.at (g.W.WordCalls.pass_of c.fill_data.new.self c.fill_data.new.pass) fills c.loop-rest.invariant.blanks));
+      fills = λ u h. c.loop-rest.invariant.fills u (full_filled (geometry_of (g.W.WordCalls.pass_of c.args.words.now c.args.pass.now)) legal c.loop-rest.rest.now high (g.W.WordCalls.pass_of c.loop-rest.words c.loop-rest.pass) c.loop-rest.invariant.shape c.loop-rest.first c.loop-rest.at (g.W.WordCalls.pass_of c.fill_data.new.self c.fill_data.new.pass) fills u (subst (λ (xs : List ℕ). FillsAll (g.W.WordCalls.pass_of c.fill_data.new.self c.fill_data.new.pass) false (c.loop-rest.at + (geometry_of (g.W.WordCalls.pass_of c.args.words.now c.args.pass.now)).mtu) xs u) back (subst (λ (n : ℕ). FillsAll (g.W.WordCalls.pass_of c.fill_data.new.self c.fill_data.new.pass) false n c.split_at.result.1.now u) (sym at) h)));
       in_stream = omega (arith, mtu, back_framed, full_framed (geometry_of (g.W.WordCalls.pass_of c.args.words.now c.args.pass.now)) legal (length c.loop-rest.rest.now) high, c.loop-rest.invariant.in_stream);
       short = omega (arith, back_long, c.loop-rest.invariant.short);
     }
@@ -69,7 +69,7 @@ returns-clause-part g c =
     let legal : IsGeometry (geometry_of (g.W.WordCalls.pass_of c.args.words.now c.args.pass.now)) = subst IsGeometry geometry c.geometry-geometry.ensures.legal in
     let most : c.max_payload-most.result ≡ max_payload (geometry_of (g.W.WordCalls.pass_of c.args.words.now c.args.pass.now)) = c.max_payload-most.ensures.value ∙ ap max_payload geometry in
     let low : length c.loop-rest.rest.now ≤ max_payload (geometry_of (g.W.WordCalls.pass_of c.args.words.now c.args.pass.now)) = omega (arith, most, c.loop-rest-test.false) in
-    goes_further g.W.WordCalls.fits g.W.WordCalls.pass_of g.W.WordCalls.name g.W.WordCalls.id g.W.WordCalls.took g.met.W.WordCalls.more _ _ _ _ _ _ (exactly c.loop-rest.invariant.took.0) (exactly (stored_words ((32 + length c.loop-rest.rest.now) ∷ []))) (message_words (length c.args.message.now)) record { moved = c.loop-rest.invariant.moved; took = c.loop-rest.invariant.took.1 } c.write_data-2.ensures.part
+    goes_further g.W.WordCalls.fits g.W.WordCalls.pass_of g.W.WordCalls.name g.W.WordCalls.id g.W.WordCalls.took g.met.W.WordCalls.more _ _ _ _ _ _ (exactly c.loop-rest.invariant.took.0) (exactly (stored_words ((32 + length c.loop-rest.rest.now) ∷ []))) (message_words (length c.args.message.now)) record { moved = c.loop-rest.invariant.moved; took = c.loop-rest.invariant.took.1 } c.fill_data-2.ensures.part
     (omega (arith, last_stored (geometry_of (g.W.WordCalls.pass_of c.args.words.now c.args.pass.now)) (length c.loop-rest.rest.now) low, c.loop-rest.invariant.took.2))
 
 pub returns-clause-fills : goal.returns-clause-fills
@@ -78,19 +78,19 @@ returns-clause-fills g c =
     let legal : IsGeometry (geometry_of (g.W.WordCalls.pass_of c.args.words.now c.args.pass.now)) = subst IsGeometry geometry c.geometry-geometry.ensures.legal in
     let most : c.max_payload-most.result ≡ max_payload (geometry_of (g.W.WordCalls.pass_of c.args.words.now c.args.pass.now)) = c.max_payload-most.ensures.value ∙ ap max_payload geometry in
     let low : length c.loop-rest.rest.now ≤ max_payload (geometry_of (g.W.WordCalls.pass_of c.loop-rest.words c.loop-rest.pass)) = fits_frame (g.W.WordCalls.pass_of c.args.words.now c.args.pass.now) (g.W.WordCalls.pass_of c.loop-rest.words c.loop-rest.pass) (length c.loop-rest.rest.now) c.loop-rest.invariant.shape (omega (arith, most, c.loop-rest-test.false)) in
-    c.loop-rest.invariant.fills (g.W.WordCalls.pass_of c.write_data-2.new.words c.write_data-2.new.pass) (last_filled (g.W.WordCalls.pass_of c.loop-rest.words c.loop-rest.pass) (g.W.WordCalls.pass_of c.write_data-2.new.words c.write_data-2.new.pass) c.loop-rest.first c.loop-rest.at c.loop-rest.rest.now low (subst (λ (n : ℕ). Fills (g.W.WordCalls.pass_of c.loop-rest.words c.loop-rest.pass) c.loop-rest.at (Data n c.loop-rest.rest.now) (g.W.WordCalls.pass_of c.write_data-2.new.words c.write_data-2.new.pass)) c.flags_of-2.ensures.value c.write_data-2.ensures.fills))
+    c.loop-rest.invariant.fills (g.W.WordCalls.pass_of c.fill_data-2.new.self c.fill_data-2.new.pass) (last_filled (g.W.WordCalls.pass_of c.loop-rest.words c.loop-rest.pass) (g.W.WordCalls.pass_of c.fill_data-2.new.self c.fill_data-2.new.pass) c.loop-rest.first c.loop-rest.at c.loop-rest.rest.now low (subst (λ (n : ℕ). Fills (g.W.WordCalls.pass_of c.loop-rest.words c.loop-rest.pass) c.loop-rest.at (Data n c.loop-rest.rest.now) (g.W.WordCalls.pass_of c.fill_data-2.new.self c.fill_data-2.new.pass)) c.flags_of-2.ensures.value c.fill_data-2.ensures.fills))
 
-pub write_data-requires-clause-fits : goal.write_data-requires-clause-fits
-write_data-requires-clause-fits g c = c.loop-rest.invariant.moved.still
+pub fill_data-requires-clause-fits : goal.fill_data-requires-clause-fits
+fill_data-requires-clause-fits g c = c.loop-rest.invariant.moved.still
 
-pub write_data-requires-clause-in_stream : goal.write_data-requires-clause-in_stream
-write_data-requires-clause-in_stream g c = begins_in (g.W.WordCalls.pass_of c.args.words.now c.args.pass.now) (g.W.WordCalls.pass_of c.loop-rest.words c.loop-rest.pass) c.loop-rest.at (framed_length (geometry_of (g.W.WordCalls.pass_of c.args.words.now c.args.pass.now)) (length c.loop-rest.rest.now)) c.loop-rest.invariant.shape c.loop-rest.invariant.in_stream
+pub fill_data-requires-clause-in_stream : goal.fill_data-requires-clause-in_stream
+fill_data-requires-clause-in_stream g c = begins_in (g.W.WordCalls.pass_of c.args.words.now c.args.pass.now) (g.W.WordCalls.pass_of c.loop-rest.words c.loop-rest.pass) c.loop-rest.at (framed_length (geometry_of (g.W.WordCalls.pass_of c.args.words.now c.args.pass.now)) (length c.loop-rest.rest.now)) c.loop-rest.invariant.shape c.loop-rest.invariant.in_stream
 
-pub write_data-requires-clause-flags : goal.write_data-requires-clause-flags
-write_data-requires-clause-flags g c = c.flags_of.ensures.legal
+pub fill_data-requires-clause-flags : goal.fill_data-requires-clause-flags
+fill_data-requires-clause-flags g c = c.flags_of.ensures.legal
 
-pub write_data-requires-clause-short : goal.write_data-requires-clause-short
-write_data-requires-clause-short g c =
+pub fill_data-requires-clause-short : goal.fill_data-requires-clause-short
+fill_data-requires-clause-short g c =
     let geometry : c.geometry-geometry.result ≡ (geometry_of (g.W.WordCalls.pass_of c.args.words.now c.args.pass.now)) = c.geometry-geometry.ensures.value ∙ ap (λ (i : Identity). i.geometry) c.identity.ensures in
     let legal : IsGeometry (geometry_of (g.W.WordCalls.pass_of c.args.words.now c.args.pass.now)) = subst IsGeometry geometry c.geometry-geometry.ensures.legal in
     let most : c.max_payload-most.result ≡ max_payload (geometry_of (g.W.WordCalls.pass_of c.args.words.now c.args.pass.now)) = c.max_payload-most.ensures.value ∙ ap max_payload geometry in
@@ -99,25 +99,25 @@ write_data-requires-clause-short g c =
     let part_long : length c.split_at.result.0.now ≡ max_payload (geometry_of (g.W.WordCalls.pass_of c.args.words.now c.args.pass.now)) = ap (λ (xs : List ℕ). length xs) front ∙ length-take-le (max_payload (geometry_of (g.W.WordCalls.pass_of c.args.words.now c.args.pass.now))) c.loop-rest.rest.now (omega (arith, high)) in
     part_fits (g.W.WordCalls.pass_of c.args.words.now c.args.pass.now) (g.W.WordCalls.pass_of c.loop-rest.words c.loop-rest.pass) (length c.split_at.result.0.now) c.loop-rest.invariant.shape legal (let few : length c.split_at.result.0.now ≤ max_payload (geometry_of (g.W.WordCalls.pass_of c.args.words.now c.args.pass.now)) = omega (arith, part_long) in few)
 
-pub write_data-requires-2-clause-fits : goal.write_data-requires-2-clause-fits
-write_data-requires-2-clause-fits g c = c.loop-rest.invariant.moved.still
+pub fill_data-requires-2-clause-fits : goal.fill_data-requires-2-clause-fits
+fill_data-requires-2-clause-fits g c = c.loop-rest.invariant.moved.still
 
-pub write_data-requires-2-clause-in_stream : goal.write_data-requires-2-clause-in_stream
-write_data-requires-2-clause-in_stream g c = begins_in (g.W.WordCalls.pass_of c.args.words.now c.args.pass.now) (g.W.WordCalls.pass_of c.loop-rest.words c.loop-rest.pass) c.loop-rest.at (framed_length (geometry_of (g.W.WordCalls.pass_of c.args.words.now c.args.pass.now)) (length c.loop-rest.rest.now)) c.loop-rest.invariant.shape c.loop-rest.invariant.in_stream
+pub fill_data-requires-2-clause-in_stream : goal.fill_data-requires-2-clause-in_stream
+fill_data-requires-2-clause-in_stream g c = begins_in (g.W.WordCalls.pass_of c.args.words.now c.args.pass.now) (g.W.WordCalls.pass_of c.loop-rest.words c.loop-rest.pass) c.loop-rest.at (framed_length (geometry_of (g.W.WordCalls.pass_of c.args.words.now c.args.pass.now)) (length c.loop-rest.rest.now)) c.loop-rest.invariant.shape c.loop-rest.invariant.in_stream
 
-pub write_data-requires-2-clause-flags : goal.write_data-requires-2-clause-flags
-write_data-requires-2-clause-flags g c = c.flags_of-2.ensures.legal
+pub fill_data-requires-2-clause-flags : goal.fill_data-requires-2-clause-flags
+fill_data-requires-2-clause-flags g c = c.flags_of-2.ensures.legal
 
-pub write_data-requires-2-clause-short : goal.write_data-requires-2-clause-short
-write_data-requires-2-clause-short g c =
+pub fill_data-requires-2-clause-short : goal.fill_data-requires-2-clause-short
+fill_data-requires-2-clause-short g c =
     let geometry : c.geometry-geometry.result ≡ (geometry_of (g.W.WordCalls.pass_of c.args.words.now c.args.pass.now)) = c.geometry-geometry.ensures.value ∙ ap (λ (i : Identity). i.geometry) c.identity.ensures in
     let legal : IsGeometry (geometry_of (g.W.WordCalls.pass_of c.args.words.now c.args.pass.now)) = subst IsGeometry geometry c.geometry-geometry.ensures.legal in
     let most : c.max_payload-most.result ≡ max_payload (geometry_of (g.W.WordCalls.pass_of c.args.words.now c.args.pass.now)) = c.max_payload-most.ensures.value ∙ ap max_payload geometry in
     let low : length c.loop-rest.rest.now ≤ max_payload (geometry_of (g.W.WordCalls.pass_of c.args.words.now c.args.pass.now)) = omega (arith, most, c.loop-rest-test.false) in
     part_fits (g.W.WordCalls.pass_of c.args.words.now c.args.pass.now) (g.W.WordCalls.pass_of c.loop-rest.words c.loop-rest.pass) (length c.loop-rest.rest.now) c.loop-rest.invariant.shape legal low
 
-pub write_data-requires-2-clause-blank : goal.write_data-requires-2-clause-blank
-write_data-requires-2-clause-blank g c =
+pub fill_data-requires-2-clause-blank : goal.fill_data-requires-2-clause-blank
+fill_data-requires-2-clause-blank g c =
     let geometry : c.geometry-geometry.result ≡ (geometry_of (g.W.WordCalls.pass_of c.args.words.now c.args.pass.now)) = c.geometry-geometry.ensures.value ∙ ap (λ (i : Identity). i.geometry) c.identity.ensures in
     let most : c.max_payload-most.result ≡ max_payload (geometry_of (g.W.WordCalls.pass_of c.args.words.now c.args.pass.now)) = c.max_payload-most.ensures.value ∙ ap max_payload geometry in
     let low : length c.loop-rest.rest.now ≤ max_payload (geometry_of (g.W.WordCalls.pass_of c.loop-rest.words c.loop-rest.pass)) = fits_frame (g.W.WordCalls.pass_of c.args.words.now c.args.pass.now) (g.W.WordCalls.pass_of c.loop-rest.words c.loop-rest.pass) (length c.loop-rest.rest.now) c.loop-rest.invariant.shape (omega (arith, most, c.loop-rest-test.false)) in
