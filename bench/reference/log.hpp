@@ -1,17 +1,15 @@
 // The log of `shared_log` in plain C++: claims by one addition over words that threads share, readers that walk committed
 // frames, and a keeper that cleans behind them and moves the limit.
 #pragma once
-#include "geometry.hpp"
-#include "words.hpp"
-#include <cstring>
+#include "log_frames.hpp"
 #include <optional>
 
-// Places of the control words, two cache lines apart, and of the stream's first word.
+// Places of the control words, two cache lines apart, and the end of the last one's.
 constexpr std::size_t LIMIT = 0;
 constexpr std::size_t COUNT = LINE;
 constexpr std::size_t TAILS = 2 * LINE;
 constexpr std::size_t CONSUMERS = 5 * LINE;
-constexpr std::size_t DATA = 13 * LINE;
+constexpr std::size_t CONTROLS = 13 * LINE;
 
 constexpr std::uint64_t CONNECTED = 1, CLOSED_FLAG = 2, FLAGS = 3;
 
@@ -23,28 +21,16 @@ enum Refusal : std::int64_t {
     MAX_POSITION_EXCEEDED = -5
 };
 
-// What a frame's first word says.
-struct Head {
-    std::uint32_t length;
-    std::uint8_t flags;
-    bool is_data;
-
-    explicit Head(std::uint64_t word)
-        : length(static_cast<std::uint32_t>(word)), flags(static_cast<std::uint8_t>(word >> 40)), is_data(word >> 48 != 0) {}
-
-    std::uint32_t covered() const { return align32(length); }
-    std::uint32_t on_wire() const { return is_data ? covered() : HEADER; }
-};
-
 // It has cache lines of its own, as have its readers and its keeper: what one thread changes lies on no line that others read.
 struct alignas(8 * LINE) Log {
     Geometry geometry;
     std::int32_t session, stream;
     Words words;
+    LogFrames frames;
 
     // Unconnected, the limit and all consumers at the start.
     Log(const Geometry &geometry, std::int32_t session, std::int32_t stream, std::uint64_t start)
-        : geometry(geometry), session(session), stream(stream), words(DATA + 3 * (geometry.term_length / 8)) {
+        : geometry(geometry), session(session), stream(stream), words(CONTROLS), frames(geometry) {
         std::uint32_t count = geometry.count_of(start);
         words[LIMIT] = start;
         words[COUNT] = count;
@@ -57,9 +43,6 @@ struct alignas(8 * LINE) Log {
     static std::uint64_t packed(std::uint32_t high, std::uint32_t low) { return std::uint64_t{high} << 32 | low; }
 
     Word &tail(std::uint32_t count) { return words[TAILS + count % 3 * LINE]; }
-
-    // The words of the stream from a position on. They go on up to the end of its term.
-    Word *at(std::uint64_t position) { return &words[DATA + geometry.ring_place(position) / 8]; }
 
     void rotate(std::uint32_t count) {
         Word &next = tail(count + 1);
@@ -78,26 +61,12 @@ struct alignas(8 * LINE) Log {
         return ADMIN_ACTION;
     }
 
-    // The words behind the first, and then the first one.
     void write_frame(std::uint64_t start, bool is_data, std::uint8_t flags, std::uint32_t frame_length,
                      const std::uint8_t *payload, std::uint32_t size) {
-        Word *frame = at(start);
         Place place = geometry.place_of(start);
-        frame[1].store(packed(session, place.offset), FILLS);
-        frame[2].store(packed(place.term_id, stream), FILLS);
-        frame[3].store(0, FILLS);
-        Word *into = frame + 4;
-        for (; size >= 8; size -= 8, payload += 8) {
-            std::uint64_t word;
-            std::memcpy(&word, payload, 8);
-            (into++)->store(word, FILLS);
-        }
-        if (size > 0) {
-            std::uint64_t word = 0;
-            std::memcpy(&word, payload, size);
-            into->store(word, FILLS);
-        }
-        frame[0].store(frame_length | std::uint64_t{flags} << 40 | std::uint64_t{is_data} << 48, PUBLISHES);
+        Header header{frame_length | std::uint64_t{flags} << 40 | std::uint64_t{is_data} << 48, packed(session, place.offset),
+                      packed(place.term_id, stream)};
+        frames.write(start, header, payload, size);
     }
 
     void write_message(std::uint64_t start, const std::uint8_t *message, std::uint32_t size) {
@@ -163,13 +132,11 @@ struct alignas(8 * LINE) Reader {
 
     // The frame that is committed where the reader stands, and its payload in the block, which has room for an MTU.
     std::optional<Head> next(std::uint64_t *block) {
-        Word *frame = log.at(position);
-        std::uint64_t first = frame[0].load();
+        std::uint64_t first = log.frames.first(position);
         if (first == 0) return std::nullopt;
         Head head(first);
         read_to = position + head.covered();
-        if (head.is_data)
-            for (std::uint32_t at = HEADER / 8; at < (head.length + 7) / 8; at++) *block++ = frame[at].load();
+        if (head.is_data) log.frames.read(position, head.length - HEADER, block);
         return head;
     }
 
@@ -192,18 +159,17 @@ struct alignas(8 * LINE) Keeper {
         log.words[LIMIT].store(limit, PUBLISHES);
     }
 
-    // Stores zeros up to a position in the term of the cleaned one.
-    void clean_to(std::uint64_t end) {
-        for (Word *word = log.at(cleaned); cleaned < end; cleaned += 8) (word++)->store(0, FILLS);
-    }
-
     // Whether the limit has grown.
     bool clean_and_limit() {
         std::uint64_t least = log.words[CONSUMERS].load();
         for (std::size_t i = 1; i < consumers; i++) least = std::min(least, log.words[CONSUMERS + i * LINE].load());
         std::uint32_t term = log.geometry.term_length;
         std::uint64_t end = std::max(start, least < term ? 0 : least - term);
-        while (cleaned < end) clean_to(std::min(end, log.geometry.term_end(cleaned)));
+        while (cleaned < end) {
+            std::uint64_t from = cleaned;
+            cleaned = log.frames.clean(from, std::min(end, log.geometry.term_end(from)));
+            if (cleaned == from) break;
+        }
         std::uint64_t wanted = least + term / 2;
         if ((limit & FLAGS) != CONNECTED || (limit & ~FLAGS) >= wanted) return false;
         limit = wanted | CONNECTED;

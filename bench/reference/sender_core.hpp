@@ -28,7 +28,7 @@ class SenderCore {
         Run run{from, 0};
         std::uint64_t term_end = log.geometry.term_end(from);
         while (run.end < term_end) {
-            std::uint64_t word = log.at(run.end)->load();
+            std::uint64_t word = log.frames.first(run.end);
             if (word == 0) break;
             Head head(word);
             if (run.size + head.on_wire() > log.geometry.mtu || !may(run.end, head)) break;
@@ -41,7 +41,7 @@ class SenderCore {
     }
 
     void send_run(std::uint64_t from, std::uint32_t size, Udp &out) {
-        out.send({reinterpret_cast<const std::uint8_t *>(log.at(from)), size});
+        out.send({log.frames.at(from), size});
     }
 
     void send_setup(Udp &out) {
