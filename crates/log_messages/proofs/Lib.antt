@@ -1,0 +1,3 @@
+mod Given
+mod Read
+mod Heard
