@@ -1,8 +1,8 @@
 -- Frames that are heard in the course of a call.
-use Rattle.std.proofs.Common.{◌≡◌, ◌↔◌, ℕ, ◌-◌, ◌^◌, ◌<◌, suc, List, [], ◌∷◌, ◌++◌, map, false, Bool, Option, None, Some, refl, sym, ap, ◌∙◌, subst, arith, append-nil, append_assoc}
+use Rattle.std.proofs.Common.{◌≡◌, ℕ, ◌-◌, ◌^◌, ◌<◌, suc, List, [], ◌∷◌, ◌++◌, Option, None, Some, refl, sym, ap, ◌∙◌, subst, arith, append-nil, append_assoc}
 use Rattle.std.specs.Option.{option_to_list}
 use Rattle.theory.specs.Assembly.{Assembly}
-use Rattle.theory.specs.Placed.{Chain, Placed}
+use Rattle.theory.specs.Placed.{Placed}
 use Rattle.theory.proofs.Follow.{Chain-append}
 use Rattle.assembler.specs.Assembling.{Assembling}
 use Rattle.assembler.specs.declared.fault.AssemblyError.{AssemblyError}

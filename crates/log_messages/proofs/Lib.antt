@@ -1,3 +1,4 @@
 mod Given
 mod Read
 mod Heard
+mod Committed

@@ -1,5 +1,5 @@
 -- Frames that a reader reads and passes.
-use Rattle.std.proofs.Common.{◌≡◌, ◌↔◌, ℕ, ◌+◌, ◌-◌, ◌≤◌, ◌<◌, ◌^◌, ◌⊎◌, inl, inr, suc, List, [], ◌∷◌, ◌++◌, map, length, take, drop, false, true, Bool, Option, None, Some, Ok, Err, refl, sym, ap, ◌∙◌, subst, arith, append-nil, ◌||◌, ◌/◌, ◌*◌}
+use Rattle.std.proofs.Common.{◌≡◌, ℕ, ◌+◌, ◌-◌, ◌≤◌, ◌<◌, ◌^◌, inl, inr, List, [], ◌∷◌, ◌++◌, map, length, take, false, true, Bool, Option, None, Ok, Err, refl, sym, ap, ◌∙◌, subst, arith, append-nil, ◌||◌, ◌/◌, ◌*◌}
 use Rattle.std.specs.Prelude.{⊤, IfErr, IfOk, Result, option_map}
 use Rattle.std.specs.Result.{is_err}
 use Rattle.std.specs.Option.{option_to_list}
@@ -9,7 +9,7 @@ use Rattle.theory.specs.Bytes.{Identity}
 use Rattle.theory.specs.Position.{IsGeometry}
 use Rattle.theory.specs.Placed.{Among, Chain, Data, Frame, Pad, Placed, end_of, frame_length, payload_of}
 use Rattle.theory.specs.Assembly.{Assembly}
-use Rattle.theory.proofs.Follow.{Chain-append, Chain-push}
+use Rattle.theory.proofs.Follow.{Chain-push}
 use Rattle.theory.proofs.Lists.{among_right}
 use Rattle.assembler.specs.Assembling.{Assembling}
 use Rattle.assembler.specs.declared.assembler.Message.{Message}
@@ -24,7 +24,7 @@ use Rattle.shared_log.specs.Handles.{LogValue}
 use Rattle.shared_log.specs.Readers.{Advances, Has, IsReaderOf, ReaderValue, ReadsFrame, ReadsNone, known_of, misses_of}
 use Rattle.shared_log.specs.Sourced.{placed}
 use Rattle.shared_log.proofs.Sourced.{passes}
-use Rattle.log_messages.specs.Reading.{FindsNone, HasRead, HearsOne, Reading, ReadsOn, ReadsOne, RefusesFrame, RefusesOne, TakesFrame, assembled, heard_of, read_by}
+use Rattle.log_messages.specs.Reading.{FindsNone, HasRead, HearsOne, Reading, ReadsOne, RefusesFrame, RefusesOne, TakesFrame, assembled, heard_of, read_by}
 use Rattle.log_messages.proofs.Given.{after_begun, after_given, assembled_more, given_behind}
 
 -- the frame where it stood was read and passed

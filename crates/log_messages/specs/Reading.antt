@@ -1,5 +1,5 @@
 -- What contracts see of who reads a log's messages, and what it reads.
-use Rattle.std.specs.Prelude.{◌≡◌, ◌↔◌, ◌^◌, ◌<◌, ℕ, suc, false, Bool, List, [], ◌∷◌, ◌++◌, length, map, option_map, Option, None, Some, Result, Ok, Err, IfErr, IfOk, IfSome}
+use Rattle.std.specs.Prelude.{◌≡◌, ◌↔◌, ◌^◌, ◌<◌, ℕ, suc, false, Bool, List, [], ◌∷◌, ◌++◌, length, map, Option, None, Some, Result, Ok, Err}
 use Rattle.std.specs.Option.{option_to_list}
 use Rattle.theory.specs.Position.{IsGeometry}
 use Rattle.theory.specs.Placed.{Chain, Data, Frame, Pad, Placed, is_padding}
@@ -8,8 +8,6 @@ use Rattle.assembler.specs.Assembling.{Assembling, held_with, is_dropped}
 use Rattle.assembler.specs.declared.fault.AssemblyError.{AssemblyError}
 use Rattle.assembler.specs.declared.fault.AssemblyError.TheVariants.{Memory, TooLong}
 use Rattle.assembler.specs.declared.assembler.Message.{Message}
-use Rattle.log_rule.specs.Says.{IsCommittedFor}
-use Rattle.publication.specs.declared.pass.FrameWords.{FrameWords}
 use Rattle.shared_log.specs.Readers.{HasNone, ReaderValue, known_of, misses_of}
 use Rattle.shared_log.specs.Sourced.{placed}
 

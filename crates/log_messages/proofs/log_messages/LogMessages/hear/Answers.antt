@@ -1,11 +1,7 @@
-use Rattle.std.proofs.Common.{◌≡◌, ◌≤◌, ◌<◌, ◌^◌, ℕ, List, false, Bool, sym, ap, subst, length, ◌||◌}
+use Rattle.std.proofs.Common.{◌≤◌, ◌<◌, ◌^◌, ℕ, sym, subst, length}
 use Rattle.std.specs.Prelude.{IfErr, IfOk, option_map}
 use Rattle.theory.specs.Bytes.{Identity}
 use Rattle.theory.specs.Position.{IsGeometry}
-use Rattle.assembler.specs.Assembling.{Assembling}
-use Rattle.publication.specs.declared.pass.Pass.{Pass}
-use Rattle.publication.specs.Contents.{frame_in}
-use Rattle.shared_log.specs.Readers.{ReaderValue}
 use Rattle.shared_log.specs.Sourced.{placed}
 use Rattle.log_messages.specs.Reading.{FindsNone, HearsOne, Reading, RefusesOne}
 use Rattle.log_messages.proofs.Read.{after_of, hears_if, keeps_read, none, passed, refuses_if, shown}

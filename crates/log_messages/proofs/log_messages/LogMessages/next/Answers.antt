@@ -1,4 +1,3 @@
-use Rattle.std.proofs.Common.{None}
 use Rattle.log_messages.proofs.Heard.{further, gives, gives_none, goes_on, refuses, starts}
 use Rattle.log_messages.proofs.log_messages.LogMessages.next.Goals as goal
 
