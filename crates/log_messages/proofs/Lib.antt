@@ -2,3 +2,4 @@ mod Given
 mod Read
 mod Heard
 mod Committed
+mod All

@@ -10,7 +10,8 @@ use Rattle.theory.specs.Position.{IsGeometry}
 use Rattle.theory.specs.Placed.{Among, Chain, Data, Frame, Pad, Placed, end_of, frame_length, payload_of}
 use Rattle.theory.specs.Assembly.{Assembly}
 use Rattle.theory.proofs.Follow.{Chain-push}
-use Rattle.theory.proofs.Lists.{among_right}
+use Rattle.std.specs.List.{AllByRecursion}
+use Rattle.theory.proofs.Lists.{all_pushed, among_right}
 use Rattle.assembler.specs.Assembling.{Assembling}
 use Rattle.assembler.specs.declared.assembler.Message.{Message}
 use Rattle.assembler.specs.declared.fault.AssemblyError.{AssemblyError}
@@ -24,7 +25,7 @@ use Rattle.shared_log.specs.Handles.{LogValue}
 use Rattle.shared_log.specs.Readers.{Advances, Has, IsReaderOf, ReaderValue, ReadsFrame, ReadsNone, known_of, misses_of}
 use Rattle.shared_log.specs.Sourced.{placed}
 use Rattle.shared_log.proofs.Sourced.{passes}
-use Rattle.log_messages.specs.Reading.{FindsNone, HasRead, HearsOne, Reading, ReadsOne, RefusesFrame, RefusesOne, TakesFrame, assembled, heard_of, read_by}
+use Rattle.log_messages.specs.Reading.{FindsNone, HasRead, HearsOne, IsWhole, Reading, ReadsOne, RefusesFrame, RefusesOne, TakesFrame, assembled, heard_of, read_by}
 use Rattle.log_messages.proofs.Given.{after_begun, after_given, assembled_more, given_behind}
 
 -- the frame where it stood was read and passed
@@ -36,6 +37,9 @@ pub record IsPassed (r s : ReaderValue) (f : Placed) : Type 0 where
   pub looked : misses_of s ≡ misses_of r
   pub identity : s.held.pass.identity ≡ r.held.pass.identity
   pub long : 32 ≤ frame_length f.frame
+  pub words : FrameWords
+  pub known : known_of s ≡ known_of r ++ words ∷ []
+  pub whole : IsWhole words
 
 head_length : (p : ℕ) (f : Frame) → (head_of p f).frame_length ≡ frame_length f
 head_length p (Data flags payload) = refl
@@ -54,6 +58,9 @@ passed l r q s head before after g of h a =
       looked = a.looked ∙ f.looked;
       identity = ap (λ (v : Pass). v.identity) a.pass.rest ∙ ap (λ (v : Pass). v.identity) f.stays.pass.rest;
       long = subst (λ n. 32 ≤ n) (ap (λ (z : FrameHead). z.frame_length) f.shown ∙ head_length r.position (frame_in x)) f.legal.long;
+      words = x;
+      known = a.known ∙ f.known;
+      whole = sym ((passes l q s s.position g of a refl).behind (placed x) among (f.here.at ∙ sym stands)) ∙ ap (λ (z : ReaderValue). z.position) a.same ∙ f.read;
     }
 
 -- the frame that a head and a block show
@@ -74,6 +81,7 @@ reads_more : (b : ℕ) (r s : ReaderValue) (a c : Assembling) (before now : Bool
 reads_more b r s a c before now f h p step = record {
   legal = subst (λ (i : Identity). IsGeometry i.geometry) (sym p.identity) h.legal;
   chain = subst (λ (x : ℕ × List Placed). Chain b x.0 x.1) (λ j. (sym p.ends j, sym p.read j)) (Chain-push b r.position (read_by r) f h.chain p.at);
+  whole = subst (AllByRecursion IsWhole) (sym p.known) (all_pushed IsWhole (known_of r) p.words h.whole p.whole);
   begun = λ e. (let both = step e in
       ap (λ (fs : List Placed). (assembled None fs).begun) p.read
       ∙ ap (λ (x : Assembly). x.begun) (assembled_more None (read_by r) f)
@@ -166,5 +174,6 @@ none_reads b r q a refused before after h read =
     let f = h.finds in record {
       legal = subst (λ (v : Pass). IsGeometry v.identity.geometry) (sym f.rests.pass) read.legal;
       chain = subst (λ (x : ℕ × List Placed). Chain b x.0 x.1) (λ j. (sym (ap (λ (z : ReaderValue). z.position) f.rests.same) j, map placed (sym f.known j))) read.chain;
+      whole = subst (AllByRecursion IsWhole) (sym f.known) read.whole;
       begun = λ e. ap (λ (fs : List FrameWords). (assembled None (map placed fs)).begun) f.known ∙ read.begun e;
     }

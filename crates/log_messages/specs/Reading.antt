@@ -1,13 +1,15 @@
 -- What contracts see of who reads a log's messages, and what it reads.
-use Rattle.std.specs.Prelude.{◌≡◌, ◌↔◌, ◌^◌, ◌<◌, ℕ, suc, false, Bool, List, [], ◌∷◌, ◌++◌, length, map, Option, None, Some, Result, Ok, Err}
+use Rattle.std.specs.Prelude.{◌≡◌, ◌↔◌, ◌+◌, ◌*◌, ◌^◌, ◌<◌, ℕ, suc, false, Bool, List, [], ◌∷◌, ◌++◌, length, map, Option, None, Some, Result, Ok, Err}
+use Rattle.std.specs.List.{AllByRecursion}
 use Rattle.std.specs.Option.{option_to_list}
 use Rattle.theory.specs.Position.{IsGeometry}
-use Rattle.theory.specs.Placed.{Chain, Data, Frame, Pad, Placed, is_padding}
+use Rattle.theory.specs.Placed.{Chain, Data, Frame, Pad, Placed, end_of, is_padding}
 use Rattle.theory.specs.Assembly.{Assembly, Heard, after_all, on_frame}
 use Rattle.assembler.specs.Assembling.{Assembling, held_with, is_dropped}
 use Rattle.assembler.specs.declared.fault.AssemblyError.{AssemblyError}
 use Rattle.assembler.specs.declared.fault.AssemblyError.TheVariants.{Memory, TooLong}
 use Rattle.assembler.specs.declared.assembler.Message.{Message}
+use Rattle.publication.specs.declared.pass.FrameWords.{FrameWords}
 use Rattle.shared_log.specs.Readers.{HasNone, ReaderValue, known_of, misses_of}
 use Rattle.shared_log.specs.Sourced.{placed}
 
@@ -31,11 +33,16 @@ assembled begun frames = after_all (record { begun = begun; given = [] }) (map (
 abbrev pub given_of : Reading → List (List ℕ)
 given_of m = (assembled None (read_by m.reader)).given
 
+-- as many words as its frame covers
+abbrev pub IsWhole : FrameWords → Type 0
+IsWhole f = end_of (placed f) ≡ f.start + 8 * length f.words
+
 -- it has read frames that lie next to one another, from where it began to where it stands; what is begun is what an assembler
 -- makes of them, unless it refused one
 pub record HasRead (begun_at : ℕ) (r : ReaderValue) (a : Assembling) (has_refused : Bool) : Type 0 where
   pub legal : IsGeometry r.held.pass.identity.geometry
   pub chain : Chain begun_at r.position (read_by r)
+  pub whole : AllByRecursion IsWhole (known_of r)
   pub begun : has_refused ≡ false → (assembled None (read_by r)).begun ≡ a.begun
 
 -- ---- an assembler and one frame

@@ -4,7 +4,7 @@
 //! where the reader began, each where the one before ends, and gives each message that they complete, once and in order:
 //! whatever other threads do meanwhile, what it has given is exactly what an assembler makes of the frames that it has read
 //! (`given_of`), and each of those was committed by a pass
-//! (`what_is_read_is_committed`). Where a message is longer than the greatest, or memory is refused, that
+//! (`what_is_read_is_committed`); and of a closed log none was left out (`all_that_is_committed_is_read`). Where a message is longer than the greatest, or memory is refused, that
 //! message is lost and told as an error, and those behind it go on.
 #![tactic(auto)]
 
@@ -13,5 +13,5 @@ mod law;
 mod log_messages;
 
 pub use denied::Denied;
-pub use law::what_is_read_is_committed;
+pub use law::{all_that_is_committed_is_read, what_is_read_is_committed};
 pub use log_messages::LogMessages;

@@ -41,7 +41,7 @@ impl Model for LogMessages {
 type Step = Result<Option<Message<Global>>, AssemblyError>;
 
 impl LogMessages {
-    ghost use Rattle.log_messages.specs.Reading.{Answers, FindsNone, HearsOne, RefusesOne};
+    ghost use Rattle.log_messages.specs.Reading.{Answers, FindsNone, HasRead, HearsOne, RefusesOne};
 
     /// The messages that this reader gets from where it stands on, where it has read nothing yet; each of at most `greatest`
     /// bytes. The error comes only where memory was refused, and gives the reader back.
@@ -70,9 +70,10 @@ impl LogMessages {
         self.reader.position()
     }
 
-    /// Its reader, which has read what it gave.
+    /// Its reader, which knows just what was read.
     pub fn into_reader(self) -> LogReader
-        ensures { result ≡ self.reader }
+        ensures reader { result ≡ self.reader }
+        ensures read { HasRead self.begun_at self.reader self.assembler self.has_refused }
     {
         self.reader
     }
