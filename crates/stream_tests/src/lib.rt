@@ -4,12 +4,12 @@
 
 #[cfg(test)]
 mod consumers_among_threads;
-mod library;
+#[cfg(test)]
+mod learning;
 #[cfg(test)]
 mod opening;
 mod parties;
 #[cfg(test)]
 mod streams;
 
-pub use library::pass_on;
 pub use parties::Party;

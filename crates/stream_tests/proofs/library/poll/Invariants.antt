@@ -1,6 +1,0 @@
-use Rattle.std.proofs.Common.{◌≤◌, length}
-use Rattle.shared_log.specs.Readers.{IsReaderOf}
-use Rattle.stream_tests.proofs.library.poll.Given as goal
-
-abbrev pub invariant-loop : goal.invariant-loop
-invariant-loop l = IsReaderOf l.log l.reader × (l.log.identity.geometry.mtu ≤ length l.block)
