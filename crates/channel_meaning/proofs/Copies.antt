@@ -6,7 +6,7 @@ use Rattle.theory.specs.Position.{max_message}
 use Rattle.messages.specs.Forms.{block, line, spelling}
 use Rattle.messages.specs.declared.form.Form.{Form}
 use Rattle.messages.specs.declared.form.Form.TheVariants.{Lines, Blocks}
-use Rattle.publisher.specs.Published.{Reads, Stops}
+use Rattle.publisher.specs.Offers.{Reads, Stops}
 use Rattle.publisher.specs.declared.offering.fault.ReadingFault.{ReadingFault}
 use Rattle.publisher.specs.declared.offering.reading.ReadingEnd.{ReadingEnd}
 use Rattle.receiver.specs.Lives as meant

@@ -24,8 +24,8 @@ use Rattle.sender_meaning.proofs.StreamRows.{ab, two}
 use Rattle.options.specs.declared.ends.plans.PublishPlan.{PublishPlan}
 use Rattle.messages.specs.declared.form.Form.TheVariants.{Lines}
 use Rattle.publisher.specs.InputEnds.{EndsInput}
-use Rattle.publisher.specs.Published.{Publishes, Taken, claim_of, frames_in}
-use Rattle.publisher.specs.Published.Taken.{Message}
+use Rattle.publisher.specs.Offers.{Publishes, Taken, claim_of, frames_in}
+use Rattle.publisher.specs.Offers.Taken.{Message}
 use Rattle.publisher.specs.declared.offering.reading.Reading.{Reading}
 use Rattle.publisher.specs.declared.offering.reading.ReadingEnd.TheVariants.{All}
 use Rattle.messages.specs.Inputs.{IsOneLine}

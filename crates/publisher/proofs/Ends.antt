@@ -1,6 +1,8 @@
 -- A publisher to several subscribers ends by what was heard along its destinations.
-use Rattle.std.proofs.Common.{◌≡◌, ◌∙◌, ℕ, List, Option, None, Some, sym, ap, subst}
-use Rattle.std.specs.Prelude.{⊤}
+use Rattle.std.proofs.Common.{◌≡◌, ◌∙◌, ℕ, ◌+◌, ◌<◌, Bool, true, false, List, Option, None, Some, get_or, length, take, sym, ap, subst}
+use Rattle.std.proofs.lemmas.List.Folds.{list_all_more}
+use Rattle.std.specs.List.{list_all}
+use Rattle.std.specs.Prelude.{◌&&◌, ⊤}
 use Rattle.peer.specs.declared.ending.Ending.{Ending}
 use Rattle.publisher.specs.declared.offering.reading.Reading.{Reading}
 use Rattle.publisher.specs.Judging.{end_in}
@@ -32,3 +34,11 @@ ends {D} p shown destinations linger wait answer is told found same =
     let both = as_judged told.reading told.line _ is (sym found ∙ told.is) in
     subst (λ (ws : List (ChannelDestination D)). Ends ws linger wait is) same
     (ap (λ (r : Option Reading). ending_along shown (end_in r) linger wait) (sym both.0) ∙ both.1)
+
+-- ---- whether all are
+
+pub all_yes : {X : Type 0} (f : X → Bool) (xs : List X) (i : ℕ) (w : X) (all after : Bool) → i < length xs → w ≡ get_or xs i w → all ≡ list_all f (take i xs) → all ≡ true → after ≡ f w → after ≡ list_all f (take (i + 1) xs)
+all_yes f xs i w all after low is so was here = here ∙ ap f is ∙ sym (list_all_more f xs i w low ∙ ap (λ (b : Bool). b && f (get_or xs i w)) (sym so ∙ was))
+
+pub all_no : {X : Type 0} (f : X → Bool) (xs : List X) (i : ℕ) (w : X) (all after : Bool) → i < length xs → all ≡ list_all f (take i xs) → all ≡ false → after ≡ false → after ≡ list_all f (take (i + 1) xs)
+all_no f xs i w all after low so was here = here ∙ sym (list_all_more f xs i w low ∙ ap (λ (b : Bool). b && f (get_or xs i w)) (sym so ∙ was))

@@ -1,5 +1,5 @@
 pub mod Inputs
-pub mod Published
+pub mod Offers
 pub mod Beginnings
 pub mod Ends
 mod ArrivedRows

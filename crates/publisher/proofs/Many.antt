@@ -95,4 +95,4 @@ told_again count tail old middle same = as_one middle ∙ ap (map (told_times 1 
     as_more (w ∷ ws) = λ i. told_times (suc count) tail (noted w) ∷ as_more ws i
 
 pub again : {D : Type 0} (count tail : ℕ) (first before after : List (ChannelDestination D)) → AreTold count tail first before → AreTold 1 tail before after → AreTold (count + 1) tail first after
-again {D} count tail first before after so then = then ∙ told_again count tail first before so ∙ ap (λ (n : ℕ). map (λ w. told_times n tail (noted w)) first) (sym (add-one count))
+again {D} count tail first before after so next = next ∙ told_again count tail first before so ∙ ap (λ (n : ℕ). map (λ w. told_times n tail (noted w)) first) (sym (add-one count))

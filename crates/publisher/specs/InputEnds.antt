@@ -7,7 +7,7 @@ use Rattle.shared_log.specs.Books.{IsDone}
 use Rattle.shared_log.specs.Handles.{LogValue}
 use Rattle.messages.specs.declared.form.Form.{Form}
 use Rattle.publisher.specs.declared.offering.reading.Reading.{Reading}
-use Rattle.publisher.specs.Published.{PublishesInput}
+use Rattle.publisher.specs.Offers.{PublishesInput}
 
 -- the log's publisher has nothing open, and has published what was read from what the input had, for the log's shape
 pub record EndsInput (form : Form) (l : LogValue) (old new : Option (List ℕ)) (p : Pass) (q : PublisherValue) (r : Reading) : Type 0 where

@@ -1,6 +1,6 @@
 pub mod Inputs
 pub mod Refusals
-pub mod Published
+pub mod Offers
 pub mod InputEnds
 pub mod Faults
 pub mod Judging

@@ -1,6 +1,6 @@
 //! How the reading ended, and why a publisher goes on no more by that.
 
-ghost use Rattle.std.specs.Prelude.{◌≡◌, IfSome, OnErr, OnOk};
+ghost use Rattle.std.specs.Prelude.{◌≡◌, true, IfSome, OnErr, OnOk};
 ghost use Rattle.publisher.specs.Judging.{IsStop, end_in, fault_in, input_fault, messages_in, reading_fault, tail_in};
 ghost use Rattle.publisher.specs.Progress.{with_fault};
 

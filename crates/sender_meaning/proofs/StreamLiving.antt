@@ -68,7 +68,7 @@ cycle_lived_to n now s t c = record { heard = c.heard; lived = all_heard n now s
 to_lived : (n now : ℕ) (s t : StreamCore) → StreamLivedTo n now s t → StreamLived n s t
 to_lived n now s t l = lived_on n s l.heard t l.lived (ticked n now l.heard t l.given l.told)
 
-fault_lived : {D : Type 0} (n now : ℕ) (device : D → Device) (tells : D → Type 0) (turned : D → ℕ → D) (ways : ℕ) (why : DeviceError) (s t : StreamCore) (d e : D) → WaysFault HearsThere TicksThere now device tells turned ways why s d t e → StreamLived s t
+fault_lived : {D : Type 0} (n now : ℕ) (device : D → Device) (tells : D → Type 0) (turned : D → ℕ → D) (ways : ℕ) (why : DeviceError) (s t : StreamCore) (d e : D) → WaysFault HearsThere TicksThere now device tells turned ways why s d t e → StreamLived n s t
 fault_lived {D} n now device tells turned ways why s t d e (inl f) =
     let heard = ways_heard now device tells turned f.way f.any s f.middle d f.between f.heard in
     lived_on n s f.middle t (all_heard n now s f.middle heard.0 heard.1 heard.2) (all_heard n now f.middle t f.stopped.heard f.stopped.given f.stopped.all_heard)

@@ -4,7 +4,7 @@ ghost use Rattle.std.specs.Prelude.{◌≡◌, IfErr, IfOk, IfSome};
 ghost use Rattle.std.specs.Arc.{arc_value};
 ghost use Rattle.theory.specs.Position.{max_message};
 ghost use Rattle.shared_log.specs.Books.{IsDone};
-ghost use Rattle.publisher.specs.Published.{PublishesInput};
+ghost use Rattle.publisher.specs.Offers.{PublishesInput};
 ghost use Rattle.publisher.specs.InputEnds.{EndsInput};
 
 use crate::offering::offering_context::OfferingContext;

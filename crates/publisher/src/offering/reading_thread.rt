@@ -4,7 +4,7 @@ ghost use Rattle.std.specs.Prelude.{◌≡◌, ◌≤◌, IfErr, IfOk, Ok, Err, 
 ghost use Rattle.theory.specs.Position.{max_message};
 ghost use Rattle.shared_log.specs.Books.{IsDone};
 ghost use Rattle.publisher.specs.Inputs.{StopsReading};
-ghost use Rattle.publisher.specs.Published.{GivesUp, OffersOne, PublishesInput, PublishesNone, PublishesOne};
+ghost use Rattle.publisher.specs.Offers.{GivesUp, OffersOne, PublishesInput, PublishesNone, PublishesOne};
 ghost use Rattle.publisher.specs.Refusals.{IsRefused, IsRefusedForGood};
 
 use crate::offering::fault::ReadingFault;
@@ -18,7 +18,7 @@ use std::io::BufRead;
 use std::time::Clock;
 
 /// Offers a message. The answer is where it ends.
-#[tactic(auto, using(crate::proofs::Published::accepted, crate::proofs::Published::refused))]
+#[tactic(auto, using(crate::proofs::Offers::accepted, crate::proofs::Offers::refused))]
 fn offer_once(log: &Log, publisher: &mut Publisher, message: &[u8]) -> Result<u64, Refusal>
     requires done { IsDone log.now publisher.old }
     requires short { length message.now ≤ max_message log.now.identity.geometry }
@@ -57,7 +57,7 @@ fn offer_or_rest<R: Clock>(
 
 /// Offers a message until it is accepted. Where it ends: it isn't accepted where all is to stop. The fault is `Full`, where its
 /// last offer was refused for good.
-#[tactic(auto, using(crate::proofs::Published::after_none))]
+#[tactic(auto, using(crate::proofs::Offers::after_none))]
 fn offer_until_accepted<R: Clock>(
     context: &OfferingContext<'_, R>,
     publisher: &mut Publisher,
@@ -83,7 +83,7 @@ fn offer_until_accepted<R: Clock>(
 
 /// Reads the messages of the input and offers each until it is accepted, up to the input's end, a fault, or all is to stop.
 /// What was accepted is counted.
-#[tactic(auto, using(crate::proofs::Inputs::of_message, crate::proofs::Published::ended, crate::proofs::Published::counted_out, crate::proofs::Published::unpublished))]
+#[tactic(auto, using(crate::proofs::Inputs::of_message, crate::proofs::Offers::ended, crate::proofs::Offers::counted_out, crate::proofs::Offers::unpublished))]
 fn offer_all<R: Clock, I: BufRead>(
     context: &OfferingContext<'_, R>,
     input: &mut I,

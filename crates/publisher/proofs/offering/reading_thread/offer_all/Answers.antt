@@ -2,7 +2,7 @@ use Rattle.std.proofs.Common.{rules, ◌≡◌, ◌≤◌, refl, arith}
 use Rattle.theory.specs.Position.{max_message}
 use Rattle.publisher.specs.declared.offering.fault.ReadingFault.TheVariants.{Input}
 use Rattle.publisher.proofs.Inputs.{of_message}
-use Rattle.publisher.proofs.Published.{at_fault, at_full, one_more, unplaced, unpublished, unreadable}
+use Rattle.publisher.proofs.Offers.{at_fault, at_full, one_more, unplaced, unpublished, unreadable}
 use Rattle.publisher.proofs.offering.reading_thread.offer_all.Goals as goal
 
 pub returns-in_err-read_message-clause-fault : goal.returns-in_err-read_message-clause-fault

@@ -1,6 +1,6 @@
 use Rattle.theory.specs.Position.{max_message}
 use Rattle.shared_log.specs.Books.{IsDone}
-use Rattle.publisher.proofs.Published.{PublishesSome}
+use Rattle.publisher.proofs.Offers.{PublishesSome}
 use Rattle.publisher.proofs.offering.reading_thread.offer_all.Given as goal
 
 abbrev pub invariant-loop-number : goal.invariant-loop-number

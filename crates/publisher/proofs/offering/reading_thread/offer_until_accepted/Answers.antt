@@ -1,5 +1,5 @@
 use Rattle.std.proofs.Common.{Some}
-use Rattle.publisher.proofs.Published.{after_none, at_fault, both_none, gives_up}
+use Rattle.publisher.proofs.Offers.{after_none, at_fault, both_none, gives_up}
 use Rattle.publisher.proofs.offering.reading_thread.offer_until_accepted.Goals as goal
 
 pub returns-in_err-end-clause-fault : goal.returns-in_err-end-clause-fault

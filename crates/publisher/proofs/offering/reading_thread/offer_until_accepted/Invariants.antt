@@ -1,5 +1,5 @@
 use Rattle.shared_log.specs.Books.{IsDone}
-use Rattle.publisher.specs.Published.{PublishesNone}
+use Rattle.publisher.specs.Offers.{PublishesNone}
 use Rattle.publisher.proofs.offering.reading_thread.offer_until_accepted.Given as goal
 
 abbrev pub invariant-loop-turn : goal.invariant-loop-turn

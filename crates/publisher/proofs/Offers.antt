@@ -28,9 +28,9 @@ use Rattle.publisher.specs.declared.offering.fault.ReadingFault.{ReadingFault}
 use Rattle.publisher.specs.declared.offering.fault.ReadingFault.TheVariants.{Full, Input}
 use Rattle.publisher.specs.declared.offering.reading.Offered.{Offered}
 use Rattle.publisher.specs.declared.offering.reading.ReadingEnd.TheVariants.{All, Stopped}
-use Rattle.publisher.specs.Published.{GivesUp, OffersOne, Publishes, PublishesInput, PublishesNone, PublishesOne, Reads, claim_of, end_behind, frames_in, messages_in}
-use Rattle.publisher.specs.Published.{Taken}
-use Rattle.publisher.specs.Published.Taken.{Message, Padding}
+use Rattle.publisher.specs.Offers.{GivesUp, OffersOne, Publishes, PublishesInput, PublishesNone, PublishesOne, Reads, claim_of, end_behind, frames_in, messages_in}
+use Rattle.publisher.specs.Offers.{Taken}
+use Rattle.publisher.specs.Offers.Taken.{Message, Padding}
 use Rattle.publisher.specs.Refusals.{IsRefusedForGood}
 
 -- ---- of one pass and a later one
