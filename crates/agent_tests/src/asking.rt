@@ -4,7 +4,7 @@ ghost use Rattle.std.specs.Prelude.{◌≡◌};
 ghost use Rattle.shared_log.specs.Parts.{IsNewReader};
 ghost use Rattle.agent_tests.specs.Senders.{IsFirstLog, IsSender};
 
-use crate::{Agent, device_with_status, duty_over, open_agent, open_log};
+use crate::{Agent, along, device_with_status, duty_over, open_agent, open_log};
 use conductor::{CAPACITY, Client, Command, Conductor, Taker};
 use shared_log::{Log, LogReader};
 use std::alloc::Global;
@@ -26,7 +26,8 @@ fn turn<R: Wait>(
     ensures sender { IsSender agent.new.core }
     ensures client { (client.new.queue ≡ client.old.queue) × (client.new.number ≡ client.old.number) }
 {
-    let mut duty = duty_over(alloc, device_with_status(alloc, asks)?, 1408)?;
+    let device = along(alloc, device_with_status(alloc, asks)?)?;
+    let mut duty = duty_over(alloc, device, 1408)?;
     let _ = agent.cycle(rt, conductor, client, &mut duty, 0);
     Ok(())
 }

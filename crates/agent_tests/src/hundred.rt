@@ -5,8 +5,10 @@ ghost use Rattle.shared_log.specs.Handles.{IsOf};
 ghost use Rattle.shared_log.specs.Parts.{IsNewReader};
 ghost use Rattle.agent_tests.specs.Senders.{IsFirstLog, IsSender};
 
-use crate::{Agent, carry, device_with, duty_over, listening, open_agent, open_log, publish};
-use agents::{CYCLE_DATAGRAMS, Duty, REPLY};
+use crate::{
+    Agent, along, carry, device_with, duty_over, listening, open_agent, open_log, publish,
+};
+use agents::{CYCLE_DATAGRAMS, REPLY};
 use conductor::{Client, Conductor};
 use endpoint::{Datagrams, DeviceError, FailingDatagrams, MemoryDevice};
 use receiver::Subscriber;
@@ -72,25 +74,23 @@ impl Between {
     }
 }
 
-type Broken = Duty<FailingDatagrams<MemoryDevice>>;
+type Broken = FailingDatagrams<MemoryDevice>;
 
-/// A device with what waits on a wire, and room beside it.
-fn duty_of(alloc: Global, wire: &mut Wire, mtu: u32) -> Result<Broken, Fail>
-    ensures { IfOk result (λ d. d.mtu ≡ mtu) }
-{
+/// A device with what waits on a wire.
+fn device_of(alloc: Global, wire: &mut Wire) -> Result<Broken, Fail> {
     for _ in wire.came.len()..COME {
         wire.came.push(Vec::from_slice(alloc, &[0])?)?;
     }
     let device = device_with(alloc, &wire.came)?;
-    duty_over(alloc, FailingDatagrams::new(device, wire.fails), mtu)
+    Ok(FailingDatagrams::new(device, wire.fails))
 }
 
 /// Behind a cycle what was received waits no more, and its calls are counted.
-fn count(own: &mut Wire, duty: &Broken) {
-    let inner = duty.device().inner();
+fn count(own: &mut Wire, device: &Broken) {
+    let inner = device.inner();
     let others = (inner.sent().len() as u64).saturating_add(inner.nones());
     let waiting = own.came.len().min(CYCLE_DATAGRAMS) as u64;
-    let (received, fails) = if duty.device().failures() > 0 {
+    let (received, fails) = if device.failures() > 0 {
         (own.fails.saturating_sub(others).saturating_sub(1), 0)
     } else {
         (
@@ -107,13 +107,13 @@ fn count(own: &mut Wire, duty: &Broken) {
 }
 
 /// What was sent waits for the peer.
-fn pass_on(alloc: Global, duty: &Broken, peer: &mut Wire) -> Result<(), Fail> {
-    Ok(carry(alloc, duty.device().inner().sent(), &mut peer.came)?)
+fn pass_on(alloc: Global, device: &Broken, peer: &mut Wire) -> Result<(), Fail> {
+    Ok(carry(alloc, device.inner().sent(), &mut peer.came)?)
 }
 
 /// Whether a cycle's answer is its device's.
-fn is_told(answer: Result<bool, DeviceError>, duty: &Broken) -> bool {
-    if duty.device().failures() > 0 {
+fn is_told(answer: Result<bool, DeviceError>, device: &Broken) -> bool {
+    if device.failures() > 0 {
         answer == Err(DeviceError::Device)
     } else {
         answer.is_ok()
@@ -134,20 +134,29 @@ fn sender_turn<R: Wait>(
     ensures sender { IsSender agent.new.core }
     ensures client { client.new.queue ≡ client.old.queue }
 {
-    let mut duty = duty_of(between.alloc, &mut between.sender, 1408)?;
+    let device = along(
+        between.alloc,
+        device_of(between.alloc, &mut between.sender)?,
+    )?;
+    let mut duty = duty_over(between.alloc, device, 1408)?;
     let answer = agent.cycle(rt, conductor, client, &mut duty, now);
-    between.told = between.told && is_told(answer, &duty);
-    count(&mut between.sender, &duty);
-    pass_on(between.alloc, &duty, &mut between.receiver)
+    for device in duty.device().each() {
+        between.told = between.told && is_told(answer, device);
+        count(&mut between.sender, device);
+        pass_on(between.alloc, device, &mut between.receiver)?;
+    }
+    Ok(())
 }
 
 /// The receiver's cycle.
 fn receiver_turn(subscriber: &mut Subscriber, between: &mut Between, now: u64) -> Result<(), Fail> {
-    let mut duty = duty_of(between.alloc, &mut between.receiver, REPLY)?;
+    let device = device_of(between.alloc, &mut between.receiver)?;
+    let mut duty = duty_over(between.alloc, device, REPLY)?;
     let answer = duty.cycle(subscriber, now);
-    between.told = between.told && is_told(answer, &duty);
-    count(&mut between.receiver, &duty);
-    pass_on(between.alloc, &duty, &mut between.sender)
+    let device = duty.device();
+    between.told = between.told && is_told(answer, device);
+    count(&mut between.receiver, device);
+    pass_on(between.alloc, device, &mut between.sender)
 }
 
 /// All cycles, in turn, until all is done.

@@ -9,6 +9,6 @@ mod hundred;
 mod way;
 
 pub use way::{
-    Agent, GroupSender, Sender, carry, device_with, device_with_status, duty_over, listening,
-    member, open_agent, open_group_sender, open_log, open_sender, publish, receive, send,
+    Agent, Sender, along, carry, device_with, device_with_status, duty_over, listening, member,
+    open_agent, open_group_sender, open_log, open_sender, publish, receive, send,
 };

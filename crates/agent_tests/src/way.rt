@@ -8,9 +8,9 @@ ghost use Rattle.shared_log.specs.Handles.{IsOf};
 ghost use Rattle.shared_log.specs.Parts.{IsNewReader};
 ghost use Rattle.agent_tests.specs.Senders.{IsFirstLog, IsSender};
 
-use agents::{Duty, LogPasses, LogSender, REPLY};
-use endpoint::{Datagrams, DeviceError, MemoryDevice};
-use flow_control::{StreamFlow, UnicastFlow};
+use agents::{Duty, LogPasses, REPLY, StreamSender, open_stream_sender};
+use endpoint::{Datagrams, DeviceError, Fan, MemoryDevice};
+use flow_control::StreamFlow;
 use frames::{Frame, Status, write_frame};
 use position::{Geometry, Identity};
 use publication::{Refusal, offer};
@@ -21,13 +21,10 @@ use std::alloc::{AllocError, Global};
 use std::test::Fail;
 
 /// The sender of these tests.
-pub type Sender<'a> = SenderCore<LogFrames<'a>, UnicastFlow>;
-
-/// Such a sender to a group.
-pub type GroupSender<'a> = SenderCore<LogFrames<'a>, StreamFlow>;
+pub type Sender<'a> = SenderCore<LogFrames<'a>, StreamFlow>;
 
 /// The agent of these tests.
-pub type Agent<'a> = LogSender<'a>;
+pub type Agent<'a> = StreamSender<'a>;
 
 /// A log with terms of 65,536 bytes that begins at 0, connected, with its limit half a term above that; its first
 /// publisher and its one reader.
@@ -55,7 +52,7 @@ pub fn open_agent<'a>(alloc: Global, log: &'a Log, reader: LogReader) -> Result<
     requires log { IsFirstLog log.now }
     ensures { IfOk result (λ a. IsSender a.core) }
 {
-    Ok(agents::open_sender(alloc, log, reader)?)
+    Ok(open_stream_sender(alloc, log, reader, 1)?)
 }
 
 /// A sender that has sent nothing yet.
@@ -73,13 +70,13 @@ pub fn open_group_sender<'a>(
     log: &'a Log,
     reader: LogReader,
     receivers: usize,
-) -> Result<GroupSender<'a>, Fail>
+) -> Result<Sender<'a>, Fail>
     requires reader { IsNewReader log.now 0 reader }
     requires log { IsFirstLog log.now }
     requires receivers { receivers ≤ 8 }
     ensures { IfOk result (λ s. IsSender s) }
 {
-    Ok(agents::open_stream_sender(alloc, log, reader, Some(receivers))?.into_core())
+    Ok(open_stream_sender(alloc, log, reader, receivers)?.into_core())
 }
 
 /// A subscriber of a receiver with this id and this window that has no image yet.
@@ -151,6 +148,13 @@ pub fn duty_over<D: Drop>(alloc: Global, device: D, mtu: u32) -> Result<Duty<D>,
         Ok(duty) => Ok(duty),
         Err(_) => Err("no memory".into()),
     }
+}
+
+/// A device of one way, along this one.
+pub fn along<D>(alloc: Global, device: D) -> Result<Fan<D>, AllocError> {
+    let mut ways = Vec::new(alloc);
+    ways.push(device)?;
+    Ok(Fan::new(ways))
 }
 
 /// Copies datagrams behind those that wait.

@@ -4,12 +4,10 @@ use Rattle.theory.specs.Bytes.{Identity}
 use Rattle.theory.specs.Placed.{Placed}
 use Rattle.theory.specs.Wire.{Status}
 use Rattle.frame_source.specs.Sources.{Source}
-use Rattle.endpoint.specs.Devices.{Device}
 use Rattle.sender.specs.Cycling.{IsNews, NewsContent, Says, AsksSetup, Misses, TellsNothing, Unreadable}
 use Rattle.sender.specs.Sending.{HearsNews, Sending, at_moment}
 use Rattle.sender.specs.declared.sender_core.SenderAnswer.{SenderAnswer}
-use Rattle.agents.specs.Cycles.{Cycle, Fault, HearsAll, TicksBehind}
-use Rattle.endpoint.specs.declared.device_error.DeviceError.{DeviceError}
+use Rattle.agents.specs.Cycles.{HearsAll}
 use Rattle.agents.specs.Duties.{HaveStatus, Hears, Ticks}
 
 abbrev heard_of : {R F : Type 0} → Sending R F → Bool
@@ -55,27 +53,14 @@ on_tick : {R F : Type 0} (s t u : Sending R F) (Came : Type 0) → Heard s t Cam
 on_tick s t u Came (inl a) e = inl (e ∙ a)
 on_tick s t u Came (inr a) e = inr (e ∙ a.0, a.1)
 
--- a sender that has heard after a cycle had heard before, or a status message came in it
-pub by_cycle : {R F : Type 0} (source : R → Source) (leaves : R → R → Type 0) {looked : R → R → Type 0} (after_status : F → ℤ → ℤ → ℤ → ℕ → F) (reached : F → ℕ) (has_heard : F → Bool) (grown : List Placed → List Placed → Type 0) (after_tick : F → ℕ → F) (now : ℕ) (tells : Type 0) (s : Sending R F) (d : Device) (busy : Bool) (t : Sending R F) (e : Device) → (c : Cycle (Hears source leaves after_status reached has_heard) (Ticks source leaves looked grown after_tick reached) now tells s d busy t e) → Heard s t (HaveStatus s.identity c.heard)
-by_cycle source leaves after_status reached has_heard grown after_tick now tells s d busy t e c = on_tick s c.middle t _ (by_all source leaves after_status reached has_heard now s c.heard c.middle c.answers c.all_heard) (ap heard_of c.ticked.cycles.state)
+-- a sender that has heard after a cycle had heard before, or a status message came in it: datagrams, and then the moment
+pub by_cycle : {R F : Type 0} (source : R → Source) (leaves : R → R → Type 0) {looked : R → R → Type 0} (after_status : F → ℤ → ℤ → ℤ → ℕ → F) (reached : F → ℕ) (has_heard : F → Bool) (grown : List Placed → List Placed → Type 0) (after_tick : F → ℕ → F) (now : ℕ) (s : Sending R F) (ds : List (List ℕ)) (m : Sending R F) (answers : List (List ℕ)) (t : Sending R F) (given : List (List ℕ))
+    → HearsAll (Hears source leaves after_status reached has_heard) now s ds m answers → Ticks source leaves looked grown after_tick reached m now t given → Heard s t (HaveStatus s.identity ds)
+by_cycle source leaves after_status reached has_heard grown after_tick now s ds m answers t given heard ticked = on_tick s m t _ (by_all source leaves after_status reached has_heard now s ds m answers heard) (ap heard_of ticked.cycles.state)
 
 keeps : {R F : Type 0} (s t : Sending R F) (Came : Type 0) → Heard s t Came → s.heard ≡ true → t.heard ≡ true
 keeps s t Came (inl a) on = a ∙ on
 keeps s t Came (inr a) on = a.0
-
--- what it has heard it has heard for good
-pub cycle_keeps : {R F : Type 0} (source : R → Source) (leaves : R → R → Type 0) {looked : R → R → Type 0} (after_status : F → ℤ → ℤ → ℤ → ℕ → F) (reached : F → ℕ) (has_heard : F → Bool) (grown : List Placed → List Placed → Type 0) (after_tick : F → ℕ → F) (now : ℕ) (tells : Type 0) (s : Sending R F) (d : Device) (busy : Bool) (t : Sending R F) (e : Device) → Cycle (Hears source leaves after_status reached has_heard) (Ticks source leaves looked grown after_tick reached) now tells s d busy t e → s.heard ≡ true → t.heard ≡ true
-cycle_keeps source leaves after_status reached has_heard grown after_tick now tells s d busy t e c on = keeps s t _ (by_cycle source leaves after_status reached has_heard grown after_tick now tells s d busy t e c) on
-
-pub fault_keeps : {R F : Type 0} (source : R → Source) (leaves : R → R → Type 0) {looked : R → R → Type 0} (after_status : F → ℤ → ℤ → ℤ → ℕ → F) (reached : F → ℕ) (has_heard : F → Bool) (grown : List Placed → List Placed → Type 0) (after_tick : F → ℕ → F) (now : ℕ) (tells : Type 0) (fault : DeviceError) (s : Sending R F) (d : Device) (t : Sending R F) (e : Device) → Fault (Hears source leaves after_status reached has_heard) (Ticks source leaves looked grown after_tick reached) now tells fault s d t e → s.heard ≡ true → t.heard ≡ true
-fault_keeps {R} {F} source leaves {looked} after_status reached has_heard grown after_tick now tells fault s d t e c on = either c.ticked
-  where
-    heard : c.middle.heard ≡ true
-    heard = keeps s c.middle _ (by_all source leaves after_status reached has_heard now s c.heard c.middle c.answers c.all_heard) on
-
-    either : ((t ≡ c.middle) × (c.given ≡ [])) ⊎ TicksBehind (Ticks source leaves looked grown after_tick reached) now c.heard c.lost c.answers c.given c.sent c.middle d t e → t.heard ≡ true
-    either (inl same) = ap heard_of same.0 ∙ heard
-    either (inr k) = ap heard_of k.ticked.cycles.state ∙ heard
 
 -- over datagrams one after the other, and over a moment
 pub all_keep : {R F : Type 0} (source : R → Source) (leaves : R → R → Type 0) (after_status : F → ℤ → ℤ → ℤ → ℕ → F) (reached : F → ℕ) (has_heard : F → Bool) (now : ℕ) (s : Sending R F) (ds : List (List ℕ)) (t : Sending R F) (given : List (List ℕ)) → HearsAll (Hears source leaves after_status reached has_heard) now s ds t given → s.heard ≡ true → t.heard ≡ true

@@ -10,7 +10,6 @@ use Rattle.conductor.specs.Parties.{ClientSeen}
 use Rattle.endpoint.specs.Devices.{Device}
 use Rattle.endpoint.specs.declared.device_error.DeviceError.{DeviceError}
 use Rattle.agents.specs.Asking.{AsksOnce, IsQuiet}
-use Rattle.agents.specs.Cycles.{Cycle, Fault}
 use Rattle.agents.specs.Rounds.{WaysCycle, WaysFault}
 use Rattle.agents.specs.Parties.{SenderHears}
 
@@ -34,14 +33,8 @@ abbrev pub HaveStatus : Identity → List (List ℕ) → Type 0
 HaveStatus i [] = ⊥
 HaveStatus i (d ∷ ds) = ((f : Status) × IsNews i d (Says f)) ⊎ HaveStatus i ds
 
--- a cycle of the core over a device, or a fault that ended it, and what its client asked: nothing at a fault
-pub record AgentCycle {R F : Type 0} (hears : Sending R F → ℕ → List ℕ → Sending R F → List (List ℕ) → Type 0) (ticks : Sending R F → ℕ → Sending R F → List (List ℕ) → Type 0) (now : ℕ) (tells : Type 0) (a : Agent R F) (c : ClientSeen) (d : Device) (result : Result Bool DeviceError) (b : Agent R F) (after : ClientSeen) (e : Device) : Type 0 where
-  pub cycle : IfOk result (λ busy. Cycle hears ticks now tells a.core d busy b.core e)
-  pub fault : IfErr result (λ fault. Fault hears ticks now tells fault a.core d b.core e)
-  pub asks : MatchResult result (λ _. AsksOnce a.asked b.core.heard c b.asked after) (λ _. IsQuiet a.asked c b.asked after)
-
--- the same over a device of several ways
-pub record AgentWays {R F D : Type 0} (hears : Sending R F → ℕ → List ℕ → Sending R F → List (List ℕ) → Type 0) (ticks : Sending R F → ℕ → Sending R F → List (List ℕ) → Type 0) (now : ℕ) (device : D → Device) (tells : D → Type 0) (turned : D → ℕ → D) (ways : ℕ) (a : Agent R F) (c : ClientSeen) (d : D) (result : Result Bool DeviceError) (b : Agent R F) (after : ClientSeen) (e : D) : Type 0 where
+-- a cycle of the core over a device of some ways, or a fault that ended it, and what its client asked: nothing at a fault
+pub record AgentCycle {R F D : Type 0} (hears : Sending R F → ℕ → List ℕ → Sending R F → List (List ℕ) → Type 0) (ticks : Sending R F → ℕ → Sending R F → List (List ℕ) → Type 0) (now : ℕ) (device : D → Device) (tells : D → Type 0) (turned : D → ℕ → D) (ways : ℕ) (a : Agent R F) (c : ClientSeen) (d : D) (result : Result Bool DeviceError) (b : Agent R F) (after : ClientSeen) (e : D) : Type 0 where
   pub cycle : IfOk result (λ busy. WaysCycle hears ticks now device tells turned ways a.core d busy b.core e)
   pub fault : IfErr result (λ fault. WaysFault hears ticks now device tells turned ways fault a.core d b.core e)
   pub asks : MatchResult result (λ _. AsksOnce a.asked b.core.heard c b.asked after) (λ _. IsQuiet a.asked c b.asked after)

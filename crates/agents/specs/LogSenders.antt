@@ -1,6 +1,5 @@
 -- The sender of a log that threads share.
 use Rattle.std.specs.Prelude.{◌≡◌, false}
-use Rattle.flow_control.specs.Unicast.{Unicast}
 use Rattle.shared_log.specs.Handles.{LogValue}
 use Rattle.sender.specs.Sending.{SendsFrom, begun}
 use Rattle.shared_log.specs.Readers.{IsReaderOf, ReaderValue}
@@ -19,7 +18,3 @@ pub record IsNewSenderBy {F : Type 0} (flow : F) (l : LogValue) (r : ReaderValue
   pub made : a ≡ record { core = begun l.identity l.start a.core.reads flow; asked = false }
   pub log_is : a.core.reads.log.now ≡ l
   pub reader_is : a.core.reads.reader ≡ r
-
--- to one receiver: its flow control allows the log's start
-abbrev pub IsNewSender : LogValue → ReaderValue → Agent LogFrames Unicast → Type 0
-IsNewSender l r a = IsNewSenderBy (record { limit = l.start; heard = false }) l r a

@@ -113,6 +113,7 @@ impl<D: Datagrams> Duty<D> {
         ensures stands { P.stands party.new }
         ensures size { (self.new.mtu ≡ self.old.mtu) × (P.mtu party.new ≡ P.mtu party.old) }
         ensures still_tells { D.tells self.old.device → D.tells self.new.device }
+        ensures lives { D.lives self.old.device self.new.device }
     {
         let Some(length) = self.device.recv(self.buffer.as_mut_slice())? else {
             return Ok(0);
@@ -132,6 +133,7 @@ impl<D: Datagrams> Duty<D> {
         ensures stands { P.stands party.new }
         ensures size { (self.new.mtu ≡ self.old.mtu) × (P.mtu party.new ≡ P.mtu party.old) }
         ensures still_tells { D.tells self.old.device → D.tells self.new.device }
+        ensures lives { D.lives self.old.device self.new.device }
     {
         for count in 0..CYCLE_DATAGRAMS {
             if self.hear_next(party, now)? == 0 {
@@ -151,6 +153,7 @@ impl<D: Datagrams> Duty<D> {
         ensures stands { P.stands party.new }
         ensures size { (self.new.mtu ≡ self.old.mtu) × (P.mtu party.new ≡ P.mtu party.old) }
         ensures still_tells { D.tells self.old.device → D.tells self.new.device }
+        ensures lives { D.lives self.old.device self.new.device }
     {
         party.tick(now, &mut self.outbox);
         send_all(&mut self.device, &self.outbox)?;
@@ -170,6 +173,7 @@ impl<D: Datagrams> Duty<D> {
         ensures stands { P.stands party.new }
         ensures size { (self.new.mtu ≡ self.old.mtu) × (P.mtu party.new ≡ P.mtu party.old) }
         ensures still_tells { D.tells self.old.device → D.tells self.new.device }
+        ensures lives { D.lives self.old.device self.new.device }
     {
         let heard = self.hear_all(party, now)?;
         let sent = self.tick(party, now)?;
@@ -183,6 +187,7 @@ impl<D: Ways> Duty<D> {
         requires stands { P.stands party.old }
         requires size { self.old.mtu ≡ P.mtu party.old }
         ensures counts { (D.device self.old.device).failures ≤ (D.device self.new.device).failures }
+        ensures lives { D.lives self.old.device self.new.device }
         ensures hears { IfOk result (λ any. HearsWays P.hears P.ticks now D.device D.tells D.turned (D.way_count self.old.device) any party.old self.old.device party.new self.new.device) }
         ensures fault { IfErr result (λ fault. WayFault P.hears P.ticks now D.device D.tells D.turned (D.way_count self.old.device) fault party.old self.old.device party.new self.new.device) }
         ensures stands { P.stands party.new }
@@ -204,6 +209,7 @@ impl<D: Ways> Duty<D> {
         requires stands { P.stands party.old }
         requires size { self.old.mtu ≡ P.mtu party.old }
         ensures counts { (D.device self.old.device).failures ≤ (D.device self.new.device).failures }
+        ensures lives { D.lives self.old.device self.new.device }
         ensures cycle { IfOk result (λ busy. WaysCycle P.hears P.ticks now D.device D.tells D.turned (D.way_count self.old.device) party.old self.old.device busy party.new self.new.device) }
         ensures fault { IfErr result (λ fault. WaysFault P.hears P.ticks now D.device D.tells D.turned (D.way_count self.old.device) fault party.old self.old.device party.new self.new.device) }
         ensures stands { P.stands party.new }

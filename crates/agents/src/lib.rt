@@ -22,11 +22,12 @@
 //! high-water mark, and the least position at which the tick saw a consumer, all three together and once, if there is an image.
 //! Nothing else publishes. What was published last is never more than what the agent tells.
 //!
-//! Over a device of several ways a cycle hears each of them once, in order, as above, and then comes one tick, also at a
-//! fault, up to that (`Duty::cycle_ways`, `SenderAgent::cycle_ways`; `WaysCycle`, `WaysFault`).
+//! Over a device of some ways a cycle hears each of them once, in order, as above, and then comes one tick, also at a
+//! fault, up to that (`Duty::cycle_ways`, `SenderAgent::cycle`; `WaysCycle`, `WaysFault`). The device has lived on by its calls.
 //!
 //! A log opens for the agents of one stream with one reader and all its passes (`open_log`, by `AreNewPasses`), and its
-//! sender's agent has sent nothing yet (`open_sender`, by `IsNewSender`; to a group `open_stream_sender`, by `IsNewSenderBy`). `IdleStrategy::after` counts the idle turns
+//! sender's agent has sent nothing yet (`open_stream_sender`, by `IsNewSenderBy`): how many destinations there are chooses its flow
+//! control (`flow_control::group_of`). `IdleStrategy::after` counts the idle turns
 //! in a row, up to 15,200; that a thread yields or sleeps no contract can say.
 #![tactic(auto)]
 
@@ -48,7 +49,7 @@ pub use conductor_agent::conduct;
 pub use duty::{CYCLE_DATAGRAMS, Denied, Duty, faults_are_explained};
 pub use idle_strategy::IdleStrategy;
 pub use log_passes::{LogPasses, open_log};
-pub use log_sender::{LogSender, StreamSender, open_sender, open_stream_sender};
+pub use log_sender::{StreamSender, open_stream_sender};
 pub use party::Party;
 pub use receiver_agent::ReceiverAgent;
 pub use receiver_agent::named::Named;

@@ -1,14 +1,13 @@
 //! A sender's core with its one command.
 
 ghost use Rattle.std.specs.Prelude.{◌≡◌, ◌≤◌, false};
-ghost use Rattle.endpoint.specs.Devices.{NeverFall};
 ghost use Rattle.sender.specs.Sending.{BeginsAt, HasLooked, SendsFrom};
 ghost use Rattle.agents.specs.Asking.{AsksOnce};
-ghost use Rattle.agents.specs.Duties.{AgentCycle, AgentWays, Hears, Ticks};
+ghost use Rattle.agents.specs.Duties.{AgentCycle, Hears, Ticks};
 
 use crate::duty::Duty;
 use conductor::{Client, Command, Conductor};
-use endpoint::{Datagrams, DeviceError, Ways};
+use endpoint::{DeviceError, Ways};
 use flow_control::FlowControl;
 use frame_source::FrameSource;
 use sender::SenderCore;
@@ -81,11 +80,11 @@ impl<R, F: FlowControl + Drop> SenderAgent<R, F> {
 }
 
 impl<R: FrameSource<()>, F: FlowControl + Drop> SenderAgent<R, F> {
-    /// A cycle of the core over a device, at a moment in nanoseconds, as a duty's; then this client asks for Connect, if a
-    /// status message that doesn't ask for a SETUP has come and the queue hasn't taken the command yet. Where the queue is
-    /// full, the next cycle tries again. Whether a datagram came or went. At a fault nothing is asked for, and the next
-    /// cycle may be called after it.
-    pub fn cycle<W: Wait, D: Datagrams>(
+    /// A cycle of the core over a device of some ways, at a moment in nanoseconds, as a duty's; then this client asks for Connect, if
+    /// a status message that doesn't ask for a SETUP has come and the queue hasn't taken the command yet. Where the queue is full, the
+    /// next cycle tries again. Whether a datagram came or went. At a fault nothing is asked for, and the next cycle may be called
+    /// after it.
+    pub fn cycle<W: Wait, D: Ways>(
         &mut self,
         rt: &W,
         conductor: &Conductor,
@@ -96,33 +95,11 @@ impl<R: FrameSource<()>, F: FlowControl + Drop> SenderAgent<R, F> {
         requires stands { R.stands self.old.core.reads tt × SendsFrom self.old.core (R.source self.old.core.reads tt) }
         requires size { duty.old.mtu ≡ self.old.core.identity.geometry.mtu }
         requires queue { client.old.queue ≡ conductor.now }
-        ensures cycle { AgentCycle (Hears (λ r. R.source r tt) (λ r q. R.leaves r tt q tt) F.after_status F.reached F.has_heard) (Ticks (λ r. R.source r tt) (λ r q. R.leaves r tt q tt) (λ r q. HasLooked R.leaves R.looked r tt q tt) R.grown F.after_tick F.reached) now (D.tells duty.old.device) self.old client.old (D.device duty.old.device) result self.new client.new (D.device duty.new.device) }
-        ensures stands { R.stands self.new.core.reads tt × SendsFrom self.new.core (R.source self.new.core.reads tt) }
-        ensures size { (duty.new.mtu ≡ duty.old.mtu) × (self.new.core.identity.geometry.mtu ≡ self.old.core.identity.geometry.mtu) }
-        ensures device { NeverFall (D.device duty.old.device) (D.device duty.new.device) × (D.tells duty.old.device → D.tells duty.new.device) }
-        ensures client { (client.new.queue ≡ client.old.queue) × (client.new.number ≡ client.old.number) }
-    {
-        let busy = duty.cycle(&mut self.core, now)?;
-        self.ask_once(rt, conductor, client);
-        Ok(busy)
-    }
-
-    /// The same over a device of several ways, along each of which a receiver is heard.
-    pub fn cycle_ways<W: Wait, D: Ways>(
-        &mut self,
-        rt: &W,
-        conductor: &Conductor,
-        client: &mut Client,
-        duty: &mut Duty<D>,
-        now: u64,
-    ) -> Result<bool, DeviceError>
-        requires stands { R.stands self.old.core.reads tt × SendsFrom self.old.core (R.source self.old.core.reads tt) }
-        requires size { duty.old.mtu ≡ self.old.core.identity.geometry.mtu }
-        requires queue { client.old.queue ≡ conductor.now }
-        ensures cycle { AgentWays (Hears (λ r. R.source r tt) (λ r q. R.leaves r tt q tt) F.after_status F.reached F.has_heard) (Ticks (λ r. R.source r tt) (λ r q. R.leaves r tt q tt) (λ r q. HasLooked R.leaves R.looked r tt q tt) R.grown F.after_tick F.reached) now D.device D.tells D.turned (D.way_count duty.old.device) self.old client.old duty.old.device result self.new client.new duty.new.device }
+        ensures cycle { AgentCycle (Hears (λ r. R.source r tt) (λ r q. R.leaves r tt q tt) F.after_status F.reached F.has_heard) (Ticks (λ r. R.source r tt) (λ r q. R.leaves r tt q tt) (λ r q. HasLooked R.leaves R.looked r tt q tt) R.grown F.after_tick F.reached) now D.device D.tells D.turned (D.way_count duty.old.device) self.old client.old duty.old.device result self.new client.new duty.new.device }
         ensures stands { R.stands self.new.core.reads tt × SendsFrom self.new.core (R.source self.new.core.reads tt) }
         ensures size { (duty.new.mtu ≡ duty.old.mtu) × (self.new.core.identity.geometry.mtu ≡ self.old.core.identity.geometry.mtu) }
         ensures counts { (D.device duty.old.device).failures ≤ (D.device duty.new.device).failures }
+        ensures lives { D.lives duty.old.device duty.new.device }
         ensures client { (client.new.queue ≡ client.old.queue) × (client.new.number ≡ client.old.number) }
     {
         let busy = duty.cycle_ways(&mut self.core, now)?;

@@ -14,6 +14,7 @@ pub(crate) fn send_all<D: Datagrams>(device: &mut D, outbox: &Outbox) -> Result<
     ensures nones { (D.device device.new).nones ≡ (D.device device.old).nones }
     ensures sends { SendsOut (D.tells device.old) (D.device device.old) outbox.now.datagrams result (D.device device.new) }
     ensures still_tells { D.tells device.old → D.tells device.new }
+    ensures lives { D.lives device.old device.new }
 {
     for index in 0..outbox.len() {
         let Some(datagram) = outbox.datagram(index) else {

@@ -29,12 +29,13 @@ use Rattle.shared_log.specs.declared.reader.source.LogFrames.{LogFrames}
 use Rattle.sender.specs.Sending.{Sending, begun}
 use Rattle.receiver.specs.Lives.{IsStream, Stream}
 use Rattle.sender_meaning.specs.Lives.{IsSpelled, SendsStream, source_in}
+use Rattle.sender_meaning.specs.StreamLives.{StreamGivesHonest}
 use Rattle.options.specs.declared.ends.plans.PublishPlan.{PublishPlan}
-use Rattle.offering.specs.Published.{Publishes, Taken, claim_of, frames_in}
-use Rattle.offering.specs.Published.Taken.{Message, Padding}
+use Rattle.publisher.specs.Offers.{Publishes, Taken, claim_of, frames_in}
+use Rattle.publisher.specs.Offers.Taken.{Message, Padding}
 use Rattle.publisher.specs.Ended.{PublishesAll}
 use Rattle.publisher.specs.Openings.{HasNone}
-use Rattle.channel_meaning.specs.Books.{PublishesAllOfIt, WritesAllOfIt, entries_in, stream_in}
+use Rattle.channel_meaning.specs.Books.{GivesAllHonest, PublishesAllOfIt, WritesAllOfIt, entries_in, stream_in}
 use Rattle.channel_meaning.specs.Streams.{IsItsStream, WritesWhatIsRead, entry_of}
 use Rattle.channel_meaning.proofs.Committed.{all_known}
 use Rattle.channel_meaning.proofs.Streams.{all_messages}
@@ -223,7 +224,7 @@ sends_from_start {F} flow l s tail es start made =
     }
 
 pub publishes_all_of_it : PublishesAllOfIt
-publishes_all_of_it p given all =
+publishes_all_of_it p n given all =
     let published = all.ends.publishes.publishes in record {
       stream = is_stream all.log all.first all.last _ _ all.others all.book all.opened published all.others_are.unclaimed all.shows;
       its = is_its all.log all.first all.last _ _ all.others all.book all.opened published all.others_are.unclaimed all.shows;
@@ -231,16 +232,20 @@ publishes_all_of_it p given all =
     }
 
 -- its sender sends that stream
-sends_it : (p : PublishPlan) (given : Option (List ℕ)) (all : PublishesAll p given) → SendsStream (stream_in all) all.sends.first
-sends_it p given all = sends_from_start _ all.log all.sends.first all.book.tail (entries_in all) all.sends.start all.sends.begun.made
+sends_it : (p : PublishPlan) (n : ℕ) (given : Option (List ℕ)) (all : PublishesAll p n given) → SendsStream (stream_in all) all.sends.first
+sends_it p n given all = sends_from_start _ all.log all.sends.first all.book.tail (entries_in all) all.sends.start all.sends.begun.made
 
 -- and knew no other frames
-known_of_it : (p : PublishPlan) (given : Option (List ℕ)) (all : PublishesAll p given) → IsSpelled (stream_in all) → AllAmong (committed (entries_in all)) (source_in all.sends.last.reads).frames
-known_of_it p given all spelled =
+known_of_it : (p : PublishPlan) (n : ℕ) (given : Option (List ℕ)) (all : PublishesAll p n given) → IsSpelled (stream_in all) → AllAmong (committed (entries_in all)) (source_in all.sends.last.reads).frames
+known_of_it p n given all spelled =
     known_in all.log all.first all.last _ _ all.others all.book all.opened all.ends.publishes.publishes all.others_are.unclaimed all.shows (known_of all.sends.last.reads.reader) spelled all.sends.known
 
+pub gives_all_honest : PublishesAllOfIt → StreamGivesHonest → GivesAllHonest
+gives_all_honest law honest p n given all spelled =
+    (honest (stream_in all) (law p n given all).stream spelled n all.sends.first all.sends.last all.sends.lived.acts (sends_it p n given all) all.sends.lived.lives (known_of_it p n given all spelled)).0
+
 pub writes_all_of_it : PublishesAllOfIt → WritesWhatIsRead → WritesAllOfIt
-writes_all_of_it law writes p given all spelled plan before after count w from =
-    let is = law p given all in
+writes_all_of_it law writes p n given all spelled plan before after count w from =
+    let is = law p n given all in
     writes (stream_in all) is.stream spelled all.first.pass all.last.pass all.log.start all.reading.offered.tail all.ends.publishes.messages all.ends.publishes.publishes is.its
-    all.sends.first all.sends.last all.sends.lived.acts (sends_it p given all) all.sends.lived.lives (known_of_it p given all spelled) plan before after count w from
+    n all.sends.first all.sends.last all.sends.lived.acts (sends_it p n given all) all.sends.lived.lives (known_of_it p n given all spelled) plan before after count w from

@@ -10,7 +10,8 @@ use Rattle.options.specs.declared.ends.plans.SubscribePlan.{SubscribePlan}
 use Rattle.receiver.specs.Receiving.{Opened, TakesDatagram, listening}
 use Rattle.receiver.specs.Lives as meant
 use Rattle.receiver.specs.Lives.{IsHonest, IsStream, PollsARun, Stream}
-use Rattle.sender_meaning.specs.Lives.{GivesHonest, IsSpelled, SetupsAreHonest, given_in}
+use Rattle.sender_meaning.specs.Lives.{IsSpelled, SetupsAreHonest}
+use Rattle.sender_meaning.specs.StreamLives.{StreamGivesHonest, given_in_all}
 use Rattle.subscription.specs.Meetings.{id_of, window_in}
 use Rattle.subscriber.specs.Living.{AreLives, Life, WritesLives}
 use Rattle.channel_meaning.specs.Streams.{GivesRun, IsFromIt, PublishesItsStream, StandsFrom, WritesWhatIsRead, farewell, GoesThrough}
@@ -63,6 +64,6 @@ writes_honest one law x is spelled read same sent honest plan before after count
   runs = each_runs law x is read same sent (farewell_honest one x is spelled) honest plan w.images w.lives from;
 }
 
-pub writes_what_is_read : SetupsAreHonest → PublishesItsStream → GivesHonest → PollsARun → WritesWhatIsRead
-writes_what_is_read one published gives law x is spelled p q tail to read h its s t sent sends lives known plan before after count w from =
-    writes_honest one law x is spelled read (published p q tail to read h x is its) (given_in sent) (gives x is spelled s t sent sends lives known).0 plan before after count w from
+pub writes_what_is_read : SetupsAreHonest → PublishesItsStream → StreamGivesHonest → PollsARun → WritesWhatIsRead
+writes_what_is_read one published gives law x is spelled p q tail to read h its n s t sent sends lives known plan before after count w from =
+    writes_honest one law x is spelled read (published p q tail to read h x is its) (given_in_all sent) (gives x is spelled n s t sent sends lives known).0 plan before after count w from

@@ -1,20 +1,28 @@
 -- All that was read was written, in its form.
-use Rattle.std.proofs.Common.{◌≡◌, ◌∙◌, ◌⊎◌, ℕ, ◌<◌, ◌≤◌, List, [], ◌∷◌, ◌++◌, Option, None, Some, Result, append_assoc, append-nil, length, inl, inr, refl, sym, ap, subst, arith}
+use Rattle.std.proofs.Common.{◌≡◌, ◌∙◌, ◌⊎◌, ℕ, ◌<◌, ◌≤◌, List, [], ◌∷◌, ◌++◌, Option, None, Some, Result, Ok, append_assoc, append-nil, length, inl, inr, refl, sym, ap, subst, arith}
 use Rattle.std.specs.Io.KnownBytes.{Consumes, IsAtEnd}
 use Rattle.std.specs.List.{AllByRecursion}
 use Rattle.theory.specs.Position.{max_message}
 use Rattle.messages.specs.Forms.{block, line, spelling}
 use Rattle.messages.specs.declared.form.Form.{Form}
 use Rattle.messages.specs.declared.form.Form.TheVariants.{Lines, Blocks}
-use Rattle.offering.specs.Published.{Reads, Stops}
-use Rattle.offering.specs.declared.fault.ReadingFault.{ReadingFault}
-use Rattle.offering.specs.declared.reading.ReadingEnd.{ReadingEnd}
+use Rattle.publisher.specs.Offers.{Reads, Stops}
+use Rattle.publisher.specs.declared.offering.fault.ReadingFault.{ReadingFault}
+use Rattle.publisher.specs.declared.offering.reading.ReadingEnd.{ReadingEnd}
 use Rattle.receiver.specs.Lives as meant
 use Rattle.receiver.specs.Receiving.{Opened}
 use Rattle.receiver.specs.Lives.{IsRunOf, Stream}
-use Rattle.sender_meaning.specs.Lives.{given_in}
+use Rattle.endpoint.specs.Fans.{Fanned}
+use Rattle.options.specs.declared.ends.plans.PublishPlan.{PublishPlan}
+use Rattle.peer.specs.Ties.{Tied}
+use Rattle.peer.specs.declared.attendance.Attendance.{Attendance}
+use Rattle.publisher.specs.Ended.{AllArrived, PublishesAll}
+use Rattle.publisher.specs.Seeing.{ChannelDestination}
+use Rattle.publisher.specs.declared.offering.reading.Reading.{Reading}
+use Rattle.publisher.specs.declared.offering.reading.ReadingEnd.TheVariants.{All}
+use Rattle.publisher.specs.declared.sender_thread.SenderPasses.{SenderPasses}
 use Rattle.subscriber.specs.Living.{given_through}
-use Rattle.channel_meaning.specs.Books.{WritesAllOfIt, stream_in}
+use Rattle.channel_meaning.specs.Books.{WritesAllOfIt, given_out, stream_in}
 use Rattle.channel_meaning.specs.Copies.{CopiesAllOfIt, IsCopy}
 use Rattle.channel_meaning.specs.Streams.{GivesRun, IsFromIt, StandsFrom}
 use Rattle.channel_meaning.proofs.Tallies.{no_message, no_more}
@@ -85,12 +93,23 @@ pub all_given : (x : Stream) (read : List (List ℕ)) (image : Option Opened) (g
 all_given x read None given none many = none ∙ no_message read (subst (λ (ms : List (List ℕ)). length read ≤ length ms) none many)
 all_given x read (Some o) given stands many = sym (stands.parts ∙ no_more stands.before given stands.behind (subst (λ (ms : List (List ℕ)). length ms ≤ length given) stands.parts many))
 
+-- where it has arrived at a destination, the reading has ended at the input's end
+ended_all : (r : Reading) (n : ℕ) (heard : List Attendance) → 0 < n → length heard ≡ n → AllByRecursion (AllArrived (Some r)) heard → r.ended ≡ Ok All
+ended_all r n [] some many all = absurd (omega (arith, some, many))
+ended_all r n (a ∷ rest) some many all = all.0.all
+
+all_ended : (p : PublishPlan) (n : ℕ) (given : Option (List ℕ)) (all : PublishesAll p n given) → all.reading.ended ≡ Ok All
+all_ended p n given all =
+    let arrived = all.arrived.2 in
+    let many : length all.heard ≡ n = arrived.noted.many ∙ ap (λ (s : SenderPasses (Fanned (ChannelDestination Tied))). length s.duty.device.ways) all.arrived.1.passes_are ∙ all.destinations_are.many ∙ all.many in
+    ended_all all.reading n all.heard all.some many arrived.arrived
+
 pub copies_all_of_it : WritesAllOfIt → CopiesAllOfIt
-copies_all_of_it law p input all spelled plan output count w l one from many =
+copies_all_of_it law p n input all spelled plan output count w l one from many =
     let x = stream_in all in
     let read = all.ends.publishes.messages in
-    let each : AllByRecursion (IsFromIt x (given_in all.sends.lived.acts)) w.images = subst (AllByRecursion (IsFromIt x (given_in all.sends.lived.acts))) (sym one) (from, tt) in
-    let through = law p (Some input) all spelled plan (Some []) (Some output) count w each in
+    let each : AllByRecursion (IsFromIt x (given_out all)) w.images = subst (AllByRecursion (IsFromIt x (given_out all))) (sym one) (from, tt) in
+    let through = law p n (Some input) all spelled plan (Some []) (Some output) count w each in
     let runs : AllByRecursion (GivesRun x read plan) (l ∷ []) = subst (AllByRecursion (GivesRun x read plan)) one through.runs in
     let run = runs.0 in
     let given : given_through w.images ≡ meant.given_in l.acts = ap given_through one in
@@ -98,7 +117,7 @@ copies_all_of_it law p input all spelled plan output count w l one from many =
     let all_read : all.reading.offered.messages ≡ length read = all.ends.publishes.counted in
     let gave : meant.given_in l.acts ≡ read = all_given x read run.receiver.image (meant.given_in l.acts) run.stands (omega (arith, many, counted, all_read)) in
     let is : output ≡ spelling plan.end.form read = w.written ∙ ap (spelling plan.end.form) (given ∙ gave) in
-    let stops = subst (λ (e : Result ReadingEnd ReadingFault). Stops p.end.form (max_message all.log.identity.geometry) (length read) all.ends.publishes.between all.new all.ends.publishes.behind all.last.pass e) all.arrived.all all.ends.publishes.stops in
+    let stops = subst (λ (e : Result ReadingEnd ReadingFault). Stops p.end.form (max_message all.log.identity.geometry) (length read) all.ends.publishes.between all.new all.ends.publishes.behind all.last.pass e) (all_ended p n (Some input) all) all.ends.publishes.stops in
     record {
       published = through.published;
       end = run.end;

@@ -11,17 +11,17 @@ use Rattle.messages.specs.declared.form.Form.TheVariants.{Blocks, Lines}
 use Rattle.options.specs.declared.ends.plans.PublishPlan.{PublishPlan}
 use Rattle.options.specs.declared.ends.plans.SubscribePlan.{SubscribePlan}
 use Rattle.receiver.specs.Lives as meant
-use Rattle.receiver.specs.Lives.{IsRunOf, IsStream, Stream}
+use Rattle.receiver.specs.Lives.{IsHonest, IsRunOf, IsStream, Stream}
 use Rattle.receiver.specs.Receiving.{Opened, Receiver}
 use Rattle.receiver.specs.Subscribing.{RepresentsSubscriber, Subscribing}
 use Rattle.sender_meaning.proofs.StreamRows.{ab, is_stream, spelled, two}
 use Rattle.publisher.specs.Ended.{PublishesAll}
 use Rattle.subscriber.specs.Living.{IsLife, Life}
-use Rattle.channel_meaning.specs.Books.{IsAllOfIt, PublishesAllOfIt, WritesAllOfIt, entries_in, stream_in}
+use Rattle.channel_meaning.specs.Books.{GivesAllHonest, IsAllOfIt, PublishesAllOfIt, WritesAllOfIt, entries_in, stream_in}
 use Rattle.channel_meaning.specs.Copies.{CopiesAll, CopiesAllOfIt, IsCopy}
 use Rattle.channel_meaning.specs.Streams.{GivesRun, GoesThrough, IsFromIt, IsItsStream, PublishesItsStream, StandsFrom, WritesWhatIsRead, farewell}
 use Rattle.channel_meaning.proofs.LifeRows.{from_it, life, subscribed, writes}
-use Rattle.channel_meaning.proofs.SentRows.{acts, begins, data_bytes, ended_whole, has_sent, knows, lives, sends, setup_bytes}
+use Rattle.channel_meaning.proofs.SentRows.{HasArrivedThere, acts, begins, data_bytes, ended_whole, has_sent, knows, lives, sends, setup_bytes}
 use Rattle.channel_meaning.proofs.WorldRows.{first, input, its, last, planned, publishes}
 
 -- ---- the laws, there
@@ -29,26 +29,29 @@ use Rattle.channel_meaning.proofs.WorldRows.{first, input, its, last, planned, p
 published : PublishesItsStream → messages 0 128 two.entries ≡ abc ∷ ab ∷ []
 published law = law first.pass last.pass 0 128 (abc ∷ ab ∷ []) publishes two is_stream its
 
-its_stream : (p : PublishPlan) → stream_in (ended_whole p) ≡ two
-its_stream p = refl
+its_stream : (p : PublishPlan) (a : HasArrivedThere p) → stream_in (ended_whole p a) ≡ two
+its_stream p a = refl
 
-all_of_it : (p : PublishPlan) → PublishesAllOfIt → IsAllOfIt (planned p) (Some input) (ended_whole p)
-all_of_it p law = law (planned p) (Some input) (ended_whole p)
+all_of_it : (p : PublishPlan) (a : HasArrivedThere p) → PublishesAllOfIt → IsAllOfIt (planned p) 1 (Some input) (ended_whole p a)
+all_of_it p a law = law (planned p) 1 (Some input) (ended_whole p a)
+
+honest_all : (p : PublishPlan) (a : HasArrivedThere p) → GivesAllHonest → AllByRecursion (IsHonest two) (setup_bytes ∷ data_bytes ∷ [])
+honest_all p a law = law (planned p) 1 (Some input) (ended_whole p a) spelled
 
 goes_through : (plan : SubscribePlan) → WritesWhatIsRead → GoesThrough two (abc ∷ ab ∷ []) (subscribed plan) (life ∷ [])
-goes_through plan law = law two is_stream spelled first.pass last.pass 0 128 (abc ∷ ab ∷ []) publishes its begins has_sent acts sends lives knows (subscribed plan) (Some []) (Some input) 2 (writes plan) (from_it, tt)
+goes_through plan law = law two is_stream spelled first.pass last.pass 0 128 (abc ∷ ab ∷ []) publishes its 1 begins has_sent acts sends lives knows (subscribed plan) (Some []) (Some input) 2 (writes plan) (from_it, tt)
 
-all_goes_through : (p : PublishPlan) (plan : SubscribePlan) → WritesAllOfIt → GoesThrough two (abc ∷ ab ∷ []) (subscribed plan) (life ∷ [])
-all_goes_through p plan law = law (planned p) (Some input) (ended_whole p) spelled (subscribed plan) (Some []) (Some input) 2 (writes plan) (from_it, tt)
+all_goes_through : (p : PublishPlan) (a : HasArrivedThere p) (plan : SubscribePlan) → WritesAllOfIt → GoesThrough two (abc ∷ ab ∷ []) (subscribed plan) (life ∷ [])
+all_goes_through p a plan law = law (planned p) 1 (Some input) (ended_whole p a) spelled (subscribed plan) (Some []) (Some input) 2 (writes plan) (from_it, tt)
 
-copies : (p : PublishPlan) (plan : SubscribePlan) → CopiesAllOfIt → CopiesAll (planned p) input (ended_whole p) (subscribed plan) life input
-copies p plan law = law (planned p) input (ended_whole p) spelled (subscribed plan) input 2 (writes plan) life refl from_it (omega arith)
+copies : (p : PublishPlan) (a : HasArrivedThere p) (plan : SubscribePlan) → CopiesAllOfIt → CopiesAll (planned p) 1 input (ended_whole p a) (subscribed plan) life input
+copies p a plan law = law (planned p) 1 input (ended_whole p a) spelled (subscribed plan) input 2 (writes plan) life refl from_it (omega arith)
 
 -- ---- what they say of any stream
 
-all_in_full : (p : PublishPlan) (given : Option (List ℕ)) (all : PublishesAll p given) → IsAllOfIt p given all
+all_in_full : (p : PublishPlan) (n : ℕ) (given : Option (List ℕ)) (all : PublishesAll p n given) → IsAllOfIt p n given all
     → IsStream (stream_in all) × IsItsStream all.first.pass all.ends.publishes.publishes.taken (stream_in all) × (messages all.log.start all.book.tail (entries_in all) ≡ all.ends.publishes.messages)
-all_in_full p given all is = (is.stream, is.its, is.are)
+all_in_full p n given all is = (is.stream, is.its, is.are)
 
 through_in_full : (x : Stream) (read : List (List ℕ)) (plan : SubscribePlan) (images : List Life) → GoesThrough x read plan images → (messages x.start x.tail x.entries ≡ read) × AllByRecursion (GivesRun x read plan) images
 through_in_full x read plan images through = (through.published, through.runs)
@@ -57,12 +60,12 @@ run_in_full : (x : Stream) (read : List (List ℕ)) (plan : SubscribePlan) (l : 
     → (t : Subscribing) × IsLife plan l t × (r : Receiver) × RepresentsSubscriber t r × IsRunOf x r.image (meant.given_in l.acts) × StandsFrom x read r.image (meant.given_in l.acts)
 run_in_full x read plan l run = (run.end, run.life, run.receiver, run.shown, run.run, run.stands)
 
-copy_in_full : (p : PublishPlan) (given : List ℕ) (all : PublishesAll p (Some given)) (plan : SubscribePlan) (l : Life) (output : List ℕ) → CopiesAll p given all plan l output
+copy_in_full : (p : PublishPlan) (n : ℕ) (given : List ℕ) (all : PublishesAll p n (Some given)) (plan : SubscribePlan) (l : Life) (output : List ℕ) → CopiesAll p n given all plan l output
     → (messages all.log.start all.book.tail (entries_in all) ≡ all.ends.publishes.messages)
     × ((t : Subscribing) × IsLife plan l t × (r : Receiver) × RepresentsSubscriber t r × IsRunOf (stream_in all) r.image all.ends.publishes.messages)
     × (output ≡ spelling plan.end.form all.ends.publishes.messages)
     × (plan.end.form ≡ p.end.form → IsCopy p.end.form given output)
-copy_in_full p given all plan l output copy = (copy.published, (copy.end, copy.life, copy.receiver, copy.shown, copy.run), copy.spelled, copy.copy)
+copy_in_full p n given all plan l output copy = (copy.published, (copy.end, copy.life, copy.receiver, copy.shown, copy.run), copy.spelled, copy.copy)
 
 -- ---- what an image may have given
 

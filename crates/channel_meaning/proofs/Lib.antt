@@ -5,7 +5,6 @@ mod Committed
 mod Tallies
 mod Books
 mod Copies
-mod Groups
 mod WorldRows
 mod SentRows
 mod LifeRows

@@ -1,6 +1,6 @@
 -- The sender of the small world: at its first moment it gives out a SETUP, a status message is heard, and at a later moment it gives
 -- out both frames, and finds none behind them. So its publisher has ended whole.
-use Rattle.std.specs.Prelude.{◌≡◌, ℕ, pos, true, false, List, [], ◌∷◌, ◌++◌, map, Some}
+use Rattle.std.specs.Prelude.{◌≡◌, ℕ, pos, true, false, List, [], ◌∷◌, ◌++◌, map, Option, Some}
 use Rattle.std.specs.List.{flat_map}
 use Rattle.std.proofs.Common.{arith, ap, inl, inr, refl}
 use Rattle.theory.specs.Bytes.{bytes_of}
@@ -18,13 +18,26 @@ use Rattle.shared_log.specs.declared.reader.source.LogFrames.{LogFrames}
 use Rattle.sender.specs.Cycling.{Cycle, GivesNew, Says}
 use Rattle.sender.specs.Sending.{at_moment, begun, cycled, told}
 use Rattle.sender.specs.declared.sender_core.SenderAnswer.TheVariants as answers
-use Rattle.sender_meaning.specs.Lives.{Act, Hears, HearsSo, Lives, LogCore, SendsStream, Ticks, TicksSo, given_in, source_in, told_status, was_heard}
+use Rattle.flow_control.specs.Stream.{has_heard_of, status_after}
+use Rattle.flow_control.specs.declared.stream.StreamFlow.TheVariants.{One}
+use Rattle.sender_meaning.specs.Lives.{Hears, SendsStream, Ticks, source_in}
+use Rattle.sender_meaning.specs.Moments.{HearsThere, StreamCore, TicksThere}
+use Rattle.sender_meaning.specs.StreamLives.{Acts, StreamAct, StreamLives, given_in_all}
 use Rattle.sender_meaning.proofs.StreamRows.{ab, two}
-use Rattle.offering.specs.Published.{frames_in}
-use Rattle.offering.specs.Published.Taken.{Message}
+use Rattle.publisher.specs.Offers.{frames_in}
+use Rattle.publisher.specs.Offers.Taken.{Message}
 use Rattle.options.specs.declared.ends.plans.PublishPlan.{PublishPlan}
-use Rattle.peer.specs.Attending.{after_all, nobody}
-use Rattle.publisher.specs.Ended.{PublishesAll}
+use Rattle.endpoint.specs.Fans.{Fanned}
+use Rattle.endpoint.specs.declared.udp.Route.{Route}
+use Rattle.peer.specs.Ties.{Tied}
+use Rattle.peer.specs.declared.attendance.Attendance.{Attendance}
+use Rattle.peer.specs.declared.watch.ToldEnds.{ToldEnds}
+use Rattle.publisher.specs.Destinations.{AreDestinationsAlong}
+use Rattle.publisher.specs.Ended.{ArrivesAt, PublishesAll}
+use Rattle.publisher.specs.Farewells.{are_told_alone}
+use Rattle.publisher.specs.Judging.{end_in}
+use Rattle.publisher.specs.Seeing.{ChannelDestination}
+use Rattle.publisher.specs.declared.sender_thread.SenderPasses.{SenderPasses}
 use Rattle.channel_meaning.proofs.WorldRows.{book, ends_input, first, input, is_of_other, last, log, other, planned, reading, shows, table, taken}
 
 -- ---- what its reader knows: the first frame, or both
@@ -64,28 +77,28 @@ reads at known misses = record {
 
 -- ---- its states
 
-abbrev pub begins : LogCore
-begins = begun identity 0 (reads 0 [] 0) (record { limit = 0; heard = false })
+abbrev pub begins : StreamCore
+begins = begun identity 0 (reads 0 [] 0) (One (record { limit = 0; heard = false }))
 
 -- a SETUP goes out, and no frame may
 abbrev pub named : Cycle
 named = record { setup = true; fresh = []; again = []; beat = false }
 
-abbrev pub has_named : LogCore
+abbrev pub has_named : StreamCore
 has_named = cycled (at_moment begins 0) (reads 0 one_known 0) begins.flow named
 
 -- receiver 3 stands at 0, with a window of 32768
 abbrev pub status : Status
 status = record { session = pos 1; stream = pos 1001; term_id = pos 7; term_offset = pos 0; window = pos 32768; receiver = pos 3 }
 
-abbrev pub has_heard : LogCore
-has_heard = told told_status was_heard (at_moment has_named 1) status
+abbrev pub has_heard : StreamCore
+has_heard = told status_after has_heard_of (at_moment has_named 1) status
 
 -- both frames go out in one datagram
 abbrev pub sent : Cycle
 sent = record { setup = false; fresh = (first_frame ∷ second_frame ∷ []) ∷ []; again = []; beat = false }
 
-abbrev pub has_sent : LogCore
+abbrev pub has_sent : StreamCore
 has_sent = cycled (at_moment has_heard 2) (reads 128 all_known 1) has_heard.flow sent
 
 abbrev pub setup_bytes : List ℕ
@@ -103,7 +116,7 @@ at_first : GivesNew the_geometry (map placed one_known) 0 0 []
 unfolding frame_words
 at_first = record { reads = first_frame ∷ []; to = 64; read = record { chain = (refl, refl); among = (inl refl, tt) }; sent_is = refl; ends = inr (first_frame, refl) }
 
-names : TicksSo begins 0 has_named (setup_bytes ∷ [])
+names : TicksThere begins 0 has_named (setup_bytes ∷ [])
 unfolding at_first
 names = record {
   cycles = record {
@@ -123,7 +136,7 @@ names = record {
 spells_status : SpellsDatagram (SM 0 status ∷ []) status_bytes
 spells_status = (refl, ((inl refl, (record { sfits = omega arith }, record { sfits = omega arith }, record { sfits = omega arith }, record { sfits = omega arith }, record { sfits = omega arith }, record { sfits = omega arith })), tt), refl)
 
-hears : HearsSo has_named 1 status_bytes has_heard []
+hears : HearsThere has_named 1 status_bytes has_heard []
 hears = record {
   hears = record { answer = answers.Status (pos 32768); hears = record { news = Says status; is = (spells_status, (refl, refl)); hears = (refl, refl, refl) }; same = refl };
   left = (record { log = refl; number = refl; looked = omega arith }, refl);
@@ -143,7 +156,7 @@ unfolding frame_words
 more f (inl e) = inl e
 more f (inr never) = absurd never
 
-gives : TicksSo has_heard 2 has_sent (data_bytes ∷ [])
+gives : TicksThere has_heard 2 has_sent (data_bytes ∷ [])
 gives = record {
   cycles = record {
     cycle = sent;
@@ -164,13 +177,13 @@ gives = record {
   left = (record { log = refl; number = refl; looked = omega arith }, refl);
 }
 
-abbrev pub acts : List Act
-acts = Ticks 0 (setup_bytes ∷ []) ∷ Hears 1 status_bytes [] ∷ Ticks 2 (data_bytes ∷ []) ∷ []
+abbrev pub acts : List StreamAct
+acts = Acts (Ticks 0 (setup_bytes ∷ [])) ∷ Acts (Hears 1 status_bytes []) ∷ Acts (Ticks 2 (data_bytes ∷ [])) ∷ []
 
-pub lives : Lives begins acts has_sent
+pub lives : StreamLives 1 begins acts has_sent
 lives = (has_named, names, (has_heard, hears, (has_sent, gives, refl)))
 
-given : given_in acts ≡ setup_bytes ∷ data_bytes ∷ []
+given : given_in_all acts ≡ setup_bytes ∷ data_bytes ∷ []
 given = refl
 
 pub sends : SendsStream two begins
@@ -180,10 +193,19 @@ pub knows : AllAmong (committed two.entries) (source_in has_sent.reads).frames
 unfolding frame_words
 knows = (inl refl, (inr (inl refl), tt))
 
--- ---- the publisher has ended whole
+-- ---- the publisher has ended whole, to one destination, where that has received all by what its device has noted
 
-abbrev pub ended_whole : (p : PublishPlan) → PublishesAll (planned p) (Some input)
-ended_whole p = record {
+pub record HasArrivedThere (p : PublishPlan) : Type 0 where
+  pub route : Route
+  pub passes : SenderPasses (Fanned (ChannelDestination Tied))
+  pub along : AreDestinationsAlong (planned p) (route ∷ []) passes.duty.device.ways
+  pub heard : List Attendance
+  pub told : List (Option ToldEnds)
+  pub arrived : ArrivesAt log passes route.peer (planned p) (Some reading) heard told
+  pub alone : are_told_alone (planned p).geometry (end_in (Some reading)) told ≡ true
+
+abbrev pub ended_whole : (p : PublishPlan) → HasArrivedThere p → PublishesAll (planned p) 1 (Some input)
+ended_whole p a = record {
   log = log;
   log_is = record { identity = refl; start = refl; consumers = refl };
   first = first;
@@ -192,9 +214,16 @@ ended_whole p = record {
   last = last;
   reading = reading;
   ends = ends_input;
-  attendance = after_all (nobody 0) ((pos 3, 0) ∷ (pos 3, 128) ∷ []);
-  arrived = record { all = refl; heard = refl };
-  told = record { ends = Some (record { least = 128; greatest = 128 }); alone = refl };
+  some = omega arith;
+  routes = a.route ∷ [];
+  many = refl;
+  passes = a.passes;
+  destinations_are = a.along;
+  peer = a.route.peer;
+  heard = a.heard;
+  told = a.told;
+  arrived = a.arrived;
+  alone = a.alone;
   others = other ∷ [];
   others_are = record { done = (is_of_other, tt); unclaimed = ((refl, refl), tt); parts = refl };
   book = book;

@@ -9,10 +9,10 @@ use Rattle.options.specs.declared.ends.plans.SubscribePlan.{SubscribePlan}
 use Rattle.receiver.specs.Lives.{IsRunOf}
 use Rattle.receiver.specs.Receiving.{Receiver}
 use Rattle.receiver.specs.Subscribing.{RepresentsSubscriber, Subscribing}
-use Rattle.sender_meaning.specs.Lives.{IsSpelled, given_in}
+use Rattle.sender_meaning.specs.Lives.{IsSpelled}
 use Rattle.publisher.specs.Ended.{PublishesAll}
 use Rattle.subscriber.specs.Living.{IsLife, Life, WritesLives}
-use Rattle.channel_meaning.specs.Books.{entries_in, stream_in}
+use Rattle.channel_meaning.specs.Books.{entries_in, given_out, stream_in}
 use Rattle.channel_meaning.specs.Streams.{IsFromIt}
 
 -- the same bytes; lines of which the last has no line feed may have got one
@@ -22,7 +22,7 @@ IsCopy Blocks input output = output ≡ input
 
 -- the messages of the stream are those that were read, one image has given all of them, from where it joined to where its consumer
 -- stands, and the output is their spelling; in the form in which they were read it is a copy of the input
-pub record CopiesAll (p : PublishPlan) (input : List ℕ) (all : PublishesAll p (Some input)) (plan : SubscribePlan) (l : Life) (output : List ℕ) : Type 0 where
+pub record CopiesAll (p : PublishPlan) (destinations : ℕ) (input : List ℕ) (all : PublishesAll p destinations (Some input)) (plan : SubscribePlan) (l : Life) (output : List ℕ) : Type 0 where
   pub published : messages all.log.start all.book.tail (entries_in all) ≡ all.ends.publishes.messages
   pub end : Subscribing
   pub life : IsLife plan l end
@@ -32,10 +32,11 @@ pub record CopiesAll (p : PublishPlan) (input : List ℕ) (all : PublishesAll p 
   pub spelled : output ≡ spelling plan.end.form all.ends.publishes.messages
   pub copy : plan.end.form ≡ p.end.form → IsCopy p.end.form input output
 
--- where a publisher that has read this input has ended whole, and a subscriber wrote this and had one image, which was handed nothing
--- but what the publisher's sender gave out and its farewell, and has given as many messages as were read
+-- where a publisher that has read this input has ended whole, and the subscriber at one of its destinations, whichever, wrote this and
+-- had one image, which was handed nothing but what the publisher's sender gave out and its farewell, and has given as many messages as
+-- were read
 abbrev pub CopiesAllOfIt : Type 0
 CopiesAllOfIt =
-    (p : PublishPlan) (input : List ℕ) (all : PublishesAll p (Some input)) → IsSpelled (stream_in all)
-    → (plan : SubscribePlan) (output : List ℕ) (count : ℕ) (w : WritesLives plan (Some []) count (Some output)) (l : Life) → w.images ≡ l ∷ [] → IsFromIt (stream_in all) (given_in all.sends.lived.acts) l
-    → all.reading.offered.messages ≤ count → CopiesAll p input all plan l output
+    (p : PublishPlan) (destinations : ℕ) (input : List ℕ) (all : PublishesAll p destinations (Some input)) → IsSpelled (stream_in all)
+    → (plan : SubscribePlan) (output : List ℕ) (count : ℕ) (w : WritesLives plan (Some []) count (Some output)) (l : Life) → w.images ≡ l ∷ [] → IsFromIt (stream_in all) (given_out all) l
+    → all.reading.offered.messages ≤ count → CopiesAll p destinations input all plan l output

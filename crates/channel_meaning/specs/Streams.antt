@@ -8,15 +8,17 @@ use Rattle.theory.specs.Placed.{AllAmong, Among, Pad}
 use Rattle.theory.specs.Position.{cuts_of}
 use Rattle.theory.specs.Wire.{SETUP, spelling}
 use Rattle.publication.specs.declared.pass.Pass.{Pass}
-use Rattle.offering.specs.Published.{Publishes, Taken}
-use Rattle.offering.specs.Published.Taken.{Message, Padding}
+use Rattle.publisher.specs.Offers.{Publishes, Taken}
+use Rattle.publisher.specs.Offers.Taken.{Message, Padding}
 use Rattle.options.specs.declared.ends.plans.SubscribePlan.{SubscribePlan}
 use Rattle.peer.specs.Farewells.{farewell_fields}
 use Rattle.receiver.specs.Receiving.{Opened, Receiver}
 use Rattle.receiver.specs.Subscribing.{RepresentsSubscriber, Subscribing}
 use Rattle.receiver.specs.Lives as meant
 use Rattle.receiver.specs.Lives.{IsStream, Stream}
-use Rattle.sender_meaning.specs.Lives.{Act, IsSpelled, Lives, LogCore, SendsStream, given_in, source_in}
+use Rattle.sender_meaning.specs.Lives.{IsSpelled, SendsStream, source_in}
+use Rattle.sender_meaning.specs.Moments.{StreamCore}
+use Rattle.sender_meaning.specs.StreamLives.{StreamAct, StreamLives, given_in_all}
 use Rattle.subscriber.specs.Living.{IsLife, Life, WritesLives}
 
 -- a claim with all its frames, as an entry of its log
@@ -77,12 +79,12 @@ pub record GoesThrough (x : Stream) (read : List (List ℕ)) (plan : SubscribePl
   pub published : messages x.start x.tail x.entries ≡ read
   pub runs : AllByRecursion (GivesRun x read plan) images
 
--- where a pass has published what was read, a sender of that stream lives, and each image of a subscriber was handed nothing but
--- what that sender gave out, what is written is what these images gave, one after the other: runs of what was read
+-- where a pass has published what was read, a sender of that stream lives, to whatever destinations, and each image of a subscriber was
+-- handed nothing but what that sender gave out, what is written is what these images gave, one after the other: runs of what was read
 abbrev pub WritesWhatIsRead : Type 0
 WritesWhatIsRead =
     (x : Stream) → IsStream x → IsSpelled x
     → (p q : Pass) (tail to : ℕ) (read : List (List ℕ)) (h : Publishes p tail read q to) → IsItsStream p h.taken x
-    → (s t : LogCore) (sent : List Act) → SendsStream x s → Lives s sent t → AllAmong (committed x.entries) (source_in t.reads).frames
-    → (plan : SubscribePlan) (before after : Option (List ℕ)) (count : ℕ) (w : WritesLives plan before count after) → AllByRecursion (IsFromIt x (given_in sent)) w.images
+    → (destinations : ℕ) (s t : StreamCore) (sent : List StreamAct) → SendsStream x s → StreamLives destinations s sent t → AllAmong (committed x.entries) (source_in t.reads).frames
+    → (plan : SubscribePlan) (before after : Option (List ℕ)) (count : ℕ) (w : WritesLives plan before count after) → AllByRecursion (IsFromIt x (given_in_all sent)) w.images
     → GoesThrough x read plan w.images

@@ -11,27 +11,22 @@
 //!
 //! The log of a publisher that has ended whole is closed: what it has claimed is a stream, from the log's start to its tail, and
 //! the messages of that are those that were read (`publishes_all_of_it`); its sender has lived, and knew no frames but those. So
-//! what `subscribe` writes of what that sender gave out are runs of what the publisher read (`writes_all_of_it`). Where it had one
+//! what that gave out is honest for the stream, whoever was heard and by whatever groups it went on (`gives_all_honest`), and what
+//! `subscribe` at any of its destinations writes of that are runs of what the publisher read (`writes_all_of_it`). Where it had one
 //! image, which gave as many messages as were read, its output is a copy of the input (`copies_all_of_it`).
-//!
-//! So it is with a publisher to several subscribers that has ended whole (`publishes_it_along`): what its sender gave out is honest
-//! for its stream, whoever was heard and by whatever groups it went on (`gives_honest_along`); what a subscriber at any of its
-//! destinations writes of that are runs of what the publisher read (`writes_all_along`), and by the same premise a copy of the input
-//! (`copies_all_along`).
 //!
 //! Premises are that the stream's ids and bytes can be spelled, and that datagrams are such as were given out: that a device carries
 //! what it was given no law says.
 #![tactic(auto)]
 
-ghost use Rattle.channel_meaning.specs.Books.{PublishesAllOfIt, WritesAllOfIt};
+ghost use Rattle.channel_meaning.specs.Books.{GivesAllHonest, PublishesAllOfIt, WritesAllOfIt};
 ghost use Rattle.channel_meaning.specs.Copies.{CopiesAllOfIt};
-ghost use Rattle.channel_meaning.specs.Groups.{CopiesAllAlong, GivesHonestAlong, PublishesItAlong, WritesAllAlong};
 ghost use Rattle.channel_meaning.specs.Streams.{PublishesItsStream, WritesWhatIsRead};
 ghost use Rattle.channel_meaning.specs.Tallies.{TalliesAll};
 
 use receiver::polls_a_run;
 use run_parties::gives_a_run;
-use sender_meaning::{gives_honest, setups_are_honest, stream_gives_honest};
+use sender_meaning::{setups_are_honest, stream_gives_honest};
 
 /// A law: the messages of the stream that a pass published are those that were read.
 pub fn publishes_its_stream()
@@ -51,11 +46,20 @@ pub fn writes_what_is_read()
     // Laws that the proof cites.
     setups_are_honest();
     publishes_its_stream();
-    gives_honest();
+    stream_gives_honest();
     polls_a_run();
 }
 
-/// A law: a subscriber of what the sender of a publisher that has ended whole gave out writes runs of what the publisher read.
+/// A law: what the sender of a publisher that has ended whole gave out is honest for that stream.
+pub fn gives_all_honest()
+    ensures { GivesAllHonest }
+{
+    // Laws that the proof cites.
+    publishes_all_of_it();
+    stream_gives_honest();
+}
+
+/// A law: each subscriber of what the sender of a publisher that has ended whole gave out writes runs of what the publisher read.
 pub fn writes_all_of_it()
     ensures { WritesAllOfIt }
 {
@@ -64,48 +68,13 @@ pub fn writes_all_of_it()
     writes_what_is_read();
 }
 
-/// A law: where a publisher has ended whole, and one image of a subscriber of what its sender gave out has given as many messages as
-/// were read, the output is the spelling of the input's messages, and in the same form a copy of the input.
+/// A law: where a publisher has ended whole, and one image of the subscriber at a destination of what its sender gave out has given as
+/// many messages as were read, the output there is the spelling of the input's messages, and in the same form a copy of the input.
 pub fn copies_all_of_it()
     ensures { CopiesAllOfIt }
 {
     // A law that the proof cites.
     writes_all_of_it();
-}
-
-/// A law: what a publisher to several subscribers that has ended whole has claimed is all of its log's stream, and the messages of
-/// that are those that were read.
-pub fn publishes_it_along()
-    ensures { PublishesItAlong }
-{}
-
-/// A law: what the sender of such a publisher gave out is honest for that stream.
-pub fn gives_honest_along()
-    ensures { GivesHonestAlong }
-{
-    // Laws that the proof cites.
-    publishes_it_along();
-    stream_gives_honest();
-}
-
-/// A law: each subscriber of what the sender of such a publisher gave out writes runs of what the publisher read.
-pub fn writes_all_along()
-    ensures { WritesAllAlong }
-{
-    // Laws that the proof cites.
-    publishes_it_along();
-    gives_honest_along();
-    setups_are_honest();
-    polls_a_run();
-}
-
-/// A law: where such a publisher had a destination, and one image of the subscriber there of what its sender gave out has given as many
-/// messages as were read, the output there is the spelling of the input's messages, and in the same form a copy of the input.
-pub fn copies_all_along()
-    ensures { CopiesAllAlong }
-{
-    // A law that the proof cites.
-    writes_all_along();
 }
 
 /// A law: where a run's receiver was handed honest datagrams alone, its subscriber, if it has tallied as many messages as the stream

@@ -89,12 +89,3 @@ short_by words r n before after is h = subst (λ (x : Reader). n ≡ 3 → IsSho
 
 pub no_version : (n : ℕ) → n ≤ 1 → n ≡ 3 → ⊥
 no_version n few three = omega (arith, few, three)
-
--- whether a list is empty
-pub none_there : {X : Type 0} (xs : List X) (b : Bool) → b ≡ (length xs == 0) → b ≡ true → xs ≡ []
-none_there [] b is so = refl
-none_there (x ∷ xs) b is so = let zero = eqb-true (length (x ∷ xs)) 0 (sym is ∙ so) in absurd (omega (arith, zero))
-
-pub some_there : {X : Type 0} (xs : List X) (b : Bool) → b ≡ (length xs == 0) → b ≡ false → xs ≡ [] → ⊥
-some_there [] b is other none = true≢false (sym is ∙ other)
-some_there (x ∷ xs) b is other none = cons≢nil none

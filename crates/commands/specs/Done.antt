@@ -14,7 +14,6 @@ use Rattle.options.specs.declared.ends.plans.PublishPlan.{PublishPlan}
 use Rattle.options.specs.declared.ends.plans.SubscribePlan.{SubscribePlan}
 use Rattle.run.specs.declared.outcome.Ending.TheVariants as ran
 use Rattle.publisher.specs.Ended.{PublishesAll}
-use Rattle.group_publisher.specs.Ended.{PublishesAllAlong}
 use Rattle.subscriber.specs.Endings.{HasEnded}
 use Rattle.subscriber.specs.Living.{WritesLives}
 use Rattle.subscriber.specs.Writings.{Writes}
@@ -61,10 +60,11 @@ DrivesShortBy words before after = (o : Options) × AsksFor o words × IsDrivenS
 
 -- ---- publish
 
--- all of the input was published: to the channel's endpoint alone, or along the ways to it and to these
+-- all of the input was published along the ways to the channel's endpoint and to these
 pub record PublishesTo (p : PublishPlan) (to : List (Bor (List ℕ))) (input : Option (List ℕ)) : Type 0 where
-  pub alone : to ≡ [] → PublishesAll p input
-  pub several : to ≢ [] → (ways : List Transport) × AreWays p.end.transport to ways × PublishesAllAlong p (length ways) input
+  pub ways : List Transport
+  pub lead : AreWays p.end.transport to ways
+  pub published : PublishesAll p (length ways) input
 
 -- by a plan of what was told
 pub record PublishesTold (o : PublishOptions) (input : Option (List ℕ)) : Type 0 where

@@ -4,17 +4,15 @@ ghost use Rattle.std.specs.Prelude.{◌≡◌, ◌≢◌, ◌≤◌, ◌<◌, �
 ghost use Rattle.clap.specs.Words.{fault_of};
 ghost use Rattle.command_line.specs.Lines.{publish_app};
 ghost use Rattle.publisher.specs.Ended.{PublishesAll};
-ghost use Rattle.group_publisher.specs.Ended.{PublishesAllAlong};
 ghost use Rattle.commands.specs.Done.{HasPlanBy, PublishesBy, PublishesTo, PublishesTold};
 ghost use Rattle.commands.specs.Statuses.{HasPublishPlan, IsStatusOf, NoPublishPlan, NoWays, RefusesPublish, published_status};
 
 use crate::drawn_ids::drawn_ids;
 use crate::fault::Fault;
-use crate::route::{peer_of, route_of, routes_of, tell_each_found, tell_found};
+use crate::route::{routes_of, tell_each_found};
 use crate::status::{failed, failed_by, line_status, unplanned};
 use channel::Transport;
 use command_line::publish_options;
-use group_publisher::publish_group;
 use options::{PublishOptions, PublishPlan, WayFault, publish_plan, ways_of};
 use publisher::{Ending, PublishFault, publish};
 use std::alloc::Global;
@@ -25,30 +23,8 @@ use std::sync::Wait;
 use std::thread::Threads;
 use std::time::Clock;
 
-/// Publishes as planned, and gives the status; to which address a name led is told, or that none was found.
+/// Publishes as planned along these ways, and gives the status; to which addresses names led is told, or that none was found.
 fn publish_planned<
-    C: Threads + Wait + Clock + Net + Sync + Send + Copy + 'static,
-    R: Read + Send + Drop + 'static,
-    E: Write,
->(rt: &C, alloc: Global, plan: &PublishPlan, input: R, errors: &mut E) -> u8
-    ensures most { result ≤ 3 }
-    ensures accepted { result ≢ 2 }
-    ensures whole { result ≡ 0 → PublishesAll plan.now (R.remaining input) }
-{
-    let transport = &plan.end.transport;
-    match peer_of(rt, transport) {
-        Ok(peer) => {
-            let _ = tell_found(errors, &transport.endpoint.host, peer);
-            let route = route_of(transport, peer);
-            let ended = publish(rt, alloc, plan, &route, input, errors);
-            published(&ended, errors)
-        }
-        Err(unknown) => failed(&unknown, errors),
-    }
-}
-
-/// Publishes as planned along several ways, and gives the status; to which addresses names led is told, or that none was found.
-fn publish_along<
     C: Threads + Wait + Clock + Net + Sync + Send + Copy + 'static,
     R: Read + Send + Drop + 'static,
     E: Write,
@@ -57,12 +33,12 @@ fn publish_along<
     requires few { length ways.now ≤ 8 }
     ensures most { result ≤ 3 }
     ensures accepted { result ≢ 2 }
-    ensures whole { result ≡ 0 → PublishesAllAlong plan.now (length ways.now) (R.remaining input) }
+    ensures whole { result ≡ 0 → PublishesAll plan.now (length ways.now) (R.remaining input) }
 {
     match routes_of(rt, alloc, ways) {
         Ok(routes) => {
             tell_each_found(errors, ways, &routes);
-            let ended = publish_group(rt, alloc, plan, &routes, input, errors);
+            let ended = publish(rt, alloc, plan, &routes, input, errors);
             published(&ended, errors)
         }
         Err(fault) => failed(&fault, errors),
@@ -79,11 +55,8 @@ fn publish_to<
     ensures refused { result ≡ 2 → NoWays plan.now to.now }
     ensures whole { result ≡ 0 → PublishesTo plan.now to.now (R.remaining input) }
 {
-    if to.is_empty() {
-        return publish_planned(rt, alloc, plan, input, errors);
-    }
     match ways_of(alloc, &plan.end.transport, to) {
-        Ok(ways) => publish_along(rt, alloc, plan, &ways, input, errors),
+        Ok(ways) => publish_planned(rt, alloc, plan, &ways, input, errors),
         Err(WayFault::Memory) => failed(&WayFault::Memory, errors),
         Err(fault) => unplanned(&fault, errors),
     }

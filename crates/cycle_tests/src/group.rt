@@ -5,8 +5,7 @@ ghost use Rattle.shared_log.specs.Parts.{IsNewReader};
 ghost use Rattle.agent_tests.specs.Senders.{IsFirstLog, IsSender};
 
 use agent_tests::{
-    GroupSender, carry, device_with, duty_over, member, open_group_sender, open_log, publish,
-    receive,
+    Sender, carry, device_with, duty_over, member, open_group_sender, open_log, publish, receive,
 };
 use endpoint::{DeviceError, FailingDatagrams, Fan, MemoryDevice};
 use receiver::Subscriber;
@@ -115,7 +114,7 @@ fn devices_of(alloc: Global, ways: &mut [Way]) -> Result<Vec<MemoryDevice>, Fail
 /// The sender's cycle.
 fn sender_turn(
     alloc: Global,
-    sender: &mut GroupSender<'_>,
+    sender: &mut Sender<'_>,
     ways: &mut [Way],
     now: u64,
 ) -> Result<(), Fail>
@@ -134,12 +133,7 @@ fn sender_turn(
 }
 
 /// The sender's cycle, and then each receiver's.
-fn round(
-    alloc: Global,
-    sender: &mut GroupSender<'_>,
-    ways: &mut [Way],
-    now: u64,
-) -> Result<(), Fail>
+fn round(alloc: Global, sender: &mut Sender<'_>, ways: &mut [Way], now: u64) -> Result<(), Fail>
     requires { IsSender sender.old }
     ensures { IsSender sender.new }
 {
@@ -153,7 +147,7 @@ fn round(
 /// Rounds, the last of them not included.
 fn rounds(
     alloc: Global,
-    sender: &mut GroupSender<'_>,
+    sender: &mut Sender<'_>,
     ways: &mut [Way],
     from: u64,
     to: u64,
@@ -171,7 +165,7 @@ fn rounds(
 fn hold_up<R: Abort>(
     rt: &R,
     alloc: Global,
-    sender: &mut GroupSender<'_>,
+    sender: &mut Sender<'_>,
     ways: &mut [Way],
 ) -> Result<(), Fail>
     requires { IsSender sender.old }
@@ -194,7 +188,7 @@ fn hold_up<R: Abort>(
 fn go_on<R: Abort>(
     rt: &R,
     alloc: Global,
-    sender: &mut GroupSender<'_>,
+    sender: &mut Sender<'_>,
     ways: &mut [Way],
 ) -> Result<(), Fail>
     requires { IsSender sender.old }
@@ -209,7 +203,7 @@ fn go_on<R: Abort>(
 }
 
 /// Both, over ways of their own.
-fn fall_silent<R: Abort>(rt: &R, alloc: Global, sender: &mut GroupSender<'_>) -> Result<(), Fail>
+fn fall_silent<R: Abort>(rt: &R, alloc: Global, sender: &mut Sender<'_>) -> Result<(), Fail>
     requires { IsSender sender.old }
 {
     let mut ways = open_ways(alloc)?;

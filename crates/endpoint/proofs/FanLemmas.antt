@@ -1,10 +1,10 @@
 -- A datagram that goes along several ways, one after the other.
-use Rattle.std.proofs.Common.{◌≡◌, ◌∙◌, ◌⊎◌, inl, inr, ℕ, ◌<◌, ◌≤◌, List, [], ◌∷◌, ◌++◌, append-nil, append_assoc, get_or, set, take, drop, ◌+◌, length, length-append, Option, Result, Ok, Err, refl, sym, ap, subst, arith}
+use Rattle.std.proofs.Common.{◌≡◌, ◌∙◌, ◌⊎◌, inl, inr, ℕ, zero, suc, ◌<◌, ◌≤◌, List, [], ◌∷◌, ◌++◌, append-nil, append_assoc, get_or, set, take, drop, ◌+◌, length, length-append, Option, Result, Ok, Err, refl, sym, ap, subst, arith}
 use Rattle.std.proofs.lemmas.Bool.{cases_lt}
 use Rattle.std.specs.Prelude.{IfOk, IfSome, IsErr}
 use Rattle.endpoint.specs.Calls.{CountsFailure, CountsNone, Fills, Receives}
 use Rattle.endpoint.specs.Devices.{Device}
-use Rattle.endpoint.specs.Fans.{AllSend, Fanned, with_ways, ReceivesAlong, ReceivesOne, SendsAlong, SendsOne, StopsAlong}
+use Rattle.endpoint.specs.Fans.{AllLive, AllSend, Fanned, with_ways, ReceivesAlong, ReceivesOne, SendsAlong, SendsOne, StopsAlong}
 use Rattle.endpoint.specs.declared.datagrams.DeviceFailed.{DeviceFailed}
 
 -- the one behind the first so many
@@ -129,3 +129,13 @@ pub refilled : {D : Type 0} (ways : List D) (turn failures nones count : ℕ) (w
 refilled {D} ways turn failures nones count w e =
     let made : ℕ → Fanned D = λ n. record { ways = take n (w ++ drop (length w) ways); turn = turn; failures = failures; nones = nones } in
     ap made e
+
+-- ---- the ways live on
+
+-- one more has
+pub one_lives : {D : Type 0} (lives : D → D → Type 0) → ((d e f : D) → lives d e → lives e f → lives d f) → (old now : List D) (count : ℕ) (w v : D) → AllLive lives old now → count < length now → w ≡ get_or now count w → lives w v → AllLive lives old (set now count v)
+one_lives lives on [] [] count w v all low is one = absurd (omega (arith, low))
+one_lives lives on [] (n ∷ ns) count w v all low is one = absurd all
+one_lives lives on (o ∷ os) [] count w v all low is one = absurd all
+one_lives lives on (o ∷ os) (n ∷ ns) zero w v all low is one = (on o n v all.0 (subst (λ x. lives x v) is one), all.1)
+one_lives lives on (o ∷ os) (n ∷ ns) (suc count) w v all low is one = (all.0, one_lives lives on os ns count w v all.1 (omega (arith, low)) is one)

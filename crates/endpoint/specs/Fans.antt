@@ -31,6 +31,24 @@ with_outcome (Ok None) f = record f { nones = counted f.nones }
 with_outcome (Ok (Some n)) f = f
 with_outcome (Err e) f = record f { failures = counted f.failures }
 
+-- each way has lived on
+abbrev pub AllLive : {D : Type 0} → (D → D → Type 0) → List D → List D → Type 0
+AllLive lives [] [] = ⊤
+AllLive lives [] (v ∷ vs) = ⊥
+AllLive lives (w ∷ ws) [] = ⊥
+AllLive lives (w ∷ ws) (v ∷ vs) = lives w v × AllLive lives ws vs
+
+pub all_still : {D : Type 0} (lives : D → D → Type 0) → ((d : D) → lives d d) → (ws : List D) → AllLive lives ws ws
+all_still lives still [] = tt
+all_still lives still (w ∷ ws) = (still w, all_still lives still ws)
+
+pub all_live_on : {D : Type 0} (lives : D → D → Type 0) → ((d e f : D) → lives d e → lives e f → lives d f) → (us vs ws : List D) → AllLive lives us vs → AllLive lives vs ws → AllLive lives us ws
+all_live_on lives on [] [] ws a b = b
+all_live_on lives on [] (v ∷ vs) ws a b = absurd a
+all_live_on lives on (u ∷ us) [] ws a b = absurd a
+all_live_on lives on (u ∷ us) (v ∷ vs) [] a b = absurd b
+all_live_on lives on (u ∷ us) (v ∷ vs) (w ∷ ws) a b = (on u v w a.0 b.0, all_live_on lives on us vs ws a.1 b.1)
+
 module _ {D : Type 0} (device : D → Device) (tells : D → Type 0) where
   -- a way is given a datagram, and tells still what it told
   pub record SendsOne (old : D) (datagram : List ℕ) (result : Result (Unit {0}) DeviceFailed) (new : D) : Type 0 where

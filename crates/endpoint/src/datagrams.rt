@@ -46,13 +46,18 @@ pub trait Datagrams {
     /// What it has carried away and handed over is known: a device in memory tells it, the system doesn't.
     ghost tells: { Self → Type 0 };
 
+    /// What it is behind some of its calls, where that is said.
+    ghost lives: { Self → Self → Type 0 } = { λ _ _. ⊤ };
+
+    ghost use Rattle.std.specs.Prelude.{⊤};
     ghost use Rattle.endpoint.specs.Calls.{Receives, Sends};
 
     /// Carries a datagram away. The error comes only where the device failed in this call; then nothing was carried away.
     fn send(&mut self, datagram: &[u8]) -> Result<(), DeviceFailed>
         ensures counts { NeverFall (device self.old) (device self.new) }
         ensures sends { Sends (tells self.old) (device self.old) datagram.now result (device self.new) }
-        ensures still_tells { tells self.old → tells self.new };
+        ensures still_tells { tells self.old → tells self.new }
+        ensures lives { lives self.old self.new };
 
     /// Hands a datagram over, if one has come, and gives its length in bytes. It stands at the buffer's front; of a
     /// longer one the buffer gets the first bytes, and the others are lost. The error comes only where the device failed
@@ -60,7 +65,8 @@ pub trait Datagrams {
     fn recv(&mut self, buffer: &mut [u8]) -> Result<Option<usize>, DeviceFailed>
         ensures counts { NeverFall (device self.old) (device self.new) }
         ensures receives { Receives (tells self.old) (device self.old) buffer.old result buffer.new (device self.new) }
-        ensures still_tells { tells self.old → tells self.new };
+        ensures still_tells { tells self.old → tells self.new }
+        ensures lives { lives self.old self.new };
 
     /// How many calls failed. At the greatest `u64` it stays.
     fn failures(&self) -> u64
@@ -69,4 +75,10 @@ pub trait Datagrams {
     /// How many times nothing had come. At the greatest `u64` it stays.
     fn nones(&self) -> u64
         ensures { result ≡ (device self.now).nones };
+
+    /// A law: behind no call it is itself.
+    ghost lives_still: { (d : Self) → lives d d };
+
+    /// A law: what it is behind further calls, it is behind all of them.
+    ghost lives_on: { (d e f : Self) → lives d e → lives e f → lives d f };
 }

@@ -69,6 +69,10 @@ impl<D: Datagrams> Datagrams for FailingDatagrams<D> {
 
     ghost tells = { λ f. D.tells f.inner };
 
+    ghost lives_still = { λ _. tt };
+
+    ghost lives_on = { λ _ _ _ _ _. tt };
+
     fn send(&mut self, datagram: &[u8]) -> Result<(), DeviceFailed>
         ensures counts { NeverFall (failing_device (D.device self.old.inner) self.old) (failing_device (D.device self.new.inner) self.new) }
         ensures sends { Sends (D.tells self.old.inner) (failing_device (D.device self.old.inner) self.old) datagram.now result (failing_device (D.device self.new.inner) self.new) }

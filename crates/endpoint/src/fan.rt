@@ -5,7 +5,7 @@ ghost use Rattle.endpoint.specs.Calls.{CountsFailure, CountsNone, Receives, Send
 ghost use Rattle.endpoint.specs.Devices.{NeverFall, counted};
 ghost use Rattle.endpoint.specs.contracts.fan.Fan.{the_row};
 ghost use Rattle.std.specs.Borrow.{Array, Lends, sem};
-ghost use Rattle.endpoint.specs.Fans.{ReceivesAlong, SendsAlong, fan_device, fanned, with_outcome, with_ways};
+ghost use Rattle.endpoint.specs.Fans.{AllLive, ReceivesAlong, SendsAlong, all_live_on, all_still, fan_device, fanned, with_outcome, with_ways};
 
 use crate::datagrams::{Datagrams, DeviceFailed};
 use crate::ways::Ways;
@@ -90,7 +90,8 @@ impl<D> Fan<D> {
 
 /// Sends a datagram along each of these ways, in order, up to a fault.
 fn send_along<D: Datagrams>(ways: &mut [D], datagram: &[u8]) -> Result<(), DeviceFailed>
-    ensures { SendsAlong D.device D.tells ways.old datagram.now result ways.new }
+    ensures sends { SendsAlong D.device D.tells ways.old datagram.now result ways.new }
+    ensures lives { AllLive D.lives ways.old ways.new }
 {
     for way in ways.iter_mut() {
         way.send(datagram)?;
@@ -104,7 +105,8 @@ fn receive_along<D: Datagrams>(
     turn: usize,
     buffer: &mut [u8],
 ) -> Result<Option<usize>, DeviceFailed>
-    ensures { ReceivesAlong D.device D.tells ways.old turn buffer.old result buffer.new ways.new }
+    ensures receives { ReceivesAlong D.device D.tells ways.old turn buffer.old result buffer.new ways.new }
+    ensures lives { AllLive D.lives ways.old ways.new }
 {
     if turn >= ways.len() {
         return Ok(None);
@@ -117,10 +119,17 @@ impl<D: Datagrams> Datagrams for Fan<D> {
 
     ghost tells = { λ _. ⊥ };
 
+    ghost lives = { λ f g. AllLive D.lives f.ways g.ways };
+
+    ghost lives_still = { λ f. all_still D.lives D.lives_still f.ways };
+
+    ghost lives_on = { λ f g h. all_live_on D.lives D.lives_on f.ways g.ways h.ways };
+
     fn send(&mut self, datagram: &[u8]) -> Result<(), DeviceFailed>
         ensures counts { NeverFall (fan_device self.old) (fan_device self.new) }
         ensures sends { Sends ⊥ (fan_device self.old) datagram.now result (fan_device self.new) }
         ensures along { SendsAlong D.device D.tells self.old.ways datagram.now result self.new.ways }
+        ensures lives { AllLive D.lives self.old.ways self.new.ways }
         ensures sent { OnOk result (self.new ≡ record self.old { ways = self.new.ways }) }
         ensures failed { OnErr result (self.new ≡ record self.old { ways = self.new.ways; failures = counted self.old.failures }) }
     {
@@ -133,6 +142,7 @@ impl<D: Datagrams> Datagrams for Fan<D> {
         ensures counts { NeverFall (fan_device self.old) (fan_device self.new) }
         ensures receives { Receives ⊥ (fan_device self.old) buffer.old result buffer.new (fan_device self.new) }
         ensures along { ReceivesAlong D.device D.tells self.old.ways self.old.turn buffer.old result buffer.new self.new.ways }
+        ensures lives { AllLive D.lives self.old.ways self.new.ways }
         ensures counted { self.new ≡ with_outcome result (record self.old { ways = self.new.ways }) }
     {
         let received = receive_along(&mut self.ways, self.turn, buffer);
@@ -155,6 +165,8 @@ impl<D: Datagrams> Ways for Fan<D> {
     ghost way_count = { λ f. length f.ways };
 
     ghost turned = { λ f way. record f { turn = way } };
+
+    ghost turned_lives = { λ f way. all_still D.lives D.lives_still f.ways };
 
     fn ways(&self) -> usize {
         self.ways.len()

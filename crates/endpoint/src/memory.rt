@@ -80,6 +80,10 @@ impl Datagrams for MemoryDevice {
 
     ghost tells = { λ _. ⊤ };
 
+    ghost lives_still = { λ _. tt };
+
+    ghost lives_on = { λ _ _ _ _ _. tt };
+
     /// Carries a datagram away, if memory for it isn't refused.
     fn send(&mut self, datagram: &[u8]) -> Result<(), DeviceFailed>
         ensures counts { NeverFall self.old.device self.new.device }

@@ -174,6 +174,10 @@ impl Datagrams for UdpDevice {
 
     ghost tells = { λ _. ⊥ };
 
+    ghost lives_still = { λ _. tt };
+
+    ghost lives_on = { λ _ _ _ _ _. tt };
+
     /// Hands a datagram to the system.
     fn send(&mut self, datagram: &[u8]) -> Result<(), DeviceFailed> {
         match self.socket.send(datagram) {

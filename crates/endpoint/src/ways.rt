@@ -21,4 +21,7 @@ pub trait Ways: Datagrams {
     fn turn_to(&mut self, way: usize)
         ensures turned { self.new ≡ turned self.old way }
         ensures failures { (Self.device self.new).failures ≡ (Self.device self.old).failures };
+
+    /// A law: where a way is chosen it lives on.
+    ghost turned_lives: { (d : Self) (way : ℕ) → Self.lives d (turned d way) };
 }

@@ -1,11 +1,15 @@
 -- The flow control of a stream, of one receiver or of a group.
-use Rattle.std.specs.Prelude.{ℕ, ℤ, Bool, true, List, max, ◌+ℤ◌, Option, None, Some}
+use Rattle.std.specs.Prelude.{ℕ, ℤ, Bool, true, List, max, ◌+ℤ◌, nat_lt, if◌then◌else◌, Option, None, Some}
 use Rattle.theory.specs.FlowLimit.{clipped}
 use Rattle.theory.specs.GroupLimit.{GroupEvent}
 use Rattle.flow_control.specs.Group.{after_status, after_tick, allowed, are_heard, group_after}
 use Rattle.flow_control.specs.Unicast.{unicast_after}
 use Rattle.flow_control.specs.declared.stream.StreamFlow.{StreamFlow}
 use Rattle.flow_control.specs.declared.stream.StreamFlow.TheVariants.{One, Group}
+
+-- from two destinations on their receivers are a group
+abbrev pub group_of : ℕ → Option ℕ
+group_of destinations = if nat_lt 1 destinations then Some destinations else None
 
 abbrev pub reached_of : StreamFlow → ℕ
 reached_of (One f) = f.limit

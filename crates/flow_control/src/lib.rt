@@ -5,7 +5,8 @@
 //! laws). For one receiver it is exactly the greatest of the start and of what each allowed, for any numbers
 //! (`UnicastFlow`). For a group it is exactly the group's limit by the definition, for any ids, numbers and moments
 //! (`LeastFlow`); that each keeps enough for that is `keeps_enough`, and that one that is silent holds the others up no longer
-//! `silent_ones_dont_count`. `StreamFlow` is either.
+//! `silent_ones_dont_count`. `StreamFlow` is either, by how many
+//! destinations a stream has (`group_of`).
 #![tactic(auto)]
 
 ghost use Rattle.flow_control.specs.Laws.{GroupKeepsEnough, OneKeepsEnough, SilentOnesDontCount};
@@ -18,7 +19,7 @@ mod unicast;
 
 pub use flow::FlowControl;
 pub use least::{LIVE, LeastFlow};
-pub use stream::StreamFlow;
+pub use stream::{StreamFlow, group_of};
 pub use unicast::UnicastFlow;
 
 /// Whatever status messages and moments came, what a flow control keeps of them gives what all of them give.

@@ -1,8 +1,23 @@
 ghost use Rattle.std.specs.Prelude.{◌≡◌, ◌≤◌, ◌<◌, ◌^◌, [], IfSome};
+ghost use Rattle.flow_control.specs.Stream.{group_of};
 
 use crate::flow::FlowControl;
 use crate::least::LeastFlow;
 use crate::unicast::UnicastFlow;
+
+/// The group that a stream to so many destinations has: from two on their receivers are one, by their ids. There is none where there
+/// is one destination: whoever is heard there, whatever its id, is its receiver.
+pub fn group_of(destinations: usize) -> Option<usize>
+    requires { destinations ≤ 8 }
+    ensures group { result ≡ group_of destinations }
+    ensures few { IfSome result (λ size. size ≤ 8) }
+{
+    if destinations > 1 {
+        Some(destinations)
+    } else {
+        None
+    }
+}
 
 /// The flow control of a stream: of one receiver, or of a group.
 #[derive(Drop)]

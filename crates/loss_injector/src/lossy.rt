@@ -103,6 +103,10 @@ impl<D: Datagrams> Datagrams for Lossy<D> {
 
     ghost tells = { λ _. ⊥ };
 
+    ghost lives_still = { λ _. tt };
+
+    ghost lives_on = { λ _ _ _ _ _. tt };
+
     fn send(&mut self, datagram: &[u8]) -> Result<(), DeviceFailed>
         ensures counts { NeverFall (D.device self.old.inner) (D.device self.new.inner) }
         ensures sends { Sends ⊥ (D.device self.old.inner) datagram.now result (D.device self.new.inner) }

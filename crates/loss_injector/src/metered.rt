@@ -111,11 +111,18 @@ impl<D: Datagrams> Datagrams for Metered<D> {
 
     ghost tells = { λ m. D.tells m.inner };
 
+    ghost lives = { λ m n. D.lives m.inner n.inner };
+
+    ghost lives_still = { λ m. D.lives_still m.inner };
+
+    ghost lives_on = { λ l m n. D.lives_on l.inner m.inner n.inner };
+
     /// Hands a datagram to the inner device, and counts it, whether that fails or not.
     fn send(&mut self, datagram: &[u8]) -> Result<(), DeviceFailed>
         ensures counts { NeverFall (D.device self.old.inner) (D.device self.new.inner) }
         ensures sends { Sends (D.tells self.old.inner) (D.device self.old.inner) datagram.now result (D.device self.new.inner) }
         ensures still_tells { D.tells self.old.inner → D.tells self.new.inner }
+        ensures lives { D.lives self.old.inner self.new.inner }
         ensures meters { Meters self.old datagram.now (record self.new { inner = self.old.inner }) }
     {
         self.count(datagram);
@@ -139,6 +146,8 @@ impl<D: Ways> Ways for Metered<D> {
     ghost way_count = { λ m. D.way_count m.inner };
 
     ghost turned = { λ m way. record m { inner = D.turned m.inner way } };
+
+    ghost turned_lives = { λ m way. D.turned_lives m.inner way };
 
     fn ways(&self) -> usize {
         self.inner.ways()

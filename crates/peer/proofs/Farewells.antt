@@ -1,5 +1,5 @@
 -- A farewell tells its stream's end.
-use Rattle.std.proofs.Common.{◌≡◌, ◌∙◌, ◌≤◌, ℕ, ℤ, pos, List, length, Option, None, Some, refl, sym, ap, arith}
+use Rattle.std.proofs.Common.{◌≡◌, ◌∙◌, ◌≤◌, ℕ, ℤ, pos, List, length, Option, None, Some, refl, sym, ap, arith, false}
 use Rattle.std.proofs.Math.Seq.{take-length}
 use Rattle.std.specs.Prelude.{◌+ℤ◌, ◌*ℤ◌, IfSome, IfNone}
 use Rattle.std.specs.Int.{w32, int_wrapping_sub}
@@ -7,10 +7,11 @@ use Rattle.theory.specs.Bytes.{Identity}
 use Rattle.theory.specs.Position.{Geometry, IsGeometry, max_position, position_of}
 use Rattle.theory.specs.Wire.{Setup, SETUP}
 use Rattle.frames.specs.Fronts.{FrontSpells}
-use Rattle.peer.specs.Watching.{Gives, Watched, with_told}
+use Rattle.peer.specs.Watching.{Gives, Watched, given, with_end}
+use Rattle.peer.specs.declared.watch.ToldEnds.{ToldEnds}
 use Rattle.theory.proofs.Named.{names_place}
 use Rattle.theory.specs.Setup.{NamesGeometry}
-use Rattle.peer.specs.Farewells.{EndsAt, FarewellsTellEnds, IsFarewell, SpellsFarewell, farewell_fields}
+use Rattle.peer.specs.Farewells.{EndsAt, FarewellsTellEnds, IsFarewell, SpellsFarewell, end_of, farewell_fields}
 
 same_pos : (a b : ℕ) → pos a ≡ pos b → a ≡ b
 same_pos a b e = grind (arith, e)
@@ -48,12 +49,9 @@ ends_told s tail is low = record {
 whole : (s : Identity) (end : ℕ) (bytes : List ℕ) → SpellsFarewell s end bytes → FrontSpells bytes (SETUP (farewell_fields s end)) (length bytes)
 whole s end bytes is = record { within = omega arith; spelled = (is.spells.0, take-length bytes ∙ is.spells.1) }
 
--- a device that is given a farewell notes its end, and whom it has heard as before
-pub gives_end : (w v : Watched) (end : ℕ) (bytes : List ℕ) → SpellsFarewell w.sent end bytes → Gives w bytes v → v.ends ≡ Some (with_told w.ends end)
-gives_end w v end bytes is gives = (gives.frame (SETUP (farewell_fields w.sent end)) (length bytes) (whole w.sent end bytes is)).noted.told end (ends_told w.sent end is.shape is.within).told
-
-pub keeps_heard : (w v : Watched) (end : ℕ) (bytes : List ℕ) → SpellsFarewell w.sent end bytes → Gives w bytes v → v.attendance ≡ w.attendance
-keeps_heard w v end bytes is gives = ap (λ (x : Watched). x.attendance) (gives.frame (SETUP (farewell_fields w.sent end)) (length bytes) (whole w.sent end bytes is)).counted
-
-pub keeps_stream : (w v : Watched) (end : ℕ) (bytes : List ℕ) → SpellsFarewell w.sent end bytes → Gives w bytes v → v.sent ≡ w.sent
-keeps_stream w v end bytes is gives = ap (λ (x : Watched). x.sent) (gives.frame (SETUP (farewell_fields w.sent end)) (length bytes) (whole w.sent end bytes is)).counted
+-- a device that is given a farewell counts it, and notes its end
+pub gives_end : (w v : Watched) (tail : ℕ) (bytes : List ℕ) → SpellsFarewell w.sent (end_of w.sent tail) bytes → Gives w bytes v → v ≡ with_end w tail
+gives_end w v tail bytes is gives =
+    let end = end_of w.sent tail in
+    let frame = gives.frame (SETUP (farewell_fields w.sent end)) (length bytes) (whole w.sent end bytes is) in
+    frame.counted ∙ ap (λ (told : Option ToldEnds). record (given w false) { ends = told }) (frame.noted.told end (ends_told w.sent end is.shape is.within).told)

@@ -5,3 +5,4 @@ pub mod Farewells
 pub mod Refused
 pub mod Numbered
 pub mod Passing
+pub mod Called

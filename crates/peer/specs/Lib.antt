@@ -2,6 +2,7 @@ pub mod Texts
 pub mod Setups
 pub mod Ties
 pub mod Watching
+pub mod Attends
 pub mod Attending
 pub mod Endings
 pub mod Patience

@@ -24,7 +24,7 @@ use Rattle.peer.specs.declared.watch.ToldEnds.{ToldEnds}
 use Rattle.peer.specs.declared.watch.Behind.{Behind}
 use Rattle.peer.specs.declared.attendance.Heard.{Heard}
 use Rattle.std.specs.Ordering.{int_eq}
-use Rattle.peer.specs.Farewells.{TellsEnd}
+use Rattle.peer.specs.Farewells.{TellsEnd, end_of}
 
 -- the stream, what was heard of it, and what the next frame is judged by
 pub record Watched : Type 0 where
@@ -330,6 +330,10 @@ given w again = record w { tally = record w.tally { datagrams = plus_one w.tally
 abbrev pub with_told : Option ToldEnds → ℕ → ToldEnds
 with_told None end = record { least = end; greatest = end }
 with_told (Some told) end = record { least = min told.least end; greatest = max told.greatest end }
+
+-- it was given the farewell that tells this end, as far as its stream can go
+abbrev pub with_end : Watched → ℕ → Watched
+with_end w tail = record (given w false) { ends = Some (with_told w.ends (end_of w.sent tail)) }
 
 -- the end that a frame tells of the stream is noted, if it tells one
 pub record NotesTold (s : Identity) (f : Wire) (old new : Option ToldEnds) : Type 0 where

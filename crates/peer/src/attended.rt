@@ -5,8 +5,8 @@ ghost use Rattle.endpoint.specs.Calls.{CountsFailure, Receives, Sends};
 ghost use Rattle.endpoint.specs.Devices.{NeverFall};
 ghost use Rattle.theory.specs.Wire.{NAK, spelling};
 ghost use Rattle.frames.specs.Frames.{nak_of};
-ghost use Rattle.peer.specs.Watching.{CountsLook, FillsLook, Finds, Gives, LooksInto, Takes, behind_of, due_of, plus_one, told, watching, watching_device, with_told};
-ghost use Rattle.peer.specs.Farewells.{end_of};
+ghost use Rattle.peer.specs.Watching.{CountsLook, FillsLook, Finds, Gives, LooksInto, Takes, behind_of, due_of, plus_one, told, watching, watching_device, with_end};
+ghost use Rattle.peer.specs.Attends.{Attends, attends_on, attends_still};
 
 use crate::attendance::Attendance;
 use crate::farewell::farewell_bytes;
@@ -147,12 +147,9 @@ impl<D> Attended<D> {
 impl<D: Datagrams> Attended<D> {
     /// Tells where its stream ends, once, by a farewell (`farewell_of`): there, or at the last position that the stream can
     /// have, if that is below. Whether the device fails isn't told.
-    #[tactic(auto, using(crate::proofs::Farewells::gives_end, crate::proofs::Farewells::keeps_heard, crate::proofs::Farewells::keeps_stream))]
+    #[tactic(auto, using(crate::proofs::Farewells::gives_end))]
     pub fn tell_end(&mut self, tail: u64)
-        ensures told { self.new.watch.ends ≡ Some (with_told self.old.watch.ends (end_of self.old.watch.sent tail)) }
-        ensures counted { self.new.watch.tally.datagrams ≡ plus_one self.old.watch.tally.datagrams }
-        ensures heard { self.new.watch.attendance ≡ self.old.watch.attendance }
-        ensures stream { self.new.watch.sent ≡ self.old.watch.sent }
+        ensures { self.new.watch ≡ with_end self.old.watch tail }
     {
         let farewell = farewell_bytes(self.watch.sent(), tail);
         let _ = self.send(&farewell);
@@ -204,11 +201,18 @@ impl<D: Datagrams> Datagrams for Attended<D> {
 
     ghost tells = { λ _. ⊥ };
 
+    ghost lives = { λ a b. Attends D.device D.tells a b };
+
+    ghost lives_still = { λ a. attends_still D.device D.tells a };
+
+    ghost lives_on = { λ a b c. attends_on D.device D.tells a b c };
+
     /// Hands a datagram to the inner device, and counts it, whether that fails or not.
     fn send(&mut self, datagram: &[u8]) -> Result<(), DeviceFailed>
         ensures counts { NeverFall (watching_device (D.device self.old.inner) self.old.watch.nones) (watching_device (D.device self.new.inner) self.new.watch.nones) }
         ensures sends { Sends ⊥ (watching_device (D.device self.old.inner) self.old.watch.nones) datagram.now result (watching_device (D.device self.new.inner) self.new.watch.nones) }
         ensures given { Gives self.old.watch datagram.now self.new.watch }
+        ensures lives { Attends D.device D.tells self.old self.new }
         ensures counted { self.new.watch.tally.datagrams ≡ plus_one self.old.watch.tally.datagrams }
         ensures through { Sends (D.tells self.old.inner) (D.device self.old.inner) datagram.now result (D.device self.new.inner) }
         ensures inner_counts { NeverFall (D.device self.old.inner) (D.device self.new.inner) }
@@ -223,6 +227,7 @@ impl<D: Datagrams> Datagrams for Attended<D> {
         ensures counts { NeverFall (watching_device (D.device self.old.inner) self.old.watch.nones) (watching_device (D.device self.new.inner) self.new.watch.nones) }
         ensures receives { Receives ⊥ (watching_device (D.device self.old.inner) self.old.watch.nones) buffer.old result buffer.new (watching_device (D.device self.new.inner) self.new.watch.nones) }
         ensures takes { Takes D.device D.tells (due_of self.old.watch) self.old buffer.old result buffer.new self.new }
+        ensures lives { Attends D.device D.tells self.old self.new }
     {
         if let Some(nak) = self.watch.due() {
             self.watch.release(&nak);

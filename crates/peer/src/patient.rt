@@ -137,6 +137,10 @@ impl<D: Datagrams> Datagrams for PatientDevice<D> {
 
     ghost tells = { λ _. ⊥ };
 
+    ghost lives_still = { λ _. tt };
+
+    ghost lives_on = { λ _ _ _ _ _. tt };
+
     /// Hands a datagram to the inner device. Where that fails, the datagram is lost.
     fn send(&mut self, datagram: &[u8]) -> Result<(), DeviceFailed>
         ensures counts { NeverFall (patient_device self.old.nones) (patient_device self.new.nones) }

@@ -356,6 +356,10 @@ impl Datagrams for TiedDevice {
 
     ghost tells = { λ _. ⊥ };
 
+    ghost lives_still = { λ _. tt };
+
+    ghost lives_on = { λ _ _ _ _ _. tt };
+
     /// Hands a datagram to the system, for the one to whom it sends.
     fn send(&mut self, datagram: &[u8]) -> Result<(), DeviceFailed>
         ensures counts { NeverFall self.old.device self.new.device }

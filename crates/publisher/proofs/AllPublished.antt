@@ -1,5 +1,5 @@
 -- What was published in all, where a publisher has ended whole.
-use Rattle.std.proofs.Common.{◌≡◌, ◌∙◌, List, [], ◌∷◌, ◌++◌, ℕ, ◌+◌, true, Option, None, Some, IfSome, Result, Ok, ap, subst, sym, arith}
+use Rattle.std.proofs.Common.{◌≡◌, ◌∙◌, List, [], ◌∷◌, ◌++◌, ℕ, ◌+◌, ◌<◌, length, true, Option, None, Some, IfSome, ap, refl, subst, sym, arith}
 use Rattle.std.proofs.lemmas.List.Elements.{All-from_recursion}
 use Rattle.theory.proofs.Lists.{all_append}
 use Rattle.log_rule.specs.Claims.Handles.{PublisherValue, parts_in}
@@ -9,20 +9,24 @@ use Rattle.shared_log.specs.Books.{AreAll, IsDone, ShowsBook}
 use Rattle.shared_log.specs.Handles.{IsNew, LogValue}
 use Rattle.shared_log.specs.Readers.{IsReaderOf}
 use Rattle.shared_log.specs.declared.book.Book.{Book}
+use Rattle.std.specs.List.{AllByRecursion}
+use Rattle.std.specs.declared.net.SocketAddr.{SocketAddr}
+use Rattle.endpoint.specs.Fans.{Fanned}
+use Rattle.endpoint.specs.declared.udp.Route.{Route}
+use Rattle.peer.specs.Ties.{Tied}
+use Rattle.publisher.specs.Seeing.{ChannelDestination}
+use Rattle.publisher.specs.declared.sender_thread.SenderPasses.{SenderPasses}
 use Rattle.messages.specs.declared.form.Form.{Form}
 use Rattle.options.specs.declared.ends.plans.PublishPlan.{PublishPlan}
 use Rattle.peer.specs.declared.attendance.Attendance.{Attendance}
-use Rattle.offering.specs.Ended.{EndsInput}
-use Rattle.offering.specs.declared.fault.ReadingFault.{ReadingFault}
-use Rattle.offering.specs.declared.reader.InputEnd.{InputEnd}
-use Rattle.offering.specs.declared.reading.Reading.{Reading}
-use Rattle.offering.specs.declared.reading.ReadingEnd.{ReadingEnd}
-use Rattle.offering.specs.declared.reading.ReadingEnd.TheVariants.{All}
+use Rattle.publisher.specs.InputEnds.{EndsInput}
+use Rattle.publisher.specs.declared.offering.reader.InputEnd.{InputEnd}
 use Rattle.peer.specs.declared.watch.ToldEnds.{ToldEnds}
 use Rattle.publisher.proofs.Sent.{sends_committed}
-use Rattle.publisher.specs.Ended.{AllArrived, CanClose, IsClosed, LeavesLog, LeavesPasses, PublishesAll, ShowsAll, reading_left}
-use Rattle.publisher.specs.Farewells.{has_told_alone}
-use Rattle.publisher.specs.Judging.{end_by, end_in}
+use Rattle.publisher.specs.Destinations.{AreDestinationsAlong}
+use Rattle.publisher.specs.Ended.{AllArrived, ArrivesAt, CanClose, IsClosed, LeavesLog, LeavesPasses, PublishesAll, SendsCommitted, ShowsAll, reading_left}
+use Rattle.publisher.specs.Farewells.{are_told_alone}
+use Rattle.publisher.specs.Judging.{end_in}
 use Rattle.publisher.specs.Openings.{IsPlanned}
 use Rattle.publisher.specs.declared.log_end.LogEnd.{LogEnd}
 
@@ -31,14 +35,21 @@ pub shown : (o : Option LogValue) (others : List PublisherValue) (p : PublisherV
 shown None others p book log shows is = absurd shows
 shown (Some m) others p book log shows is = subst (λ (l : LogValue). ShowsBook l (others ++ p ∷ []) book) is shows
 
--- a reading that has read all ends where its messages do
-pub ends_there : (r : Reading) → r.ended ≡ Ok All → end_in (Some r) ≡ Some r.offered.tail
-ends_there r all = ap (λ (ended : Result ReadingEnd ReadingFault). end_by ended r.offered.tail) all
+-- where there is a destination, something is left of the input
+none_heard : (many : ℕ) (heard : List Attendance) → length heard ≡ many → 0 < many → AllByRecursion (AllArrived None) heard → ⊥
+none_heard many [] is some all = omega (arith, is, some)
+none_heard many (a ∷ rest) is some all = all.0
 
-pub all_published : {I : Type 0} (remaining : I → Option (List ℕ)) (p : PublishPlan) (log : LogValue) (first : PublisherValue) (old given : Option (List ℕ)) (left : Option (InputEnd I)) (a : Attendance) (ends : Option ToldEnds) (e : LogEnd)
-    → IsPlanned p log → IsNew log 0 first → IfSome left (λ l. EndsInput p.end.form log old (remaining l.input) first.pass l.publisher l.reading) → AllArrived (reading_left left) a → has_told_alone ends p.geometry (end_in (reading_left left)) ≡ true → old ≡ given → LeavesLog log e → IsClosed left e → PublishesAll p given
-all_published {I} remaining p log first old given None a told e planned new ends none alone same leaves closed = absurd none
-all_published {I} remaining p log first old given (Some left) a told e planned new ends arrived alone same leaves closed = subst (PublishesAll p) same (record {
+none_left : (log : LogValue) (passes : SenderPasses (Fanned (ChannelDestination Tied))) (peer : SocketAddr) (p : PublishPlan) (heard : List Attendance) (told : List (Option ToldEnds)) → 0 < length passes.duty.device.ways → ArrivesAt log passes peer p None heard told → ⊥
+none_left log passes peer p heard told some all =
+    none_heard (length passes.duty.device.ways) heard (all.2.noted.many ∙ ap (λ (s : SenderPasses (Fanned (ChannelDestination Tied))). length s.duty.device.ways) all.1.passes_are) some all.2.arrived
+
+pub all_published : {I : Type 0} (remaining : I → Option (List ℕ)) (p : PublishPlan) (log : LogValue) (first : PublisherValue) (old given : Option (List ℕ)) (left : Option (InputEnd I)) (routes : List Route) (passes : SenderPasses (Fanned (ChannelDestination Tied))) (peer : SocketAddr) (heard : List Attendance) (told : List (Option ToldEnds)) (e : LogEnd)
+    → IsPlanned p log → IsNew log 0 first → IfSome left (λ l. EndsInput p.end.form log old (remaining l.input) first.pass l.publisher l.reading) → AreDestinationsAlong p routes passes.duty.device.ways → 0 < length routes
+    → ArrivesAt log passes peer p (reading_left left) heard told → are_told_alone p.geometry (end_in (reading_left left)) told ≡ true → old ≡ given → LeavesLog log (length passes.duty.device.ways) e → IsClosed left e → PublishesAll p (length routes) given
+all_published {I} remaining p log first old given None routes passes peer heard told e planned new ends along some arrived alone same leaves closed =
+    absurd (none_left log passes peer p heard told (subst (λ (n : ℕ). 0 < n) (sym along.many) some) arrived)
+all_published {I} remaining p log first old given (Some left) routes passes peer heard told e planned new ends along some arrived alone same leaves closed = subst (PublishesAll p (length routes)) same (record {
   log = log;
   log_is = planned;
   first = first;
@@ -47,18 +58,23 @@ all_published {I} remaining p log first old given (Some left) a told e planned n
   last = left.publisher;
   reading = left.reading;
   ends = ends;
-  attendance = a;
+  some = some;
+  routes = routes;
+  many = refl;
+  passes = passes;
+  destinations_are = along;
+  peer = peer;
+  heard = heard;
+  told = told;
   arrived = arrived;
-  told = record { ends = told; alone = subst (λ (end : Option ℕ). has_told_alone told p.geometry end ≡ true) (ends_there left.reading arrived.all) alone };
+  alone = alone;
   others = e.others.items;
-  others_are = leaves.others;
+  others_are = leaves.passes.others;
   book = closed.0;
-  shows = shown e.log e.others.items left.publisher closed.0 log closed.1 leaves.log;
-  sends = sends_committed log e.reader (e.others.items ++ left.publisher ∷ []) leaves.sent closed.2;
+  shows = shown e.log e.others.items left.publisher closed.0 log closed.1 leaves.passes.log;
+  sends = subst (λ (n : ℕ). SendsCommitted log n (e.others.items ++ left.publisher ∷ [])) along.many
+      (sends_committed log (length passes.duty.device.ways) e.reader (e.others.items ++ left.publisher ∷ []) leaves.sent closed.2);
 })
-
-pub passes_left : (l : LogValue) (e : LogEnd) → LeavesLog l e → LeavesPasses l e
-passes_left l e leaves = record { log = leaves.log; others = leaves.others; keeper = leaves.keeper; reader = leaves.reader }
 
 -- its passes are all there
 pub can_close : {I : Type 0} (remaining : I → Option (List ℕ)) (form : Form) (log : LogValue) (first : PublisherValue) (old : Option (List ℕ)) (left : Option (InputEnd I)) (e : LogEnd)

@@ -1,14 +1,21 @@
+pub mod Inputs
+pub mod Offers
 pub mod Beginnings
 pub mod Ends
 mod ArrivedRows
 mod PatienceRows
+mod BeginRows
 pub mod Faults
 pub mod Stopping
 pub mod Lines
 pub mod Sent
 pub mod AllPublished
 pub mod Whole
-pub mod Told
-pub mod Turned
+pub mod Many
+pub mod WholeAlong
+pub mod Written
+pub mod Along
+pub mod Numbered
+pub mod Begun
 pub mod Short
 pub mod Shorts

@@ -1,11 +1,9 @@
 -- Why a publisher goes on no more, and what it has told where it does.
-use Rattle.std.proofs.Common.{◌≡◌, ℕ, inl, inr, Bool, true, false, ◌||◌, nat_eq, is_some, Option, None, Some, IfSome, Result, Ok, Err, if◌then◌else◌, refl, sym, ap, subst}
+use Rattle.std.proofs.Common.{◌≡◌, ℕ, inr, Bool, true, false, ◌||◌, nat_eq, is_some, Option, None, Some, IfSome, Result, Ok, Err, if◌then◌else◌, refl, sym, ap, subst}
 use Rattle.std.specs.Prelude.{⊤}
-use Rattle.endpoint.specs.declared.device_error.DeviceError.TheVariants.{Device}
-use Rattle.offering.specs.declared.reading.Reading.{Reading}
-use Rattle.publisher.specs.Judging.{FailsBy, device_fault, fault_in, reading_fault}
+use Rattle.publisher.specs.declared.offering.reading.Reading.{Reading}
+use Rattle.publisher.specs.Judging.{FailsBy, fault_in, reading_fault}
 use Rattle.publisher.specs.declared.fault.PublishFault.{PublishFault}
-use Rattle.publisher.specs.declared.fault.PublishFault.TheVariants.{Failed}
 
 abbrev IsErr : Result (Unit {0}) PublishFault → Type 0
 IsErr (Ok done) = ⊥
@@ -17,10 +15,6 @@ err_or other (Err fault) = fault
 
 same_err : (a b : PublishFault) → ◌≡◌ {A = Result (Unit {0}) PublishFault} (Err a) (Err b) → a ≡ b
 same_err a b h = ap (err_or a) h
-
-pub broken : (is_broken : Bool) (fault : PublishFault) → device_fault is_broken ≡ Err fault → FailsBy is_broken fault
-broken true fault h = inl (refl, sym (same_err (Failed Device) fault h))
-broken false fault h = absurd (subst IsErr (sym h) tt)
 
 before_any : (first : Bool) (why fault : PublishFault) → ◌≡◌ {A = Result (Unit {0}) PublishFault} (if first then Err why else Ok tt) (Err fault) → why ≡ fault
 before_any true why fault h = same_err why fault h

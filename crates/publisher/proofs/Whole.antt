@@ -6,16 +6,15 @@ use Rattle.peer.specs.declared.attendance.Attendance.{Attendance}
 use Rattle.peer.specs.declared.ending.Ending.{Ending}
 use Rattle.peer.specs.declared.ending.Ending.TheVariants.{Whole, Short}
 use Rattle.peer.specs.Endings as peers
-use Rattle.offering.specs.declared.fault.ReadingFault.{ReadingFault}
-use Rattle.offering.specs.declared.reading.Offered.{Offered}
-use Rattle.offering.specs.declared.reading.Reading.{Reading}
-use Rattle.offering.specs.declared.reading.ReadingEnd.{ReadingEnd}
-use Rattle.offering.specs.declared.reading.ReadingEnd.TheVariants.{All, Stopped}
+use Rattle.publisher.specs.declared.offering.fault.ReadingFault.{ReadingFault}
+use Rattle.publisher.specs.declared.offering.reading.Offered.{Offered}
+use Rattle.publisher.specs.declared.offering.reading.Reading.{Reading}
+use Rattle.publisher.specs.declared.offering.reading.ReadingEnd.{ReadingEnd}
+use Rattle.publisher.specs.declared.offering.reading.ReadingEnd.TheVariants.{All, Stopped}
 use Rattle.publisher.specs.declared.fault.PublishFault.{PublishFault}
 use Rattle.publisher.specs.declared.judged.Judged.{Judged}
 use Rattle.publisher.specs.Ended.{AllArrived, HasArrived}
 use Rattle.publisher.specs.Judging.{are_same, end_by, end_in, ended_by, ending_by, ending_of, fault_by, faulted_or, is_all, is_read}
-use Rattle.publisher.specs.Progress.{Ends}
 
 -- ---- what can't be
 
@@ -82,12 +81,16 @@ by_judged r a (Some s) ending linger wait silence is h =
       heard = subst (λ (tail : ℕ). peers.is_whole a (Some tail) ≡ true) (sym (same_tail r.offered s.offered both.1)) (whole_there a s.ended s.offered.tail whole);
     }
 
+-- by whom was heard it was judged so
+abbrev pub EndsBy : Attendance → Option ℕ → ℕ → ℕ → Judged → Type 0
+EndsBy a silence linger wait judged = peers.ending_of a (end_in judged.reading) silence linger wait ≡ Some judged.ending
+
 whole_so : (o : Option PublishFault) (sent : Result Ending PublishFault) → faulted_or o sent ≡ Ok Whole → sent ≡ Ok Whole
 whole_so None sent h = h
 whole_so (Some fault) sent h = absurd (subst NotOkWhole h tt)
 
 pub arrived : (read : Option Reading) (sent : Result Judged PublishFault) (ending : Result Ending PublishFault) (a : Attendance) (silence : Option ℕ) (linger wait : ℕ)
-    → IfOk sent (λ judged. Ends a silence linger wait judged) → ending ≡ ended_by read sent → ending ≡ Ok Whole → AllArrived read a
+    → IfOk sent (EndsBy a silence linger wait) → ending ≡ ended_by read sent → ending ≡ Ok Whole → AllArrived read a
 arrived None (Ok judged) ending a silence linger wait ends is whole = absurd (subst NotOkWhole (sym is ∙ whole) tt)
 arrived None (Err fault) ending a silence linger wait ends is whole = absurd (subst NotOkWhole (sym is ∙ whole) tt)
 arrived (Some r) (Err fault) ending a silence linger wait ends is whole = absurd (subst NotOkWhole (whole_so (fault_by r.ended) (Err fault) (sym is ∙ whole)) tt)

@@ -1,41 +1,24 @@
 -- What a publisher tells of its stream's end.
-use Rattle.std.specs.Prelude.{◌≡◌, ◌+◌, ◌%◌, ◌^◌, ℕ, Bool, true, false, ◌&&◌, min, nat_eq, Option, None, Some, Result, Ok, Err, if◌then◌else◌}
+use Rattle.std.specs.Prelude.{◌≡◌, ℕ, zero, suc, Bool, true, false, ◌&&◌, min, nat_eq, List, map, Option, None, Some, Result, Ok, Err, if◌then◌else◌}
+use Rattle.std.specs.List.{list_all}
 use Rattle.theory.specs.Position.{Geometry, max_position}
 use Rattle.endpoint.specs.declared.device_error.DeviceError.TheVariants.{Device}
-use Rattle.peer.specs.Farewells.{end_of}
-use Rattle.peer.specs.Watching.{Watched, with_told}
+use Rattle.peer.specs.Watching.{Watched, with_end}
 use Rattle.peer.specs.declared.ending.Ending.{Ending}
 use Rattle.peer.specs.declared.ending.Ending.TheVariants.{Short}
 use Rattle.peer.specs.declared.watch.ToldEnds.{ToldEnds}
-use Rattle.offering.specs.declared.reading.Reading.{Reading}
+use Rattle.publisher.specs.declared.offering.reading.Reading.{Reading}
 use Rattle.publisher.specs.Judging.{end_in}
+use Rattle.publisher.specs.Seeing.{ChannelDestination}
+use Rattle.publisher.specs.declared.destination.Destination.{Destination}
 use Rattle.publisher.specs.declared.judged.Judged.{Judged}
 use Rattle.publisher.specs.declared.fault.PublishFault.{PublishFault}
 use Rattle.publisher.specs.declared.fault.PublishFault.TheVariants.{Input, Full, NoSocket, NoThread, Failed}
-
--- the device was given this end to tell, if one; whom it has heard stays
-pub record TellsOne (tail : ℕ) (old new : Watched) : Type 0 where
-  pub told : new.ends ≡ Some (with_told old.ends (end_of old.sent tail))
-  pub heard : new.attendance ≡ old.attendance
-
-abbrev pub TellsEnd : Option ℕ → Watched → Watched → Type 0
-TellsEnd None old new = new ≡ old
-TellsEnd (Some tail) old new = TellsOne tail old new
 
 -- where the stream ends, if its input has ended and the publisher goes on
 abbrev pub end_unless_judged : Option Judged → Option Reading → Option ℕ
 end_unless_judged None reading = end_in reading
 end_unless_judged (Some judged) reading = None
-
--- it was given this end to tell, five times, and no other
-pub record TellsFive (tail : ℕ) (old new : Watched) : Type 0 where
-  pub told : new.ends ≡ Some (with_told old.ends (end_of old.sent tail))
-  pub heard : new.attendance ≡ old.attendance
-  pub datagrams : new.tally.datagrams ≡ (old.tally.datagrams + 5) % 2 ^ 64
-
-abbrev pub TellsFarewell : Option ℕ → Watched → Watched → Type 0
-TellsFarewell None old new = new ≡ old
-TellsFarewell (Some tail) old new = TellsFive tail old new
 
 -- where the stream's end is told at the publisher's end, if it is: where the reading ended, unless the system or memory failed
 abbrev pub farewell_of_fault : PublishFault → Option ℕ → Option ℕ
@@ -77,6 +60,38 @@ abbrev pub ending_told : Result Ending PublishFault → Bool → Result Ending P
 ending_told (Ok ending) told_alone = Ok (if told_alone then ending else Short)
 ending_told (Err fault) told_alone = Err fault
 
--- how it ended in all, where these ends were told
-abbrev pub ending_in_all : Result Ending PublishFault → Option ToldEnds → Geometry → Option ℕ → Result Ending PublishFault
-ending_in_all ending ends g end = ending_unless_another (ending_told ending (has_told_alone ends g end)) (has_told_no_other ends g end)
+-- each device told this end alone
+abbrev pub are_told_alone : Geometry → Option ℕ → List (Option ToldEnds) → Bool
+are_told_alone g end ends = list_all (λ told. has_told_alone told g end) ends
+
+-- no device told another, if it told any
+abbrev pub are_told_no_other : Geometry → Option ℕ → List (Option ToldEnds) → Bool
+are_told_no_other g end ends = list_all (λ told. has_told_no_other told g end) ends
+
+-- ---- where it is told
+
+-- a destination, with what its device has noted
+abbrev pub noted : {D : Type 0} → ChannelDestination D → Destination Watched
+noted w = record { device = w.device.watch; id = w.id; peer = w.peer; before = w.before; progress = w.progress; silence = w.silence; quiet = w.quiet; behind = w.behind; broken = w.broken }
+
+-- its device was given this end to tell, so often
+abbrev pub told_times : ℕ → ℕ → Destination Watched → Destination Watched
+told_times zero tail w = w
+told_times (suc n) tail w = record (told_times n tail w) { device = with_end (told_times n tail w).device tail }
+
+abbrev pub AreTold : {D : Type 0} → ℕ → ℕ → List (ChannelDestination D) → List (ChannelDestination D) → Type 0
+AreTold count tail old new = map noted new ≡ map (λ w. told_times count tail (noted w)) old
+
+-- each was told this end once, if it is due
+abbrev pub TellsWhereDue : {D : Type 0} → Option ℕ → List (ChannelDestination D) → List (ChannelDestination D) → Type 0
+TellsWhereDue None old new = new ≡ old
+TellsWhereDue (Some tail) old new = AreTold 1 tail old new
+
+-- each is told the stream's end five times, if it has one
+abbrev pub TellsFarewell : {D : Type 0} → Option ℕ → List (ChannelDestination D) → List (ChannelDestination D) → Type 0
+TellsFarewell None old new = new ≡ old
+TellsFarewell (Some tail) old new = AreTold 5 tail old new
+
+-- the ends that its device was given to tell
+abbrev pub ends_along : {D : Type 0} → ChannelDestination D → Option ToldEnds
+ends_along w = w.device.watch.ends

@@ -3,12 +3,12 @@ use Rattle.std.specs.Prelude.{◌≡◌, ◌⊎◌, ℕ, Bool, true, false, ◌&
 use Rattle.endpoint.specs.declared.device_error.DeviceError.TheVariants.{Device}
 use Rattle.peer.specs.declared.ending.Ending.{Ending}
 use Rattle.peer.specs.declared.ending.Ending.TheVariants.{Short}
-use Rattle.offering.specs.Inputs as inputs
-use Rattle.offering.specs.declared.fault.ReadingFault.{ReadingFault}
-use Rattle.offering.specs.declared.reading.Offered.{Offered}
-use Rattle.offering.specs.declared.reading.Reading.{Reading}
-use Rattle.offering.specs.declared.reading.ReadingEnd.{ReadingEnd}
-use Rattle.offering.specs.declared.reading.ReadingEnd.TheVariants.{All, Stopped}
+use Rattle.publisher.specs.Inputs as inputs
+use Rattle.publisher.specs.declared.offering.fault.ReadingFault.{ReadingFault}
+use Rattle.publisher.specs.declared.offering.reading.Offered.{Offered}
+use Rattle.publisher.specs.declared.offering.reading.Reading.{Reading}
+use Rattle.publisher.specs.declared.offering.reading.ReadingEnd.{ReadingEnd}
+use Rattle.publisher.specs.declared.offering.reading.ReadingEnd.TheVariants.{All, Stopped}
 use Rattle.publisher.specs.Faults.{publish_fault}
 use Rattle.publisher.specs.declared.fault.PublishFault.{PublishFault}
 use Rattle.publisher.specs.declared.fault.PublishFault.TheVariants.{Failed}
@@ -44,9 +44,6 @@ messages_in (Some reading) messages = reading.offered.messages
 abbrev pub tail_in : Option Reading → ℕ → ℕ
 tail_in None tail = tail
 tail_in (Some reading) tail = reading.offered.tail
-
-abbrev pub device_fault : Bool → Result (Unit {0}) PublishFault
-device_fault broken = if broken then Err (Failed Device) else Ok tt
 
 -- before any message was accepted
 abbrev pub input_fault : PublishFault → ℕ → Result (Unit {0}) PublishFault

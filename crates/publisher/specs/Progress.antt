@@ -1,13 +1,10 @@
 -- What a publisher has seen and told, and how it ends by that.
-use Rattle.std.specs.Prelude.{◌≡◌, ℕ, ◌-◌, ◌&&◌, ◌||◌, Bool, not, true, false, nat_eq, nat_le, nat_lt, is_some, if◌then◌else◌, List, [], ◌∷◌, Option, None, Some, IfSome}
+use Rattle.std.specs.Prelude.{ℕ, ◌-◌, ◌&&◌, ◌||◌, Bool, not, true, false, nat_eq, nat_le, nat_lt, is_some, if◌then◌else◌, Option, None, Some}
 use Rattle.peer.specs.declared.attendance.Attendance.{Attendance}
 use Rattle.peer.specs.declared.attendance.Heard.{Heard}
 use Rattle.peer.specs.declared.ending.Ending.{Ending}
-use Rattle.peer.specs.Endings.{ending_of}
-use Rattle.peer.specs.Silences.{judged, never, seen_at}
-use Rattle.peer.specs.declared.silence.Silence.{Silence}
-use Rattle.offering.specs.declared.reading.Reading.{Reading}
-use Rattle.publisher.specs.Judging.{end_in, fault_in}
+use Rattle.peer.specs.Silences.{never, seen_at}
+use Rattle.publisher.specs.declared.offering.reading.Reading.{Reading}
 use Rattle.publisher.specs.declared.fault.PublishFault.{PublishFault}
 use Rattle.publisher.specs.declared.judged.Judged.{Judged}
 use Rattle.publisher.specs.declared.looking.Seen.{Seen}
@@ -79,33 +76,6 @@ is_nobody (Some heard) = false
 abbrev pub is_alone : Progress → Attendance → ℕ → Bool
 is_alone p a now = not p.alone && (is_nobody a.present && nat_le 5000000000 now)
 
--- how it ends where its stream ends there, if its input has ended
-abbrev pub ending_seen : Progress → Seen → Option ℕ → ℕ → ℕ → ℕ → Option Ending
-ending_seen p s end linger wait now = ending_of s.attendance end (judged p.statuses s.at_rest now) linger wait
-
 abbrev pub judged_by : Option Reading → Option ToldShortfall → Option Ending → Option Judged
 judged_by reading line None = None
 judged_by reading line (Some ending) = Some (record { ending = ending; reading = reading; told = line })
-
--- by how the reading has ended, if it has, this is how the publisher ends, if it does; where that was a fault, it was told
-pub record Judges (p : Progress) (s : Seen) (linger wait now : ℕ) (answer : Option Judged) : Type 0 where
-  pub reading : Option Reading
-  pub line : Option ToldShortfall
-  pub is : answer ≡ judged_by reading line (ending_seen p s (end_in reading) linger wait now)
-  pub told : IfSome (fault_in reading) (λ _. p.faulted ≡ true)
-
--- receivers that were heard, and for how long no status message came, where that is judged, end a publisher this way, by how the
--- reading had ended
-abbrev pub Ends : Attendance → Option ℕ → ℕ → ℕ → Judged → Type 0
-Ends a silence linger wait judged = ending_of a (end_in judged.reading) silence linger wait ≡ Some judged.ending
-
--- ---- the silence
-
--- since when no status message came, by what cycles have shown, each at its moment, the last one first
-abbrev pub silence_over : List (Seen × ℕ) → Silence
-silence_over [] = never
-silence_over (c ∷ cs) = seen_at (silence_over cs) c.0.tally.statuses c.1
-
--- for how long none came, by a cycle at this moment behind these, where all that had come was heard in it
-abbrev pub silence_by : Seen → ℕ → List (Seen × ℕ) → Option ℕ
-silence_by s now cs = judged (silence_over ((s, now) ∷ cs)) s.at_rest now

@@ -1,20 +1,22 @@
 -- What a publisher that has ended short has told.
-use Rattle.std.specs.Prelude.{◌≡◌, ◌⊎◌, true, Option, Result, Ok, Err}
+use Rattle.std.specs.Prelude.{◌≡◌, ◌⊎◌, ℕ, true, List, slice_index_or, Option, Result, Ok, Err}
 use Rattle.std.specs.declared.net.SocketAddr.{SocketAddr}
-use Rattle.loss_injector.specs.Losing.{Losing}
-use Rattle.peer.specs.Patience.{Patient}
+use Rattle.shared_log.specs.Handles.{LogValue}
+use Rattle.endpoint.specs.Fans.{Fanned}
+use Rattle.endpoint.specs.declared.udp.Route.{Route}
+use Rattle.options.specs.declared.ends.plans.PublishPlan.{PublishPlan}
 use Rattle.peer.specs.Ties.{Tied}
-use Rattle.peer.specs.Watching.{Watching}
+use Rattle.peer.specs.declared.attendance.Attendance.{Attendance}
 use Rattle.peer.specs.declared.ending.Ending.{Ending}
 use Rattle.peer.specs.declared.ending.Ending.TheVariants.{Short}
 use Rattle.peer.specs.declared.watch.ToldEnds.{ToldEnds}
-use Rattle.sender_meaning.specs.Lives.{IsNewCore}
-use Rattle.shared_log.specs.Handles.{LogValue}
-use Rattle.offering.specs.declared.reading.Reading.{Reading}
-use Rattle.options.specs.declared.ends.plans.PublishPlan.{PublishPlan}
-use Rattle.publisher.specs.Farewells.{has_told_no_other}
+use Rattle.publisher.specs.declared.offering.reading.Reading.{Reading}
+use Rattle.publisher.specs.Destinations.{AreDestinationsAlong}
+use Rattle.publisher.specs.Ended.{ArrivesAt, IsBegun}
+use Rattle.publisher.specs.Farewells.{are_told_no_other}
 use Rattle.publisher.specs.Judging.{end_in}
 use Rattle.publisher.specs.Openings.{IsPlanned}
+use Rattle.publisher.specs.Seeing.{ChannelDestination}
 use Rattle.publisher.specs.Turns.{SaysWhy}
 use Rattle.publisher.specs.Whys.{IsTold}
 use Rattle.publisher.specs.declared.fault.PublishFault.{PublishFault}
@@ -23,13 +25,10 @@ use Rattle.publisher.specs.declared.sender_thread.SenderPasses.{SenderPasses}
 use Rattle.publisher.specs.declared.telling.Shortfall.TheVariants.{Unclosed}
 use Rattle.publisher.specs.declared.telling.ToldShortfall.{ToldShortfall}
 
--- a sender of this log's stream, with these passes, has lived from the log's start on: a line about its peer was given that says why
--- it ended short
-pub record EndsShort {D : Type 0} (l : LogValue) (passes : SenderPasses (Watching (Losing (Patient D)))) (p : PublishPlan) (peer : SocketAddr) (told : Option ToldShortfall) : Type 0 where
+-- a sender of this log's stream with these passes began at the log's start: a line was given that says why it ended short
+pub record EndsShort {D : Type 0} (l : LogValue) (passes : SenderPasses (Fanned (ChannelDestination D))) (p : PublishPlan) (peer : SocketAddr) (told : Option ToldShortfall) : Type 0 where
   pub first : ChannelSender D
-  pub begun : IsNewCore l first.agent.core
-  pub passes_are : first.passes ≡ passes
-  pub peer_is : first.peer ≡ peer
+  pub begun : IsBegun l passes peer first
   pub why : SaysWhy p first told
 
 -- how one ended whose log isn't closed: not whole
@@ -37,14 +36,25 @@ abbrev pub unclosed : Result Ending PublishFault → Result Ending PublishFault
 unclosed (Ok ending) = Ok Short
 unclosed (Err fault) = Err fault
 
--- a publisher to this peer, over a log of the plan, has given a line that says why it ended short: it gave up, or its log couldn't be
--- closed; and it told no end of its stream but its reading's
-pub record SaysItsShortfall (p : PublishPlan) (peer : SocketAddr) : Type 0 where
+-- each destination had received all, but its log couldn't be closed: the line of that, which names this peer, was given
+pub record IsUnclosed (l : LogValue) (passes : SenderPasses (Fanned (ChannelDestination Tied))) (p : PublishPlan) (peer : SocketAddr) (reading : Option Reading) (told : Option ToldShortfall) : Type 0 where
+  pub heard : List Attendance
+  pub ends : List (Option ToldEnds)
+  pub arrived : ArrivesAt l passes peer p reading heard ends
+  pub line : IsTold peer Unclosed told
+
+-- a publisher along these routes, over a log of the plan, has given a line that says why it ended short: it gave up, or its log couldn't
+-- be closed; and none of its destinations' devices was given another end to tell than its reading's. Lines about no destination alone
+-- name the first route's peer
+pub record SaysItsShortfall (p : PublishPlan) (routes : List Route) : Type 0 where
   pub log : LogValue
   pub log_is : IsPlanned p log
-  pub passes : SenderPasses (Watching (Losing (Patient Tied)))
+  pub passes : SenderPasses (Fanned (ChannelDestination Tied))
+  pub destinations : AreDestinationsAlong p routes passes.duty.device.ways
+  pub first : Route
+  pub stands : first ≡ slice_index_or routes 0 first
   pub told : Option ToldShortfall
-  pub why : EndsShort log passes p peer told ⊎ IsTold peer Unclosed told
   pub reading : Option Reading
-  pub ends : Option ToldEnds
-  pub no_other : has_told_no_other ends p.geometry (end_in reading) ≡ true
+  pub why : EndsShort log passes p first.peer told ⊎ IsUnclosed log passes p first.peer reading told
+  pub ends : List (Option ToldEnds)
+  pub no_other : are_told_no_other p.geometry (end_in reading) ends ≡ true

@@ -6,10 +6,9 @@ use Rattle.peer.specs.Texts.{joined}
 use Rattle.peer.specs.declared.attendance.Attendance.{Attendance}
 use Rattle.peer.specs.declared.attendance.Heard.{Heard}
 use Rattle.peer.specs.Endings.{is_told}
-use Rattle.peer.specs.declared.ending.Ending.{Ending}
-use Rattle.peer.specs.declared.ending.Ending.TheVariants.{Whole, Short}
 use Rattle.std.specs.declared.net.SocketAddr.{SocketAddr}
 use Rattle.endpoint.specs.Texts as devices
+use Rattle.peer.specs.declared.watch.Behind.{Behind}
 use Rattle.frames.specs.FaultCounts.{counts_text}
 use Rattle.frames.specs.declared.fault_counts.FaultCounts.{FaultCounts}
 use Rattle.messages.specs.Texts as inputs
@@ -93,10 +92,6 @@ empty_line = codes "the input was empty: nothing was published" ++ 10 ∷ []
 abbrev pub whole_text : ℕ → ℕ → List ℕ
 whole_text start tail = if nat_eq tail start then empty_line else []
 
-abbrev pub ending_text : Ending → SocketAddr → Shortfall → ℕ → ℕ → List ℕ
-ending_text Whole peer shortfall start tail = whole_text start tail
-ending_text Short peer shortfall start tail = gave_up_line peer shortfall
-
 abbrev pub alone_line : List ℕ
 alone_line = codes "nobody was heard for 5 s: no subscriber is there, or it follows another publisher, or takes another stream or session, or only shorter terms" ++ 10 ∷ []
 
@@ -129,3 +124,28 @@ totals_line t = totals_text t ++ 10 ∷ []
 -- how many datagrams were refused, by their faults
 abbrev pub refused_line : FaultCounts → List ℕ
 refused_line c = codes "refused" ++ counts_text c.counts ++ 10 ∷ []
+
+-- ---- of one among several
+
+-- whom a line is about, where it is one of several
+abbrev pub at_text : Option SocketAddr → List ℕ
+at_text None = []
+at_text (Some peer) = socket_text peer ++ codes ": "
+
+abbrev pub quiet_line : List ℕ
+quiet_line = codes "nothing was heard for 5 s: the others go on without it" ++ 10 ∷ []
+
+-- one that is left behind, so far
+abbrev pub behind_text : SocketAddr → Behind → List ℕ
+behind_text peer b = joined (
+    socket_text peer ∷ codes " came back " ∷ decimal b.missing ∷ codes " bytes behind, of which " ∷ decimal b.reach ∷ codes " can be sent again: left behind" ∷ [])
+
+abbrev pub behind_line : SocketAddr → Behind → List ℕ
+behind_line peer b = behind_text peer b ++ 10 ∷ []
+
+-- the others begin without the one that is to be there
+abbrev pub left_out_text : SocketAddr → ℕ → List ℕ
+left_out_text peer seconds = joined (codes "nobody was heard at " ∷ socket_text peer ∷ codes " for " ∷ decimal seconds ∷ codes " s: the others begin without it" ∷ [])
+
+abbrev pub left_out_line : SocketAddr → ℕ → List ℕ
+left_out_line peer seconds = left_out_text peer seconds ++ 10 ∷ []

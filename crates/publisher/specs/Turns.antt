@@ -1,71 +1,78 @@
--- What the cycles of a publisher's sender have shown, and how it ends by that.
-use Rattle.std.specs.Prelude.{◌≡◌, ◌⊎◌, ℕ, List, [], ◌∷◌, Option, Some, IfSome}
-use Rattle.loss_injector.specs.Losing.{Losing}
-use Rattle.peer.specs.Endings.{ending_of}
-use Rattle.peer.specs.declared.ending.Ending.TheVariants.{Short}
-use Rattle.peer.specs.Patience.{Patient}
-use Rattle.peer.specs.Silences as silences
-use Rattle.peer.specs.Watching.{Watching}
-use Rattle.sender_meaning.specs.Lives.{LivedTo}
+-- What the cycles of a publisher's sender have shown, with whom it began, and how it ends by that.
+use Rattle.std.specs.Prelude.{◌≡◌, ◌⊎◌, ◌||◌, ℕ, zero, suc, Bool, false, List, length, map, Option}
+use Rattle.sender_meaning.specs.Moments.{CyclesAt}
+use Rattle.sender_meaning.specs.StreamLives.{StreamLivedTo, StreamLivedToLast}
 use Rattle.options.specs.declared.ends.plans.PublishPlan.{PublishPlan}
-use Rattle.offering.specs.declared.reading.Reading.{Reading}
-use Rattle.publisher.specs.Farewells.{TellsEnd}
-use Rattle.publisher.specs.Judging.{end_in, tail_in}
-use Rattle.publisher.specs.Looking.{calls_of, seen_of}
-use Rattle.publisher.specs.Progress.{Ends, silence_by}
-use Rattle.publisher.specs.Texts.{shortfall_of}
-use Rattle.publisher.specs.Whys.{HasToldWhy, IsTold}
+use Rattle.peer.specs.declared.ending.Ending.TheVariants.{Short}
 use Rattle.publisher.specs.declared.judged.Judged.{Judged}
-use Rattle.publisher.specs.declared.looking.Seen.{Seen}
-use Rattle.publisher.specs.declared.progress.Progress.{Progress}
-use Rattle.publisher.specs.declared.sender_thread.ChannelSender.{ChannelSender}
 use Rattle.publisher.specs.declared.telling.Shortfall.TheVariants.{Elsewhere}
 use Rattle.publisher.specs.declared.telling.ToldShortfall.{ToldShortfall}
+use Rattle.publisher.specs.Destinations.{begins_now, flow_with, heard_count, destinations_with}
+use Rattle.publisher.specs.Farewells.{TellsWhereDue}
+use Rattle.publisher.specs.Judges.{Ends, HasToldWhy}
+use Rattle.publisher.specs.Whys.{IsTold}
+use Rattle.publisher.specs.Seeing.{ChannelDestination, LivesAlong, begun, seen_along}
+use Rattle.publisher.specs.declared.sender_thread.ChannelSender.{ChannelSender}
 
--- a cycle, whose moment its core was told last, has shown this; then its device was given an end to tell, if one was due
-pub record Turns {D : Type 0} (s : Seen) (now : ℕ) (old new : ChannelSender D) : Type 0 where
-  pub device : Watching (Losing (Patient D))
-  pub shown : s ≡ seen_of (calls_of old.passes.duty.device) device
-  pub moment : LivedTo now old.agent.core new.agent.core
+-- its core lived on up to this moment, which it was told last, by the flow control that it had
+abbrev pub LivedAt : {D : Type 0} → ℕ → ChannelSender D → ChannelSender D → Type 0
+LivedAt now old new = StreamLivedTo 0 now old.agent.core new.agent.core
+
+-- up to some moment that it was told last
+abbrev pub LivedToLast : {D : Type 0} → ChannelSender D → ChannelSender D → Type 0
+LivedToLast old new = StreamLivedToLast (length old.passes.duty.device.ways) old.agent.core new.agent.core
+
+-- a cycle, whose moment its core was told last: each destination's device was told how far the stream was sent, and lived on; what it
+-- has shown was seen at that moment
+pub record Cycles {D : Type 0} (linger now : ℕ) (old new : ChannelSender D) : Type 0 where
+  pub moment : CyclesAt now old.agent.core new.agent.core
+  pub between : List (ChannelDestination D)
+  pub lived : LivesAlong (map (begun old.agent.core.handler.at) old.passes.duty.device.ways) between
+  pub seen : new.passes.duty.device.ways ≡ map (seen_along linger now) between
+
+-- behind the wait it begins with those that were heard, if it does now, and whether it has by then
+pub record Begins {D : Type 0} (wait now : ℕ) (begun : Bool) (old : ChannelSender D) (result : Bool) (new : ChannelSender D) : Type 0 where
+  pub begins : Bool
+  pub is : begins ≡ begins_now begun wait now (heard_count old.passes.duty.device.ways) old.agent.core.handler.at
+  pub begun_is : result ≡ (begun || begins)
+  pub flow : new.agent.core.flow ≡ flow_with begins old.agent.core.handler.at old.passes.duty.device.ways old.agent.core.flow
+  pub destinations : new.passes.duty.device.ways ≡ destinations_with begins old.passes.duty.device.ways
+
+-- a cycle, with which it began then, and the end that was told where one was due
+pub record Turns {D : Type 0} (p : PublishPlan) (begun : Bool) (old : ChannelSender D) (after : Bool) (new : ChannelSender D) : Type 0 where
+  pub now : ℕ
+  pub cycled : ChannelSender D
+  pub cycles : Cycles p.linger now old cycled
+  pub beginning : ChannelSender D
+  pub begins : Begins p.wait now begun cycled after beginning
   pub end : Option ℕ
-  pub told : TellsEnd end device.watch new.passes.duty.device.watch
-  pub peer : new.peer ≡ old.peer
+  pub told : TellsWhereDue end beginning.passes.duty.device.ways new.passes.duty.device.ways
+  pub agent : new.agent ≡ beginning.agent
 
--- these cycles, the last one first
-abbrev pub TurnsAll : {D : Type 0} → ChannelSender D → List (Seen × ℕ) → ChannelSender D → Type 0
-TurnsAll first [] last = last ≡ first
-TurnsAll {D} first (c ∷ cs) last = (middle : ChannelSender D) × TurnsAll first cs middle × Turns c.0 c.1 middle last
+-- so many of them
+abbrev pub TurnsMany : {D : Type 0} → PublishPlan → ℕ → ChannelSender D → Bool → ChannelSender D → Type 0
+TurnsMany p zero first begun last = (last ≡ first) × (begun ≡ false)
+TurnsMany {D} p (suc n) first begun last = (before : Bool) × (middle : ChannelSender D) × TurnsMany p n first before middle × Turns p before middle begun last
 
--- one of them, and how it ends by that, if it does: by whom its device has heard, and the silence up to this moment
-pub record TurnsOne {D : Type 0} (p q : Progress) (linger wait : ℕ) (old : ChannelSender D) (answer : Option Judged) (new : ChannelSender D) : Type 0 where
-  pub seen : Seen
+-- behind so many it ends this way by one more cycle: by whom its destinations have heard, and the silences that were seen in that; and where
+-- that is short a line has said why
+pub record EndsBehind {D : Type 0} (p : PublishPlan) (first last : ChannelSender D) (judged : Judged) : Type 0 where
+  pub count : ℕ
+  pub begun : Bool
+  pub before : ChannelSender D
+  pub turns : TurnsMany p count first begun before
   pub now : ℕ
-  pub turns : Turns seen now old new
-  pub statuses : q.statuses ≡ silences.seen_at p.statuses seen.tally.statuses now
-  pub ends : IfSome answer (λ judged. Ends new.passes.duty.device.watch.attendance (silences.judged q.statuses seen.at_rest now) linger wait judged)
-  pub why : IfSome answer (HasToldWhy old.peer new.passes.duty.device.watch.attendance (silences.judged q.statuses seen.at_rest now))
+  pub cycles : Cycles p.linger now before last
+  pub is : Ends last.passes.duty.device.ways p.linger p.wait judged
+  pub why : HasToldWhy last.passes.duty.device.ways judged
 
--- its cycles end a publisher this way: by whom its device has heard up to the last one, and the silence that all of them have shown
-pub record EndsBehind {D : Type 0} (first last : ChannelSender D) (linger wait : ℕ) (judged : Judged) : Type 0 where
-  pub seen : Seen
-  pub now : ℕ
-  pub before : List (Seen × ℕ)
-  pub turns : TurnsAll first ((seen, now) ∷ before) last
-  pub is : Ends last.passes.duty.device.watch.attendance (silence_by seen now before) linger wait judged
-  pub why : HasToldWhy first.peer last.passes.duty.device.watch.attendance (silence_by seen now before) judged
-
--- by its cycles it was judged to end short: by whom was heard, and the silence that they have shown, against what the plan waits;
--- and the line of that was given
+-- it was judged to end short by its cycles, and the line of that was given
 pub record GaveUp {D : Type 0} (p : PublishPlan) (first : ChannelSender D) (told : Option ToldShortfall) : Type 0 where
   pub last : ChannelSender D
-  pub seen : Seen
-  pub now : ℕ
-  pub before : List (Seen × ℕ)
-  pub turns : TurnsAll first ((seen, now) ∷ before) last
-  pub reading : Option Reading
-  pub is : ending_of seen.attendance (end_in reading) (silence_by seen now before) p.linger p.wait ≡ Some Short
-  pub tail : ℕ
-  pub why : IsTold first.peer (shortfall_of seen.attendance (end_in reading) (tail_in reading tail) (silence_by seen now before)) told
+  pub judged : Judged
+  pub ends : EndsBehind p first last judged
+  pub short : judged.ending ≡ Short
+  pub line : told ≡ judged.told
 
 -- or the line was given that its input ended elsewhere
 abbrev pub SaysWhy : {D : Type 0} → PublishPlan → ChannelSender D → Option ToldShortfall → Type 0

@@ -1,11 +1,8 @@
 -- The lines that say why a publisher ends short.
-use Rattle.std.specs.Prelude.{◌≡◌, ℕ, Option, None, Some, Result, Ok, Err}
+use Rattle.std.specs.Prelude.{◌≡◌, Option, None, Some, Result, Ok, Err}
 use Rattle.std.specs.declared.net.SocketAddr.{SocketAddr}
-use Rattle.peer.specs.declared.attendance.Attendance.{Attendance}
 use Rattle.peer.specs.declared.ending.Ending.{Ending}
 use Rattle.peer.specs.declared.ending.Ending.TheVariants.{Whole, Short}
-use Rattle.publisher.specs.Judging.{end_in, tail_in}
-use Rattle.publisher.specs.Texts.{shortfall_of}
 use Rattle.publisher.specs.declared.fault.PublishFault.{PublishFault}
 use Rattle.publisher.specs.declared.judged.Judged.{Judged}
 use Rattle.publisher.specs.declared.telling.Shortfall.{Shortfall}
@@ -16,16 +13,6 @@ use Rattle.publisher.specs.declared.telling.ToldShortfall.{ToldShortfall}
 abbrev pub IsTold : SocketAddr → Shortfall → Option ToldShortfall → Type 0
 IsTold peer shortfall None = ⊥
 IsTold peer shortfall (Some told) = (told.peer ≡ peer) × (told.shortfall ≡ shortfall)
-
--- exactly where it ends short
-abbrev pub TellsWhy : Ending → SocketAddr → Shortfall → Option ToldShortfall → Type 0
-TellsWhy Whole peer shortfall told = told ≡ None
-TellsWhy Short peer shortfall told = IsTold peer shortfall told
-
--- where it was judged to end short the line of that was given: what it lacks of the subscriber there, by whom was heard and for how
--- long nothing more was
-abbrev pub HasToldWhy : SocketAddr → Attendance → Option ℕ → Judged → Type 0
-HasToldWhy peer a silence judged = (tail : ℕ) × TellsWhy judged.ending peer (shortfall_of a (end_in judged.reading) (tail_in judged.reading tail) silence) judged.told
 
 -- the line that was given as its sending was judged
 abbrev pub told_by : Result Judged PublishFault → Option ToldShortfall

@@ -6,12 +6,12 @@ ghost use Rattle.publisher.specs.Openings.{identity_of};
 
 use crate::fault::PublishFault;
 use crate::looking::ChannelDevice;
+use crate::offering::OfferingState;
 use crate::sender_thread::SenderPasses;
 use agents::{Began, Duty, LogPasses, open_log};
 use conductor::Conductor;
 use endpoint::{Datagrams, DeviceError};
 use loss_injector::Lossy;
-use offering::OfferingState;
 use options::PublishPlan;
 use peer::{Attended, PatientDevice};
 use position::Identity;
@@ -35,7 +35,7 @@ pub struct PublisherParts<D> {
 }
 
 /// Which stream a plan sends, and its shape.
-pub fn planned_stream(plan: &PublishPlan) -> Identity
+pub(crate) fn planned_stream(plan: &PublishPlan) -> Identity
     ensures { result ≡ identity_of plan.now }
 {
     Identity::new(plan.geometry, plan.session, plan.end.stream)
@@ -61,7 +61,7 @@ fn reach_of(plan: &PublishPlan, place: Option<u8>) -> Option<u64>
 
 /// What a publisher sends with over a device: what fails is lost, losses are made on purpose, and what comes is screened and
 /// noted. `place` is the number of its destination among several, and none where it is the only one.
-pub fn channel_device<D: Datagrams>(
+pub(crate) fn channel_device<D: Datagrams>(
     alloc: Global,
     plan: &PublishPlan,
     place: Option<u8>,
@@ -125,26 +125,4 @@ pub fn parts_over<D: Drop>(
             taker,
         },
     })
-}
-
-/// All that a publisher to this peer begins with, over a device. It fails only where memory is refused.
-pub fn publisher_parts<D: Datagrams + Drop>(
-    alloc: Global,
-    plan: &PublishPlan,
-    began: Began,
-    peer: SocketAddr,
-    device: D,
-) -> Result<PublisherParts<ChannelDevice<D>>, PublishFault>
-    ensures parts { IfOk result (λ p. ArePublisherParts plan.now p) }
-    ensures device { IfOk result (λ p. p.passes.duty.device ≡ device_of plan.now None device) }
-    ensures peer { IfOk result (λ p. p.peer ≡ peer) }
-    ensures refused { IfErr result (λ fault. fault ≡ PublishFault.Failed DeviceError.Memory) }
-{
-    parts_over(
-        alloc,
-        plan,
-        began,
-        peer,
-        channel_device(alloc, plan, None, device),
-    )
 }

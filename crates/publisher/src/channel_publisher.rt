@@ -1,6 +1,6 @@
 //! A publisher from its begin to its end.
 
-ghost use Rattle.std.specs.Prelude.{◌≡◌, ◌<◌, Err, IfErr, IfOk, IfSome, Ok, Some, true};
+ghost use Rattle.std.specs.Prelude.{◌≡◌, ◌⊎◌, ◌≤◌, ◌<◌, Err, IfErr, IfOk, IfSome, Ok, Some, length, slice_index_or, true};
 ghost use Rattle.std.specs.Arc.{arc_value};
 ghost use Rattle.std.specs.Io.Buffered.{reader_remaining};
 ghost use Rattle.position.specs.Openings.{IsStart};
@@ -8,34 +8,38 @@ ghost use Rattle.messages.specs.Fused.{fused_remaining};
 ghost use Rattle.shared_log.specs.Books.{IsDone};
 ghost use Rattle.shared_log.specs.Parts.{IsNewReader};
 ghost use Rattle.shared_log.specs.Readers.{IsReaderOf};
-ghost use Rattle.agents.specs.LogSenders.{IsNewSender, SendsLog};
+ghost use Rattle.agents.specs.LogSenders.{SendsLog};
 ghost use Rattle.endpoint.specs.declared.open_error.OpenError.{OpenError};
-ghost use Rattle.peer.specs.declared.ending.Ending.TheVariants.{Short, Whole};
-ghost use Rattle.offering.specs.Ended.{EndsInput};
-ghost use Rattle.publisher.specs.Beginnings.{ArePublisherParts};
-ghost use Rattle.publisher.specs.Ended.{AllArrived, HasSent, LeavesLog, PublishesAll, reading_left};
-ghost use Rattle.publisher.specs.Farewells.{has_told_alone, has_told_no_other};
-ghost use Rattle.publisher.specs.Faults.{of_opening};
-ghost use Rattle.publisher.specs.Judging.{end_in, fault_in};
+ghost use Rattle.endpoint.specs.declared.udp.Route.{Route};
 ghost use Rattle.peer.specs.Ties.{hearing_anybody, tied_waiting};
+ghost use Rattle.peer.specs.declared.ending.Ending.TheVariants.{Short, Whole};
+ghost use Rattle.publisher.specs.Beginnings.{ArePublisherParts};
+ghost use Rattle.publisher.specs.Destinations.{AreDestinationsAlong, IsDestinationOf, id_of, place_of};
+ghost use Rattle.publisher.specs.Ended.{ArrivesAt, CanClose, HasSent, IsBegun, IsClosed, LeavesLog, PublishesAll, reading_left};
+ghost use Rattle.publisher.specs.Farewells.{are_told_alone, are_told_no_other};
+ghost use Rattle.publisher.specs.Faults.{of_opening};
+ghost use Rattle.publisher.specs.InputEnds.{EndsInput};
+ghost use Rattle.publisher.specs.Judging.{end_in, fault_in};
 ghost use Rattle.publisher.specs.Openings.{ArePasses, IsKept, identity_of};
-ghost use Rattle.publisher.specs.Shorts.{EndsShort, SaysItsShortfall};
+ghost use Rattle.publisher.specs.Shorts.{EndsShort, SaysItsShortfall, unclosed};
 
-use crate::beginning::{PublisherParts, planned_stream, publisher_parts};
+use crate::beginning::{PublisherParts, channel_device, parts_over, planned_stream};
+use crate::destination::Destination;
 use crate::fault::PublishFault;
-use crate::log_end::{LogEnd, ending_of, log_of};
-use crate::looking::ChannelDevice;
+use crate::log_end::{LogEnd, ending_closed, log_of};
+use crate::looking::{Calls, ChannelDevice};
+use crate::offering::{OfferingState, Reader, start_reader};
+use crate::progress::Progress;
 use crate::publisher_context::PublisherContext;
-use crate::sender_thread::{ChannelSender, SenderPasses};
+use crate::sender_thread::{ChannelSender, Destinations, SenderPasses};
 use crate::telling::tell_if_unclosed;
 use crate::two_threads::{Published, run};
-use agents::{Began, open_sender};
-use endpoint::{Datagrams, DeviceError, OpenError, Route};
+use agents::{Began, open_stream_sender};
+use endpoint::{Datagrams, DeviceError, Fan, OpenError, Route};
 use messages::FusedReader;
-use offering::{OfferingState, Reader, start_reader};
 use options::PublishPlan;
 use peer::{Awaited, Ending, TiedDevice};
-use sender_meaning::keeps_its_reader;
+use sender_meaning::stream_keeps_its_reader;
 use shared_log::{Keeper, LogFrames, LogReader, Publisher};
 use std::alloc::Global;
 use std::io::{BufRead, BufReader, Read, Write};
@@ -44,8 +48,102 @@ use std::sync::{Arc, Wait};
 use std::thread::Threads;
 use std::time::Clock;
 
+/// The place of a destination among so many; none where it is the only one.
+fn place_of(many: usize, number: usize) -> Option<u8>
+    requires { number < 8 }
+    ensures { result ≡ place_of many number }
+{
+    if many > 1 { Some(number as u8) } else { None }
+}
+
+/// The id of a destination at this place.
+fn id_of(place: Option<u8>) -> Option<i64>
+    ensures { result ≡ id_of place }
+{
+    match place {
+        None => None,
+        Some(number) => Some(i64::from(number)),
+    }
+}
+
+/// A destination at this place over a device, where nothing has gone yet.
+fn destination_over<D: Datagrams>(
+    alloc: Global,
+    plan: &PublishPlan,
+    place: Option<u8>,
+    peer: SocketAddr,
+    device: D,
+) -> Destination<ChannelDevice<D>>
+    ensures { IsDestinationOf plan.now place peer device result }
+{
+    Destination {
+        device: channel_device(alloc, plan, place, device),
+        id: id_of(place),
+        peer,
+        before: Calls { nones: 0, lost: 0 },
+        progress: Progress::new(),
+        silence: None,
+        quiet: false,
+        behind: false,
+        broken: false,
+    }
+}
+
+/// Why there is no device along this route: the system refuses a socket, or memory was refused.
+fn fault_along(route: &Route, error: OpenError) -> PublishFault
+    ensures { result ≡ of_opening route.now error }
+{
+    match error {
+        OpenError::Refused(number) => PublishFault::NoSocket(*route, number),
+        OpenError::Memory => PublishFault::Failed(DeviceError::Memory),
+    }
+}
+
+/// The device along a route, which waits for the plan's stream's start.
+fn connected<R: Net>(
+    rt: &R,
+    alloc: Global,
+    plan: &PublishPlan,
+    route: &Route,
+) -> Result<TiedDevice, PublishFault>
+    ensures waits { IfOk result (λ t. t ≡ tied_waiting hearing_anybody route.now.peer (Some (record { sent = identity_of plan.now; start = plan.now.start }))) }
+    ensures refused { IfErr result (λ fault. (error : OpenError) × (fault ≡ of_opening route.now error)) }
+{
+    let awaited = Awaited {
+        sent: planned_stream(plan),
+        start: plan.start,
+    };
+    match TiedDevice::along(rt, alloc, route, awaited) {
+        Ok(device) => Ok(device),
+        Err(error) => Err(fault_along(route, error)),
+    }
+}
+
+/// A destination along each route, in order.
+fn destinations_along<R: Net>(
+    rt: &R,
+    alloc: Global,
+    plan: &PublishPlan,
+    routes: &[Route],
+) -> Result<Vec<Destination<ChannelDevice<TiedDevice>>>, PublishFault>
+    requires { length routes.now ≤ 8 }
+    ensures { IfOk result (λ destinations. AreDestinationsAlong plan.now routes.now destinations.items) }
+{
+    let mut destinations = Vec::new(alloc);
+    for route in routes {
+        let number = destinations.as_slice().len();
+        let place = place_of(routes.len(), number);
+        let device = connected(rt, alloc, plan, route)?;
+        let destination = destination_over(alloc, plan, place, route.peer, device);
+        if destinations.push(destination).is_err() {
+            return Err(PublishFault::Failed(DeviceError::Memory));
+        }
+    }
+    Ok(destinations)
+}
+
 /// What the threads share, once for each. The fault is that memory was refused.
-pub fn shared(
+fn shared(
     alloc: Global,
     state: OfferingState,
 ) -> Result<(Arc<OfferingState>, Arc<OfferingState>), PublishFault>
@@ -61,12 +159,12 @@ pub fn shared(
 /// What is left of a publisher's parts as its thread starts to send.
 struct Sending<D> {
     reader: LogReader,
-    passes: SenderPasses<ChannelDevice<D>>,
+    passes: SenderPasses<Destinations<D>>,
     peer: SocketAddr,
 }
 
-/// What sends and keeps, from the log's start.
-fn opened<'a, D: Drop>(
+/// What sends and keeps, from the log's start. How many destinations there are chooses its flow control, and nothing else.
+fn opened<'a, D: Datagrams + Drop>(
     alloc: Global,
     state: &'a OfferingState,
     sending: Sending<D>,
@@ -74,16 +172,17 @@ fn opened<'a, D: Drop>(
     requires reader { IsNewReader state.now.log 0 sending.reader }
     requires start { IsStart state.now.log.identity.geometry state.now.log.start }
     requires consumers { 0 < state.now.log.consumers }
-    ensures new { IfOk result (λ s. IsNewSender state.now.log sending.reader s.agent) }
+    requires few { length sending.passes.duty.device.ways ≤ 8 }
+    ensures new { IfOk result (IsBegun state.now.log sending.passes sending.peer) }
     ensures sends { IfOk result (λ s. SendsLog state.now.log s.agent × (s.passes ≡ sending.passes)) }
-    ensures peer { IfOk result (λ s. s.peer ≡ sending.peer) }
 {
     let Sending {
         reader,
         passes,
         peer,
     } = sending;
-    let agent = open_sender(alloc, &state.log, reader)?;
+    let destinations = passes.duty.device().each().len();
+    let agent = open_stream_sender(alloc, &state.log, reader, destinations)?;
     Ok(ChannelSender {
         agent,
         passes,
@@ -93,15 +192,15 @@ fn opened<'a, D: Drop>(
 
 /// What the thread that reads is given: what it shares, and its publisher and input.
 #[derive(Drop)]
-pub struct Offering<I> {
-    pub state: Arc<OfferingState>,
-    pub publisher: Publisher,
-    pub input: I,
+struct Offering<I> {
+    state: Arc<OfferingState>,
+    publisher: Publisher,
+    input: I,
 }
 
 impl<I> Offering<I> {
     /// Puts these together.
-    pub fn new(state: Arc<OfferingState>, publisher: Publisher, input: I) -> Offering<I>
+    fn new(state: Arc<OfferingState>, publisher: Publisher, input: I) -> Offering<I>
         ensures { result ≡ record { state = state; publisher = publisher; input = input } }
     {
         Offering {
@@ -113,7 +212,7 @@ impl<I> Offering<I> {
 }
 
 /// Starts the thread that reads. The fault is `NoThread`.
-pub fn started<R: Threads + Clock + Send + Copy + 'static, I: BufRead + Send + Drop + 'static>(
+fn started<R: Threads + Clock + Send + Copy + 'static, I: BufRead + Send + Drop + 'static>(
     rt: &R,
     alloc: Global,
     plan: &PublishPlan,
@@ -163,28 +262,29 @@ fn publish_shared<
     requires reader { IsNewReader context.now.state.now.log 0 sending.reader }
     requires start { IsStart context.now.state.now.log.identity.geometry context.now.state.now.log.start }
     requires consumers { 0 < context.now.state.now.log.consumers }
+    requires few { length sending.passes.duty.device.ways ≤ 8 }
     requires passes { ArePasses context.now.state.now.log context.now.conductor.now sending.passes }
     requires offering { ((arc_value offering.state).log ≡ context.now.state.now.log) × IsDone context.now.state.now.log offering.publisher }
     ensures keeper { IfOk result (λ e. IsKept context.now.state.now.log e.1.0) }
     ensures reader { IfOk result (λ e. IsReaderOf context.now.state.now.log e.1.1) }
-    ensures sent { IfOk result (λ e. HasSent context.now.state.now.log e.1.1) }
+    ensures sent { IfOk result (λ e. HasSent context.now.state.now.log (length sending.passes.duty.device.ways) e.1.1) }
     ensures input { IfOk result (λ e. IfSome e.0.input (λ left. EndsInput context.now.plan.now.end.form context.now.state.now.log (I.remaining offering.input) (I.remaining left.input) offering.publisher.pass left.publisher left.reading)) }
-    ensures whole { IfOk result (λ e. e.0.ending ≡ Ok Whole → AllArrived (reading_left e.0.input) e.0.attendance) }
+    ensures whole { IfOk result (λ e. e.0.ending ≡ Ok Whole → ArrivesAt context.now.state.now.log sending.passes sending.peer context.now.plan.now (reading_left e.0.input) e.0.attendances.items e.0.ends.items) }
     ensures faulted { IfOk result (λ e. IfSome (fault_in (reading_left e.0.input)) (λ fault. e.0.ending ≡ Err fault)) }
-    ensures told { IfOk result (λ e. e.0.ending ≡ Ok Whole → has_told_alone e.0.ends context.now.plan.now.geometry (end_in (reading_left e.0.input)) ≡ true) }
-    ensures no_other { IfOk result (λ e. IfOk e.0.ending (λ _. has_told_no_other e.0.ends context.now.plan.now.geometry (end_in (reading_left e.0.input)) ≡ true)) }
+    ensures told { IfOk result (λ e. e.0.ending ≡ Ok Whole → are_told_alone context.now.plan.now.geometry (end_in (reading_left e.0.input)) e.0.ends.items ≡ true) }
+    ensures no_other { IfOk result (λ e. IfOk e.0.ending (λ _. are_told_no_other context.now.plan.now.geometry (end_in (reading_left e.0.input)) e.0.ends.items ≡ true)) }
     ensures short { IfOk result (λ e. e.0.ending ≡ Ok Short → EndsShort context.now.state.now.log sending.passes context.now.plan.now sending.peer e.0.told) }
 {
     // A law that the proof cites.
-    keeps_its_reader();
+    stream_keeps_its_reader();
     let mut sender = opened(alloc, context.state, sending)?;
     let reading = started(context.rt, alloc, context.plan, offering)?;
-    let published = run(context, &mut sender, reading, errors);
+    let published = run(alloc, context, &mut sender, reading, errors)?;
     Ok((published, passes_of(sender)))
 }
 
-/// Runs with all that a publisher begins with, over any device. What is left of its log comes back. The faults are those of
-/// `publish`, but for `NoSocket`.
+/// Runs with all that a publisher to at most 8 destinations begins with, over any devices to them. What is left of its log comes
+/// back. The faults are those of `publish`, but for `NoSocket`.
 pub fn publish_over<
     R: Threads + Wait + Clock + Send + Copy + 'static,
     I: BufRead + Send + Drop + 'static,
@@ -194,20 +294,22 @@ pub fn publish_over<
     rt: &R,
     alloc: Global,
     plan: &PublishPlan,
-    parts: PublisherParts<ChannelDevice<D>>,
+    parts: PublisherParts<Destinations<D>>,
     input: I,
     errors: &mut E,
 ) -> Result<(Published<I>, LogEnd), PublishFault>
-    requires { ArePublisherParts plan.now parts }
-    ensures leaves { IfOk result (λ e. LeavesLog parts.state.log e.1) }
+    requires parts { ArePublisherParts plan.now parts }
+    requires few { length parts.passes.duty.device.ways ≤ 8 }
+    ensures leaves { IfOk result (λ e. LeavesLog parts.state.log (length parts.passes.duty.device.ways) e.1) }
     ensures input { IfOk result (λ e. IfSome e.0.input (λ left. EndsInput plan.now.end.form parts.state.log (I.remaining input) (I.remaining left.input) parts.publisher.pass left.publisher left.reading)) }
-    ensures whole { IfOk result (λ e. e.0.ending ≡ Ok Whole → AllArrived (reading_left e.0.input) e.0.attendance) }
+    // Where it ends whole, each destination's own device has noted that all has arrived there.
+    ensures whole { IfOk result (λ e. e.0.ending ≡ Ok Whole → ArrivesAt parts.state.log parts.passes parts.peer plan.now (reading_left e.0.input) e.0.attendances.items e.0.ends.items) }
     // A message that couldn't be read is a fault, however the sending went.
     ensures faulted { IfOk result (λ e. IfSome (fault_in (reading_left e.0.input)) (λ fault. e.0.ending ≡ Err fault)) }
-    // Where it ends whole its device was given no end to tell but the reading's.
-    ensures told { IfOk result (λ e. e.0.ending ≡ Ok Whole → has_told_alone e.0.ends plan.now.geometry (end_in (reading_left e.0.input)) ≡ true) }
-    // Where it ends without a fault its device was given no other end to tell.
-    ensures no_other { IfOk result (λ e. IfOk e.0.ending (λ _. has_told_no_other e.0.ends plan.now.geometry (end_in (reading_left e.0.input)) ≡ true)) }
+    // Where it ends whole no device was given an end to tell but the reading's.
+    ensures told { IfOk result (λ e. e.0.ending ≡ Ok Whole → are_told_alone plan.now.geometry (end_in (reading_left e.0.input)) e.0.ends.items ≡ true) }
+    // Where it ends without a fault no device was given another end to tell.
+    ensures no_other { IfOk result (λ e. IfOk e.0.ending (λ _. are_told_no_other plan.now.geometry (end_in (reading_left e.0.input)) e.0.ends.items ≡ true)) }
     // Where it ends short a line has said why.
     ensures short { IfOk result (λ e. e.0.ending ≡ Ok Short → EndsShort parts.state.log parts.passes plan.now parts.peer e.0.told) }
 {
@@ -246,49 +348,23 @@ pub fn publish_over<
     Ok((published, end))
 }
 
-/// Why there is no device along this route: the system refuses a socket, or memory was refused.
-fn fault_along(route: &Route, error: OpenError) -> PublishFault
-    ensures { result ≡ of_opening route.now error }
-{
-    match error {
-        OpenError::Refused(number) => PublishFault::NoSocket(*route, number),
-        OpenError::Memory => PublishFault::Failed(DeviceError::Memory),
-    }
-}
-
-/// The device along a route, which waits for the plan's stream's start.
-pub fn connected<R: Net>(
-    rt: &R,
-    alloc: Global,
-    plan: &PublishPlan,
-    route: &Route,
-) -> Result<TiedDevice, PublishFault>
-    ensures waits { IfOk result (λ t. t ≡ tied_waiting hearing_anybody route.now.peer (Some (record { sent = identity_of plan.now; start = plan.now.start }))) }
-    ensures refused { IfErr result (λ fault. (error : OpenError) × (fault ≡ of_opening route.now error)) }
-{
-    let awaited = Awaited {
-        sent: planned_stream(plan),
-        start: plan.start,
-    };
-    match TiedDevice::along(rt, alloc, route, awaited) {
-        Ok(device) => Ok(device),
-        Err(error) => Err(fault_along(route, error)),
-    }
-}
-
-/// All that a publisher begins with, over a device along a route.
+/// All that a publisher begins with, over a destination along each route.
 fn prepared<R: Net + Clock>(
     rt: &R,
     alloc: Global,
     plan: &PublishPlan,
-    route: &Route,
-) -> Result<PublisherParts<ChannelDevice<TiedDevice>>, PublishFault>
+    routes: &[Route],
+) -> Result<PublisherParts<Destinations<TiedDevice>>, PublishFault>
+    requires some { 0 < length routes.now }
+    requires few { length routes.now ≤ 8 }
     ensures parts { IfOk result (λ p. ArePublisherParts plan.now p) }
-    ensures peer { IfOk result (λ p. p.peer ≡ route.now.peer) }
+    ensures destinations { IfOk result (λ p. AreDestinationsAlong plan.now routes.now p.passes.duty.device.ways) }
+    ensures peer { IfOk result (λ p. (first : Route) × (first ≡ slice_index_or routes.now 0 first) × (p.peer ≡ first.peer)) }
 {
     let began = Began::now(rt)?;
-    let device = connected(rt, alloc, plan, route)?;
-    publisher_parts(alloc, plan, began, route.peer, device)
+    let destinations = destinations_along(rt, alloc, plan, routes)?;
+    let first = routes[0].peer;
+    parts_over(alloc, plan, began, first, Fan::new(destinations))
 }
 
 /// The input with a buffer, its end read once.
@@ -305,19 +381,39 @@ pub fn buffered<I: Read + Drop>(
     }
 }
 
-/// Publishes the messages of the input as planned, along a route, and answers how it ended. Another receiver that comes, that
-/// nobody does, a fault of the input, why it gave up, an empty input and the counters are lines of `errors`: where it ends
-/// short a line says why.
+/// How it ended: whole only where its log was closed. What else is left is let go.
+fn ending_of<I: Drop>(published: Published<I>, end: LogEnd) -> Result<Ending, PublishFault>
+    requires { CanClose published.input end }
+    ensures whole { result ≡ Ok Whole → (published.ending ≡ Ok Whole) × IsClosed published.input end }
+    ensures kept { (result ≡ published.ending) ⊎ (result ≡ unclosed published.ending) }
+{
+    let Published {
+        ending,
+        told: _,
+        attendances: _,
+        ends: _,
+        input,
+    } = published;
+    ending_closed(ending, input, end)
+}
+
+/// Publishes the messages of the input as planned, along each of 1 to 8 routes to a destination, and answers how it ended: whole
+/// where each of them has written all. Another receiver that comes, that nobody does, a fault of the input, why it gave up, an empty
+/// input and the counters are lines of `errors`: where it ends short a line says why. What is about one of several destinations names
+/// its address.
 ///
-/// Where its input has ended, by its end or a fault, and all was sent, it tells the subscriber where the stream ends: each
-/// 100 ms until that has acknowledged all, and five times at its own end. Where it ends whole it has told no other end.
+/// Every datagram goes to each. One destination's limit is what its receiver allows, whoever that is. Of several it is the least of
+/// what those that are heard allow, once each was heard; one that is silent for five seconds holds the others up no longer.
+///
+/// Where its input has ended, by its end or a fault, and all was sent, it tells where the stream ends: each 100 ms until all is
+/// acknowledged, and five times at its own end. Where it ends whole it has told no other end.
 ///
 /// It waits for nobody but receivers: where it ends the input may still be read, by a thread of its own that ends with the
 /// process, or at its next message. It ends whole only where all of the input was read, and its log is closed then.
 ///
 /// The fault is `Input` where a message couldn't be read, and what came before it was delivered or given up on, `Full` at
-/// the stream's last position, `NoSocket` where the system refused one along the route, `NoThread` where it refused a thread,
-/// `Device` where the clock couldn't be read or each call of the socket failed for the plan's linger, and `Memory` where memory
+/// the stream's last position, `NoSocket` where the system refused one along a route, `NoThread` where it refused a thread,
+/// `Device` where the clock couldn't be read or each call of each socket failed for the plan's linger, and `Memory` where memory
 /// was refused.
 pub fn publish<
     R: Threads + Wait + Clock + Net + Sync + Send + Copy + 'static,
@@ -327,18 +423,21 @@ pub fn publish<
     rt: &R,
     alloc: Global,
     plan: &PublishPlan,
-    route: &Route,
+    routes: &[Route],
     input: I,
     errors: &mut E,
 ) -> Result<Ending, PublishFault>
-    ensures whole { result ≡ Ok Whole → PublishesAll plan.now (I.remaining input) }
-    ensures short { result ≡ Ok Short → SaysItsShortfall plan.now route.now.peer }
+    requires some { 0 < length routes.now }
+    requires few { length routes.now ≤ 8 }
+    ensures whole { result ≡ Ok Whole → PublishesAll plan.now (length routes.now) (I.remaining input) }
+    ensures short { result ≡ Ok Short → SaysItsShortfall plan.now routes.now }
 {
     let input = buffered(alloc, input)?;
-    let parts = prepared(rt, alloc, plan, route)?;
+    let parts = prepared(rt, alloc, plan, routes)?;
+    let first = parts.peer;
     let (published, end) = publish_over(rt, alloc, plan, parts, input, errors)?;
     let (sent, told) = (published.ending, published.told);
     let ending = ending_of(published, end);
-    let _why = tell_if_unclosed(errors, route.peer, told, &sent, &ending);
+    let _why = tell_if_unclosed(errors, first, told, &sent, &ending);
     ending
 }

@@ -1,7 +1,7 @@
 //! How the end was judged.
 
+use crate::offering::Reading;
 use crate::telling::ToldShortfall;
-use offering::Reading;
 use peer::Ending;
 
 /// How a publisher ends by whom it has heard, and how the reading had ended then, if it had.

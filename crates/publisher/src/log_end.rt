@@ -11,8 +11,7 @@ ghost use Rattle.publisher.specs.Ended.{CanClose, IsClosed, LeavesPasses, ShowsA
 ghost use Rattle.publisher.specs.Shorts.{unclosed};
 
 use crate::fault::PublishFault;
-use crate::two_threads::Published;
-use offering::{InputEnd, OfferingState};
+use crate::offering::{InputEnd, OfferingState};
 use peer::Ending;
 use shared_log::{Book, Keeper, Log, LogReader, Publisher, close_read};
 use std::sync::Arc;
@@ -28,7 +27,7 @@ pub struct LogEnd {
 }
 
 /// The log of what threads shared, where the others have let it go.
-pub fn log_of(state: Arc<OfferingState>) -> Option<Log>
+pub(crate) fn log_of(state: Arc<OfferingState>) -> Option<Log>
     ensures { IfSome result (λ l. l ≡ (arc_value state).log) }
 {
     match Arc::try_unwrap(state) {
@@ -70,7 +69,7 @@ fn unclosed(ending: Result<Ending, PublishFault>) -> Result<Ending, PublishFault
 }
 
 /// How one ended of whose input and log this is left: whole only where the log was closed.
-pub fn ending_closed<I: Drop>(
+pub(crate) fn ending_closed<I: Drop>(
     ending: Result<Ending, PublishFault>,
     input: Option<InputEnd<I>>,
     end: LogEnd,
@@ -86,23 +85,4 @@ pub fn ending_closed<I: Drop>(
         Some(_) => ending,
         None => unclosed(ending),
     }
-}
-
-/// How it ended: whole only where its log was closed. What else is left is let go.
-pub(crate) fn ending_of<I: Drop>(
-    published: Published<I>,
-    end: LogEnd,
-) -> Result<Ending, PublishFault>
-    requires { CanClose published.input end }
-    ensures whole { result ≡ Ok Whole → (published.ending ≡ Ok Whole) × IsClosed published.input end }
-    ensures kept { (result ≡ published.ending) ⊎ (result ≡ unclosed published.ending) }
-{
-    let Published {
-        ending,
-        told: _,
-        attendance: _,
-        ends: _,
-        input,
-    } = published;
-    ending_closed(ending, input, end)
 }

@@ -1,8 +1,8 @@
 //! What the thread that sends is lent.
 
+use crate::offering::OfferingState;
 use agents::Began;
 use conductor::Conductor;
-use offering::OfferingState;
 use options::PublishPlan;
 
 /// What the thread that sends is lent: its plan, what it shares with the one that reads, the command queue, and the moment of

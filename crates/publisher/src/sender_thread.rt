@@ -1,33 +1,61 @@
-//! The thread that sends, keeps the log, and decides the end.
+//! The thread that sends to all destinations, keeps the log, and decides the end.
 
-ghost use Rattle.std.specs.Prelude.{◌≡◌, IfErr, IfOk, IfSome, Option, ℕ};
+ghost use Rattle.std.specs.Prelude.{◌≡◌, ◌≤◌, ◌||◌, nat_le, not, Err, IfErr, IfOk, IfSome, IsTrue, length, map};
+ghost use Rattle.std.specs.List.{list_all};
 ghost use Rattle.agents.specs.Conducting.{Conducts};
 ghost use Rattle.agents.specs.LogSenders.{SendsLog};
-ghost use Rattle.peer.specs.Watching.{told};
-ghost use Rattle.sender_meaning.specs.Lives.{Lived, LivedTo};
+ghost use Rattle.endpoint.specs.Fans.{AllLive};
+ghost use Rattle.sender_meaning.specs.Moments.{CyclesAt};
+ghost use Rattle.sender_meaning.specs.StreamLives.{StreamLived};
+ghost use Rattle.endpoint.specs.declared.device_error.DeviceError.TheVariants.{Device};
+ghost use Rattle.publisher.specs.Judging.{FailsBy};
 ghost use Rattle.publisher.specs.Keeping.{KeepsLog};
-ghost use Rattle.publisher.specs.Looking.{calls_of, seen_of};
 ghost use Rattle.publisher.specs.Openings.{ArePasses, IsKept};
-ghost use Rattle.publisher.specs.Farewells.{TellsEnd, end_unless_judged};
 ghost use Rattle.publisher.specs.Progress.{end_to_tell, with_end_told};
-ghost use Rattle.publisher.specs.Turns.{EndsBehind, TurnsOne};
+ghost use Rattle.publisher.specs.declared.fault.PublishFault.TheVariants.{Failed};
+ghost use Rattle.publisher.specs.Destinations.{begins_now, heard_count, is_heard_along, next_number, numbered_from, unnumbered, with_flow, with_number};
+ghost use Rattle.publisher.specs.Endings.{is_broken_along};
+ghost use Rattle.publisher.specs.Farewells.{TellsWhereDue, end_unless_judged};
+ghost use Rattle.publisher.specs.Judges.{HasToldWhy, Judges};
+ghost use Rattle.publisher.specs.Seeing.{LivesAlong, begun, seen_along};
+ghost use Rattle.publisher.specs.Turns.{Begins, Cycles, EndsBehind, LivedAt, LivedToLast};
 
+use crate::destination::Destination;
+use crate::destination_lines::{tell_all_done, tell_counts, tell_ending, tell_left_out, tell_news};
+use crate::ending::{are_broken, ending_along};
 use crate::fault::PublishFault;
 use crate::judged::Judged;
-use crate::judging::{end_in, judge};
-use crate::looking::{ChannelDevice, Seen, calls_of, look};
+use crate::judging::{check_reading, end_in, messages_in, tail_in};
+use crate::looking::ChannelDevice;
+use crate::offering::Reading;
 use crate::progress::Progress;
 use crate::publisher_context::PublisherContext;
-use agents::{Duty, IdleStrategy, LogSender, conduct};
+use crate::seeing::begin_all;
+use crate::two_threads::tell_all;
+use agents::{Duty, IdleStrategy, StreamSender, conduct};
 use conductor::{Client, Taker};
-use endpoint::Datagrams;
-use offering::Reading;
-use peer::Attended;
+use endpoint::{Datagrams, DeviceError, Fan};
+use flow_control::StreamFlow;
 use shared_log::Keeper;
 use std::io::Write;
 use std::net::SocketAddr;
 use std::sync::Wait;
 use std::time::Clock;
+
+/// The id of a destination that is of no group.
+const OUTSIDE: i64 = -1;
+
+/// How many destinations there are at the most.
+const MOST_DESTINATIONS: usize = 8;
+
+/// Below this lies each position of a stream.
+const MOST_POSITIONS: u64 = 1 << 63;
+
+/// The nanoseconds of a second.
+const NANOSECONDS_PER_SECOND: u64 = 1_000_000_000;
+
+/// What a publisher sends with: all its destinations.
+pub type Destinations<D> = Fan<Destination<ChannelDevice<D>>>;
 
 /// The device of a sender with its room, its client of the queue, and the conductor's passes.
 #[derive(Drop)]
@@ -38,38 +66,66 @@ pub struct SenderPasses<D> {
     pub taker: Taker,
 }
 
-/// What sends and keeps, and to whom.
+/// What sends and keeps, and whom a line names that is about none of its destinations alone: the first of them.
 #[derive(Drop)]
 pub struct ChannelSender<'a, D> {
-    pub agent: LogSender<'a>,
-    pub passes: SenderPasses<ChannelDevice<D>>,
+    pub agent: StreamSender<'a>,
+    pub passes: SenderPasses<Destinations<D>>,
     pub peer: SocketAddr,
 }
 
-/// Tells a device up to where the stream was sent, as a cycle begins.
-fn believe<D>(duty: &mut Duty<Attended<D>>, position: u64)
-    ensures { duty.new ≡ record duty.old { device = record duty.old.device { watch = told duty.old.device.watch position } } }
+/// A cycle begins at each destination.
+fn begin<D: Datagrams>(duty: &mut Duty<Destinations<D>>, position: u64)
+    ensures { duty.new ≡ record duty.old { device = record duty.old.device { ways = map (begun position) duty.old.device.ways } } }
 {
-    duty.device_mut().believe(position);
+    begin_all(duty.device_mut().each_mut(), position);
 }
 
-/// Tells the device up to where the sender has sent, as a cycle begins.
-fn begin<D>(sender: &mut ChannelSender<'_, D>)
-    ensures told { sender.new.passes.duty.device.watch ≡ told sender.old.passes.duty.device.watch sender.old.agent.core.handler.at }
-    ensures inner { sender.new.passes.duty.device.inner ≡ sender.old.passes.duty.device.inner }
-    ensures agent { sender.new.agent ≡ sender.old.agent }
-    ensures peer { sender.new.peer ≡ sender.old.peer }
-    ensures passes { sender.new.passes ≡ record sender.old.passes { duty = record sender.old.passes.duty { device = sender.new.passes.duty.device } } }
+/// Sees what a cycle has shown of each destination, and tells what is new.
+fn see_all<D: Datagrams, E: Write>(
+    destinations: &mut [Destination<ChannelDevice<D>>],
+    errors: &mut E,
+    linger: u64,
+    now: u64,
+)
+    ensures { destinations.new ≡ map (seen_along linger now) destinations.old }
 {
-    let position = sender.agent.position();
-    believe(&mut sender.passes.duty, position);
+    for destination in destinations.iter_mut() {
+        let news = destination.see(linger, now);
+        tell_news(errors, destination, news);
+    }
 }
 
-/// Up to where the stream was sent, how many datagrams were sent again, and how many were passed over. What else comes and goes
-/// is no work: while nothing is published heartbeats and status messages go on, and the thread rests between them.
-fn work_of<D>(sender: &ChannelSender<'_, D>) -> (u64, u64, u64) {
-    let tally = sender.passes.duty.device().tally();
-    (sender.agent.position(), tally.resends, tally.passed)
+/// The same over what it sends with.
+fn see<D: Datagrams, E: Write>(
+    duty: &mut Duty<Destinations<D>>,
+    errors: &mut E,
+    linger: u64,
+    now: u64,
+)
+    ensures { duty.new ≡ record duty.old { device = record duty.old.device { ways = map (seen_along linger now) duty.old.device.ways } } }
+{
+    see_all(duty.device_mut().each_mut(), errors, linger, now);
+}
+
+/// How many datagrams were passed over, of all destinations, modulo 2^64.
+fn passed_along<D: Datagrams>(destinations: &[Destination<ChannelDevice<D>>]) -> u64 {
+    let mut passed: u64 = 0;
+    for destination in destinations.iter() {
+        passed = passed.wrapping_add(destination.device.tally().passed);
+    }
+    passed
+}
+
+/// Up to where the stream was sent, how many datagrams were sent again, to each destination the same, and how many were passed over.
+/// What else comes and goes is no work.
+fn work_of<D: Datagrams>(sender: &ChannelSender<'_, D>) -> (u64, u64, u64) {
+    let destinations = sender.passes.duty.device().each();
+    let resends = match destinations.first() {
+        None => 0,
+        Some(destination) => destination.device.tally().resends,
+    };
+    (sender.agent.position(), resends, passed_along(destinations))
 }
 
 /// A cycle of the conductor, with what a sender keeps the log by. Whether there was work.
@@ -97,10 +153,12 @@ fn run_cycle<R: Wait + Clock, D: Datagrams>(
     requires agent { SendsLog context.now.state.now.log sender.old.agent }
     requires passes { ArePasses context.now.state.now.log context.now.conductor.now sender.old.passes }
     ensures agent { SendsLog context.now.state.now.log sender.new.agent }
-    ensures lives { Lived sender.old.agent.core sender.new.agent.core }
-    ensures told { IfOk result (λ _. LivedTo now sender.old.agent.core sender.new.agent.core) }
+    ensures lives { StreamLived 0 sender.old.agent.core sender.new.agent.core }
     ensures peer { sender.new.peer ≡ sender.old.peer }
     ensures passes { ArePasses context.now.state.now.log context.now.conductor.now sender.new.passes }
+    ensures told { IfOk result (λ _. CyclesAt now sender.old.agent.core sender.new.agent.core) }
+    ensures lived { IfOk result (λ _. LivedAt now sender.old sender.new) }
+    ensures along { IfOk result (λ _. LivesAlong sender.old.passes.duty.device.ways sender.new.passes.duty.device.ways) }
     ensures keeps { IfOk result (λ busy. KeepsLog context.now.state.now.log sender.old.passes busy sender.new.passes) }
 {
     let before = work_of(sender);
@@ -114,27 +172,29 @@ fn run_cycle<R: Wait + Clock, D: Datagrams>(
     Ok(kept | moved)
 }
 
-/// A cycle, with the device told up to where the stream was sent. Whether there was work, and what it has shown.
-fn cycle<R: Wait + Clock, D: Datagrams>(
+/// A cycle, with each destination told up to where the stream was sent. Whether there was work.
+fn cycle<R: Wait + Clock, D: Datagrams, E: Write>(
     context: &PublisherContext<'_, R>,
     sender: &mut ChannelSender<'_, D>,
+    errors: &mut E,
     now: u64,
-) -> Result<(bool, Seen), PublishFault>
+) -> Result<bool, PublishFault>
     requires agent { SendsLog context.now.state.now.log sender.old.agent }
     requires passes { ArePasses context.now.state.now.log context.now.conductor.now sender.old.passes }
     ensures agent { SendsLog context.now.state.now.log sender.new.agent }
-    ensures lives { Lived sender.old.agent.core sender.new.agent.core }
-    ensures told { IfOk result (λ _. LivedTo now sender.old.agent.core sender.new.agent.core) }
+    ensures lives { StreamLived 0 sender.old.agent.core sender.new.agent.core }
     ensures peer { sender.new.peer ≡ sender.old.peer }
     ensures passes { ArePasses context.now.state.now.log context.now.conductor.now sender.new.passes }
-    ensures seen { IfOk result (λ r. r.1 ≡ seen_of (calls_of sender.old.passes.duty.device) sender.new.passes.duty.device) }
-    ensures keeps { IfOk result (λ r. KeepsLog context.now.state.now.log sender.old.passes r.0 sender.new.passes) }
+    ensures told { IfOk result (λ _. CyclesAt now sender.old.agent.core sender.new.agent.core) }
+    ensures lived { IfOk result (λ _. LivedAt now sender.old sender.new) }
+    ensures keeps { IfOk result (λ busy. KeepsLog context.now.state.now.log sender.old.passes busy sender.new.passes) }
+    ensures cycles { IfOk result (λ _. Cycles context.now.plan.now.linger now sender.old sender.new) }
 {
-    let before = calls_of(sender.passes.duty.device());
-    begin(sender);
+    let position = sender.agent.position();
+    begin(&mut sender.passes.duty, position);
     let busy = run_cycle(context, sender, now)?;
-    let cycle = look(before, sender.passes.duty.device());
-    Ok((busy, cycle))
+    see(&mut sender.passes.duty, errors, context.plan.linger, now);
+    Ok(busy)
 }
 
 /// Where the stream ends, if its input has ended and the publisher goes on.
@@ -147,54 +207,209 @@ pub fn end_unless_judged(judged: &Option<Judged>, reading: &Option<Reading>) -> 
     }
 }
 
-/// Tells the receivers where the stream ends, where the input has ended, all was sent, and it wasn't told for 100 ms.
+/// Tells the receivers at all destinations where the stream ends, where the input has ended, all was sent, and it wasn't told for
+/// 100 ms.
 fn tell_end_where_due<D: Datagrams>(
     sender: &mut ChannelSender<'_, D>,
     progress: &mut Progress,
     end: Option<u64>,
     now: u64,
 )
-    ensures told { TellsEnd (end_to_tell progress.old end sender.old.agent.core.handler.at now) sender.old.passes.duty.device.watch sender.new.passes.duty.device.watch }
+    ensures told { TellsWhereDue (end_to_tell progress.old end sender.old.agent.core.handler.at now) sender.old.passes.duty.device.ways sender.new.passes.duty.device.ways }
     ensures progress { progress.new ≡ with_end_told progress.old (end_to_tell progress.old end sender.old.agent.core.handler.at now) now }
     ensures agent { sender.new.agent ≡ sender.old.agent }
     ensures peer { sender.new.peer ≡ sender.old.peer }
     ensures passes { sender.new.passes ≡ record sender.old.passes { duty = record sender.old.passes.duty { device = sender.new.passes.duty.device } } }
 {
     if let Some(tail) = progress.end_to_tell(end, sender.agent.position(), now) {
-        sender.passes.duty.device_mut().tell_end(tail);
+        tell_all(&mut sender.passes.duty, tail);
     }
 }
 
-/// A cycle at this moment, judged. Whether there was work, and how the publisher ends, if it does.
-#[tactic(auto, using(crate::proofs::Told::keeps_still))]
-fn turn<R: Wait + Clock, D: Datagrams, E: Write>(
+/// Tells what is due. The answer is how the publisher ends, if it does, and how the reading had ended then.
+///
+/// The fault is `Device` where each call of each destination's device failed for the plan's linger, and the input's where no message
+/// was accepted before it: no other.
+#[tactic(auto, using(crate::proofs::Stopping::stopped, crate::proofs::Stopping::told))]
+fn judge<R, D: Datagrams, E: Write>(
     context: &PublisherContext<'_, R>,
-    sender: &mut ChannelSender<'_, D>,
+    destinations: &[Destination<ChannelDevice<D>>],
     progress: &mut Progress,
     errors: &mut E,
-) -> Result<(bool, Option<Judged>), PublishFault>
-    requires agent { SendsLog context.now.state.now.log sender.old.agent }
-    requires passes { ArePasses context.now.state.now.log context.now.conductor.now sender.old.passes }
-    ensures agent { SendsLog context.now.state.now.log sender.new.agent }
-    ensures lives { Lived sender.old.agent.core sender.new.agent.core }
-    ensures told { IfOk result (λ _. (now : ℕ) × LivedTo now sender.old.agent.core sender.new.agent.core) }
-    ensures peer { sender.new.peer ≡ sender.old.peer }
-    ensures passes { ArePasses context.now.state.now.log context.now.conductor.now sender.new.passes }
-    ensures turns { IfOk result (λ r. TurnsOne progress.old progress.new context.now.plan.now.linger context.now.plan.now.wait sender.old r.1 sender.new) }
-    ensures keeps { IfOk result (λ r. KeepsLog context.now.state.now.log sender.old.passes r.0 sender.new.passes) }
+    now: u64,
+) -> Result<Option<Judged>, PublishFault>
+    ensures judges { IfOk result (λ answer. Judges progress.new destinations.now context.now.plan.now.linger context.now.plan.now.wait answer) }
+    ensures told { IfOk result (λ answer. IfSome answer (HasToldWhy destinations.now)) }
+    ensures broken { IsTrue (list_all is_broken_along destinations.now) → result ≡ Err (Failed Device) }
+    ensures fails { IfErr result (FailsBy (list_all is_broken_along destinations.now)) }
 {
-    let now = context.began.moment(context.rt)?;
-    let (busy, seen) = cycle(context, sender, now)?;
-    let judged = judge(context, progress, &seen, sender.peer, errors, now)?;
-    let end = end_unless_judged(&judged, &context.state.reading());
-    tell_end_where_due(sender, progress, end, now);
-    Ok((busy, judged))
+    let (plan, state) = (context.plan, context.state);
+    let reading = state.reading();
+    let messages = messages_in(&reading, state.messages());
+    let tail = tail_in(&reading, state.tail());
+    if are_broken(destinations) {
+        return Err(PublishFault::Failed(DeviceError::Device));
+    }
+    check_reading(progress, &reading, messages, errors)?;
+    let end = end_in(&reading);
+    let ending = ending_along(destinations, end, plan.linger, plan.wait);
+    tell_counts(
+        context,
+        progress,
+        destinations,
+        errors,
+        now,
+        ending.is_some(),
+    );
+    let Some(ending) = ending else {
+        return Ok(None);
+    };
+    let told = tell_ending(errors, destinations, ending, end, plan.start, tail);
+    tell_all_done(
+        errors,
+        destinations,
+        messages,
+        tail.saturating_sub(plan.start),
+        now,
+    );
+    Ok(Some(Judged {
+        ending,
+        reading,
+        told,
+    }))
 }
 
-/// Sends and keeps until the publisher ends. The answer is how, by the receivers that its device has heard, and by how the
-/// reading had ended then. The fault is the input's where no message came before it, `Device` where the device or the clock
-/// failed.
-pub fn send_all<R: Wait + Clock, D: Datagrams, E: Write>(
+/// Whether somebody was heard there.
+fn is_heard<D>(destination: &Destination<ChannelDevice<D>>) -> bool
+    ensures { result ≡ is_heard_along destination.now }
+{
+    destination.device.attendance().present.is_some()
+}
+
+/// At how many destinations somebody was heard.
+fn count_heard<D>(destinations: &[Destination<ChannelDevice<D>>]) -> usize
+    ensures few { result ≤ length destinations.now }
+    ensures heard { result ≡ heard_count destinations.now }
+{
+    let mut count = 0;
+    for destination in destinations {
+        if is_heard(destination) {
+            count += 1;
+        }
+    }
+    count
+}
+
+/// Gives a destination this number for its id, if somebody was heard there; else one that is of no group, and that is told.
+fn number<D, E: Write>(
+    destination: &mut Destination<ChannelDevice<D>>,
+    errors: &mut E,
+    number: u64,
+    wait: u64,
+)
+    ensures kept { destination.new ≡ record destination.old { id = destination.new.id } }
+    ensures numbered { destination.new ≡ with_number number destination.old }
+{
+    if is_heard(destination) {
+        destination.id = Some(number.cast_signed());
+        return;
+    }
+    destination.id = Some(OUTSIDE);
+    let _ = tell_left_out(errors, destination.peer, wait / NANOSECONDS_PER_SECOND);
+}
+
+/// The number that comes behind this destination's.
+fn next_number<D>(destination: &Destination<ChannelDevice<D>>, next: u64) -> u64
+    ensures { result ≡ next_number next destination.now }
+{
+    if is_heard(destination) {
+        next.wrapping_add(1)
+    } else {
+        next
+    }
+}
+
+/// Numbers the destinations where somebody was heard from 0 on; the others are told.
+fn number_heard<D, E: Write>(
+    destinations: &mut [Destination<ChannelDevice<D>>],
+    errors: &mut E,
+    wait: u64,
+)
+    ensures kept { map unnumbered destinations.new ≡ map unnumbered destinations.old }
+    ensures numbered { destinations.new ≡ numbered_from 0 destinations.old }
+{
+    let mut next: u64 = 0;
+    for destination in destinations.iter_mut() {
+        let behind = next_number(destination, next);
+        number(destination, errors, next, wait);
+        next = behind;
+    }
+}
+
+/// Whether it begins now with those that were heard, at this position: it hasn't yet, the others weren't heard for as long as it
+/// waits, and these can be a group.
+fn begins_now(begun: bool, wait: u64, now: u64, heard: usize, position: u64) -> bool
+    ensures { result ≡ begins_now begun wait now heard position }
+{
+    !begun && wait <= now && 0 < heard && heard <= MOST_DESTINATIONS && position < MOST_POSITIONS
+}
+
+/// Whether it goes on with all: it doesn't begin now, or all were heard.
+fn keeps_all(begins: bool, heard: usize, all: usize) -> bool
+    ensures { result ≡ (not begins || nat_le all heard) }
+{
+    !begins || all <= heard
+}
+
+/// Whether it has begun by then.
+fn has_begun(begun: bool, begins: bool) -> bool
+    ensures { result ≡ (begun || begins) }
+{
+    begun || begins
+}
+
+/// Numbers the destinations of what it sends with where somebody was heard.
+fn number_all<D: Datagrams, E: Write>(duty: &mut Duty<Destinations<D>>, errors: &mut E, wait: u64)
+    ensures same { duty.new ≡ record duty.old { device = duty.new.device } }
+    ensures kept { map unnumbered duty.new.device.ways ≡ map unnumbered duty.old.device.ways }
+    ensures numbered { duty.new.device.ways ≡ numbered_from 0 duty.old.device.ways }
+{
+    number_heard(duty.device_mut().each_mut(), errors, wait);
+}
+
+/// Begins with those that were heard, once the others weren't for as long as the plan waits: these are told, and hold nobody up
+/// when they come. Nothing but SETUPs was sent before. Whether it has begun.
+fn begin_with_heard<D: Datagrams, E: Write>(
+    sender: &mut ChannelSender<'_, D>,
+    errors: &mut E,
+    begun: bool,
+    wait: u64,
+    now: u64,
+) -> bool
+    ensures agent { sender.new.agent ≡ with_flow sender.old.agent sender.new.agent.core.flow }
+    ensures peer { sender.new.peer ≡ sender.old.peer }
+    ensures passes { sender.new.passes ≡ record sender.old.passes { duty = record sender.old.passes.duty { device = sender.new.passes.duty.device } } }
+    ensures kept { map unnumbered sender.new.passes.duty.device.ways ≡ map unnumbered sender.old.passes.duty.device.ways }
+    ensures begins { Begins wait now begun sender.old result sender.new }
+{
+    let destinations = sender.passes.duty.device().each();
+    let (heard, all) = (count_heard(destinations), destinations.len());
+    let position = sender.agent.position();
+    let begins = begins_now(begun, wait, now, heard, position);
+    if keeps_all(begins, heard, all) {
+        return has_begun(begun, begins);
+    }
+    number_all(&mut sender.passes.duty, errors, wait);
+    sender
+        .agent
+        .set_flow(StreamFlow::new(position, Some(heard)));
+    true
+}
+
+/// Sends and keeps until the publisher ends. The answer is how, by the receivers that its destinations have heard, and by how the
+/// reading had ended then. However it ends, its core has lived on, and its log is kept.
+#[tactic(auto, using(crate::proofs::Begun::sends_still))]
+pub(crate) fn send_all<R: Wait + Clock, D: Datagrams, E: Write>(
     context: &PublisherContext<'_, R>,
     sender: &mut ChannelSender<'_, D>,
     errors: &mut E,
@@ -202,19 +417,26 @@ pub fn send_all<R: Wait + Clock, D: Datagrams, E: Write>(
     requires agent { SendsLog context.now.state.now.log sender.old.agent }
     requires passes { ArePasses context.now.state.now.log context.now.conductor.now sender.old.passes }
     ensures agent { SendsLog context.now.state.now.log sender.new.agent }
-    ensures lives { Lived sender.old.agent.core sender.new.agent.core }
-    ensures told { IfOk result (λ _. (now : ℕ) × LivedTo now sender.old.agent.core sender.new.agent.core) }
+    ensures lives { StreamLived (length sender.old.passes.duty.device.ways) sender.old.agent.core sender.new.agent.core }
     ensures peer { sender.new.peer ≡ sender.old.peer }
+    ensures told { IfOk result (λ _. LivedToLast sender.old sender.new) }
     ensures keeper { IsKept context.now.state.now.log sender.new.passes.keeper }
-    ensures ends { IfOk result (λ judged. EndsBehind sender.old sender.new context.now.plan.now.linger context.now.plan.now.wait judged) }
+    ensures ends { IfOk result (EndsBehind context.now.plan.now sender.old sender.new) }
 {
     let mut progress = Progress::new();
+    let mut begun = false;
     let mut idle = IdleStrategy::new();
     for _ in context.rt.forever() {
-        let (busy, judged) = turn(context, sender, &mut progress, errors)?;
+        let now = context.began.moment(context.rt)?;
+        let busy = cycle(context, sender, errors, now)?;
+        let destinations = sender.passes.duty.device().each();
+        let judged = judge(context, destinations, &mut progress, errors, now)?;
         if let Some(judged) = judged {
             return Ok(judged);
         }
+        begun = begin_with_heard(sender, errors, begun, context.plan.wait, now);
+        let end = end_unless_judged(&judged, &context.state.reading());
+        tell_end_where_due(sender, &mut progress, end, now);
         idle.after(context.rt, busy);
     }
     unreachable!()

@@ -3,8 +3,8 @@
 ghost use Rattle.std.specs.Prelude.{◌≡◌, ◌≢◌, IsTrue, OnOk, Some};
 ghost use Rattle.std.specs.Io.KnownBytes.{Appends};
 ghost use Rattle.frames.specs.FaultCounts.{uncounted};
-ghost use Rattle.publisher.specs.Texts.{alone_line, change_text, counters_line, empty_line, ending_text, fault_line, gave_up_line, gave_up_text, joined_text, left_text, refused_line, shortfall_of, stream_text, totals_line, totals_text, traffic_text, whole_text};
-ghost use Rattle.publisher.specs.Whys.{SaysElsewhere, SaysUnclosed, TellsWhy};
+ghost use Rattle.publisher.specs.Texts.{alone_line, change_text, counters_line, empty_line, fault_line, gave_up_line, gave_up_text, joined_text, left_text, refused_line, shortfall_of, stream_text, totals_line, totals_text, traffic_text, whole_text};
+ghost use Rattle.publisher.specs.Whys.{SaysElsewhere, SaysUnclosed};
 
 use crate::fault::PublishFault;
 use frames::FaultCounts;
@@ -239,28 +239,6 @@ pub fn tell_whole<E: Write>(errors: &mut E, start: u64, tail: u64) -> io::Result
         return tell_empty(errors);
     }
     Ok(())
-}
-
-/// How it ends: why it gave up on the subscriber there, if it did; else whether anything was published of a stream from
-/// `start` to `tail`. Whether the output took that, and the line that says why.
-pub(crate) fn tell_ending<E: Write>(
-    errors: &mut E,
-    ending: Ending,
-    peer: SocketAddr,
-    shortfall: Shortfall,
-    start: u64,
-    tail: u64,
-) -> (bool, Option<ToldShortfall>)
-    ensures line { IsTrue result.0 → Appends (E.contents errors.old) (E.contents errors.new) (ending_text ending peer shortfall start tail) }
-    ensures why { TellsWhy ending peer shortfall result.1 }
-{
-    match ending {
-        Ending::Whole => (tell_whole(errors, start, tail).is_ok(), None),
-        Ending::Short => {
-            let told = tell_why(errors, peer, shortfall);
-            (told.taken, Some(told))
-        }
-    }
 }
 
 /// Where it ends short and no line has said why, one does now: the input ended elsewhere than where the stream was taken to.

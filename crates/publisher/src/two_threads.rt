@@ -1,29 +1,33 @@
 //! The two threads of a publisher: one reads messages and offers them, the other sends, keeps the log and decides the end.
 
-ghost use Rattle.std.specs.Prelude.{◌≡◌, Err, IfOk, IfSome, Ok, true};
+ghost use Rattle.std.specs.Prelude.{◌≡◌, Err, IfOk, IfSome, Ok, length, map, true};
 ghost use Rattle.agents.specs.LogSenders.{SendsLog};
+ghost use Rattle.sender_meaning.specs.StreamLives.{StreamLived};
 ghost use Rattle.peer.specs.declared.ending.Ending.TheVariants.{Short, Whole};
-ghost use Rattle.sender_meaning.specs.Lives.{Lived};
-ghost use Rattle.offering.specs.Ended.{EndsInput};
-ghost use Rattle.publisher.specs.Ended.{AllArrived, reading_left};
-ghost use Rattle.publisher.specs.Farewells.{TellsFarewell, ending_in_all, ending_told, ending_unless_another, farewell_in, has_told_alone, has_told_no_other};
+ghost use Rattle.publisher.specs.Ended.{AllHaveArrived, reading_left};
+ghost use Rattle.publisher.specs.Endings.{heard_along};
+ghost use Rattle.publisher.specs.Farewells.{AreTold, TellsFarewell, are_told_alone, are_told_no_other, ending_told, ending_unless_another, ends_along, farewell_in, has_told_alone, has_told_no_other, noted, told_times};
+ghost use Rattle.publisher.specs.InputEnds.{EndsInput};
 ghost use Rattle.publisher.specs.Judging.{end_in, ended_by, fault_in, is_read};
 ghost use Rattle.publisher.specs.Openings.{ArePasses, IsKept};
 ghost use Rattle.publisher.specs.Turns.{SaysWhy};
 ghost use Rattle.publisher.specs.Whys.{told_by};
 
+use crate::destination::Destination;
+use crate::destination_lines::tell_each_refused;
 use crate::fault::PublishFault;
 use crate::judged::Judged;
 use crate::judging::{end_in, fault_in};
 use crate::looking::ChannelDevice;
+use crate::offering::{InputEnd, Reader, Reading, ReadingEnd};
 use crate::publisher_context::PublisherContext;
-use crate::sender_thread::{ChannelSender, send_all};
-use crate::telling::{ToldShortfall, tell_if_elsewhere, tell_refused};
+use crate::sender_thread::{ChannelSender, Destinations, send_all};
+use crate::telling::{ToldShortfall, tell_if_elsewhere};
 use agents::Duty;
 use endpoint::{Datagrams, DeviceError};
-use offering::{InputEnd, Reader, Reading, ReadingEnd};
 use peer::{Attendance, Ending, ToldEnds};
 use position::Geometry;
+use std::alloc::{AllocError, Global};
 use std::io::{BufRead, Write};
 use std::sync::Wait;
 use std::thread;
@@ -31,20 +35,20 @@ use std::thread::Threads;
 use std::time::{Clock, Duration};
 
 /// How many times the stream's end is told.
-pub const FAREWELLS: u32 = 5;
+const FAREWELLS: u32 = 5;
 
 /// Milliseconds from one time to the next.
-pub const FAREWELL_PAUSE: u64 = 20;
+const FAREWELL_PAUSE: u64 = 20;
 
-/// How a publisher ended: whom it had heard then, and where its reading had ended too, what is left of that.
+/// How a publisher ended: whom it had heard then at each destination, and where its reading had ended too, what is left of that.
 #[derive(Drop)]
 pub struct Published<I> {
     pub ending: Result<Ending, PublishFault>,
-    /// The line that said why it ended short, where it did.
+    /// The line that said why it ended short, where it did: the last one, where several destinations have one.
     pub told: Option<ToldShortfall>,
-    pub attendance: Attendance,
-    /// The ends of its stream that its device was given to tell.
-    pub ends: Option<ToldEnds>,
+    pub attendances: Vec<Attendance>,
+    /// The ends of its stream that the device of each destination was given to tell.
+    pub ends: Vec<Option<ToldEnds>>,
     pub input: Option<InputEnd<I>>,
 }
 
@@ -64,7 +68,7 @@ fn is_read(reading: &Option<Reading>, judged: &Option<Reading>) -> bool
 
 /// How a publisher ended, by how its reading did, if it has, and by what was sent. The reading goes first: a message that
 /// couldn't be read is a fault however the sending went.
-pub fn ended(
+fn ended(
     reading: &Option<Reading>,
     sent: Result<Judged, PublishFault>,
 ) -> Result<Ending, PublishFault>
@@ -85,7 +89,7 @@ pub fn ended(
 }
 
 /// What is left of the input, where its reading has ended. Its thread has nothing more to do then, and is joined.
-pub fn input_end<R: Threads, I: BufRead + Drop, C>(
+fn input_end<R: Threads, I: BufRead + Drop, C>(
     rt: &R,
     context: &PublisherContext<'_, C>,
     reader: Reader<I>,
@@ -100,7 +104,7 @@ pub fn input_end<R: Threads, I: BufRead + Drop, C>(
 
 /// Where the stream's end is told, if it is: where the reading has, unless it was stopped. One whose device, thread or clock
 /// failed tells none.
-pub fn farewell_in(reading: &Option<Reading>, ending: &Result<Ending, PublishFault>) -> Option<u64>
+fn farewell_in(reading: &Option<Reading>, ending: &Result<Ending, PublishFault>) -> Option<u64>
     ensures { result ≡ farewell_in reading.now ending.now }
 {
     match *ending {
@@ -110,23 +114,8 @@ pub fn farewell_in(reading: &Option<Reading>, ending: &Result<Ending, PublishFau
     }
 }
 
-/// Tells the receivers where the stream ends: five times, 20 ms apart.
-#[tactic(auto, using(crate::proofs::Told::told_again))]
-fn bid_farewell<R: Clock, D: Datagrams>(rt: &R, duty: &mut Duty<ChannelDevice<D>>, end: Option<u64>)
-    ensures { TellsFarewell end duty.old.device.watch duty.new.device.watch }
-{
-    let Some(tail) = end else {
-        return;
-    };
-    duty.device_mut().tell_end(tail);
-    for _count in 1..FAREWELLS {
-        let _ = thread::sleep(rt, Duration::from_millis(FAREWELL_PAUSE));
-        duty.device_mut().tell_end(tail);
-    }
-}
-
 /// Whether a device that told ends told this one alone. The stream's shape bounds it.
-pub fn has_told_alone(ends: Option<ToldEnds>, geometry: &Geometry, end: Option<u64>) -> bool
+fn has_told_alone(ends: Option<ToldEnds>, geometry: &Geometry, end: Option<u64>) -> bool
     ensures { result ≡ has_told_alone ends geometry.now end }
 {
     match (ends, end) {
@@ -139,14 +128,14 @@ pub fn has_told_alone(ends: Option<ToldEnds>, geometry: &Geometry, end: Option<u
 }
 
 /// Whether a device told no end but this one, if any. The stream's shape bounds it.
-pub fn has_told_no_other(ends: Option<ToldEnds>, geometry: &Geometry, end: Option<u64>) -> bool
+fn has_told_no_other(ends: Option<ToldEnds>, geometry: &Geometry, end: Option<u64>) -> bool
     ensures { result ≡ has_told_no_other ends geometry.now end }
 {
     ends.is_none() || has_told_alone(ends, geometry, end)
 }
 
 /// How it ended, by whether its device told no other end than the reading's: else that is a fault, whoever was told.
-pub fn ending_unless_another(
+fn ending_unless_another(
     ending: Result<Ending, PublishFault>,
     no_other: bool,
 ) -> Result<Ending, PublishFault>
@@ -159,7 +148,7 @@ pub fn ending_unless_another(
 }
 
 /// How it ended, by whether its device told the reading's end alone: whole only then.
-pub fn ending_told(
+fn ending_told(
     ending: Result<Ending, PublishFault>,
     told_alone: bool,
 ) -> Result<Ending, PublishFault>
@@ -173,7 +162,7 @@ pub fn ending_told(
 }
 
 /// How the reading ended that is left.
-pub fn reading_left<I>(input: &Option<InputEnd<I>>) -> Option<Reading>
+fn reading_left<I>(input: &Option<InputEnd<I>>) -> Option<Reading>
     ensures { result ≡ reading_left input.now }
 {
     match *input {
@@ -183,7 +172,7 @@ pub fn reading_left<I>(input: &Option<InputEnd<I>>) -> Option<Reading>
 }
 
 /// The line that was given as the sending was judged.
-pub fn told_of(sent: &Result<Judged, PublishFault>) -> Option<ToldShortfall>
+fn told_of(sent: &Result<Judged, PublishFault>) -> Option<ToldShortfall>
     ensures { result ≡ told_by sent.now }
 {
     match *sent {
@@ -192,62 +181,141 @@ pub fn told_of(sent: &Result<Judged, PublishFault>) -> Option<ToldShortfall>
     }
 }
 
-/// How it ended, by how its reading did and what was sent, and by the ends that its device told.
-pub fn ending_in_all(
-    ending: Result<Ending, PublishFault>,
-    ends: Option<ToldEnds>,
-    geometry: &Geometry,
-    end: Option<u64>,
-) -> Result<Ending, PublishFault>
-    ensures { result ≡ ending_in_all ending ends geometry.now end }
+/// Whom each destination has heard.
+fn attendances_of<D: Datagrams>(
+    alloc: Global,
+    destinations: &[Destination<ChannelDevice<D>>],
+) -> Result<Vec<Attendance>, AllocError>
+    ensures { IfOk result (λ all. all.items ≡ map heard_along destinations.now) }
 {
-    let told_alone = has_told_alone(ends, geometry, end);
-    let no_other = has_told_no_other(ends, geometry, end);
-    ending_unless_another(ending_told(ending, told_alone), no_other)
+    let mut all = Vec::new(alloc);
+    for destination in destinations {
+        all.push(destination.device.attendance())?;
+    }
+    Ok(all)
 }
 
-/// Sends until the publisher ends, and tells the stream's end, where the reading has one. Where the reading has ended by then,
-/// its thread is joined.
+/// The ends of the stream that the device of each destination was given to tell.
+fn ends_of<D: Datagrams>(
+    alloc: Global,
+    destinations: &[Destination<ChannelDevice<D>>],
+) -> Result<Vec<Option<ToldEnds>>, AllocError>
+    ensures { IfOk result (λ all. all.items ≡ map ends_along destinations.now) }
+{
+    let mut all = Vec::new(alloc);
+    for destination in destinations {
+        all.push(destination.device.ends())?;
+    }
+    Ok(all)
+}
+
+/// Whether each device told this end alone.
+fn are_told_alone(ends: &[Option<ToldEnds>], geometry: &Geometry, end: Option<u64>) -> bool
+    ensures { result ≡ are_told_alone geometry.now end ends.now }
+{
+    let mut all = true;
+    for told in ends {
+        all = all && has_told_alone(*told, geometry, end);
+    }
+    all
+}
+
+/// Whether no device told an end but this one.
+fn are_told_no_other(ends: &[Option<ToldEnds>], geometry: &Geometry, end: Option<u64>) -> bool
+    ensures { result ≡ are_told_no_other geometry.now end ends.now }
+{
+    let mut all = true;
+    for told in ends {
+        all = all && has_told_no_other(*told, geometry, end);
+    }
+    all
+}
+
+/// Tells the receiver along a destination where the stream ends.
+fn tell<D: Datagrams>(destination: &mut Destination<ChannelDevice<D>>, tail: u64)
+    ensures { noted destination.new ≡ told_times 1 tail (noted destination.old) }
+{
+    destination.device.tell_end(tail);
+}
+
+/// Tells the receivers along all destinations where the stream ends, whatever becomes of it along the others.
+pub(crate) fn tell_each<D: Datagrams>(destinations: &mut [Destination<ChannelDevice<D>>], tail: u64)
+    ensures { AreTold 1 tail destinations.old destinations.new }
+{
+    for destination in destinations.iter_mut() {
+        tell(destination, tail);
+    }
+}
+
+/// The same over what it sends with.
+pub(crate) fn tell_all<D: Datagrams>(duty: &mut Duty<Destinations<D>>, tail: u64)
+    ensures same { duty.new ≡ record duty.old { device = duty.new.device } }
+    ensures told { AreTold 1 tail duty.old.device.ways duty.new.device.ways }
+{
+    tell_each(duty.device_mut().each_mut(), tail);
+}
+
+/// Tells the receivers along all destinations where the stream ends: five times, 20 ms apart.
+fn bid_farewell<R: Clock, D: Datagrams>(rt: &R, duty: &mut Duty<Destinations<D>>, end: Option<u64>)
+    ensures { TellsFarewell end duty.old.device.ways duty.new.device.ways }
+{
+    let Some(tail) = end else {
+        return;
+    };
+    tell_all(duty, tail);
+    for _count in 1..FAREWELLS {
+        let _ = thread::sleep(rt, Duration::from_millis(FAREWELL_PAUSE));
+        tell_all(duty, tail);
+    }
+}
+
+/// Sends until the publisher ends, and tells the stream's end unless that is by a fault. Where the reading has ended by then, its
+/// thread is joined.
 pub(crate) fn run<R: Threads + Wait + Clock, I: BufRead + Drop, D: Datagrams, E: Write>(
+    alloc: Global,
     context: &PublisherContext<'_, R>,
     sender: &mut ChannelSender<'_, D>,
     reader: Reader<I>,
     errors: &mut E,
-) -> Published<I>
+) -> Result<Published<I>, PublishFault>
     requires agent { SendsLog context.now.state.now.log sender.old.agent }
     requires passes { ArePasses context.now.state.now.log context.now.conductor.now sender.old.passes }
     ensures agent { SendsLog context.now.state.now.log sender.new.agent }
-    ensures lives { Lived sender.old.agent.core sender.new.agent.core }
+    ensures lives { StreamLived (length sender.old.passes.duty.device.ways) sender.old.agent.core sender.new.agent.core }
     ensures keeper { IsKept context.now.state.now.log sender.new.passes.keeper }
-    ensures input { IfSome result.input (λ e. EndsInput reader.handle.promise.form reader.handle.promise.log.value (I.remaining reader.handle.promise.input.value) (I.remaining e.input) reader.handle.promise.publisher.value.pass e.publisher e.reading) }
-    ensures whole { result.ending ≡ Ok Whole → AllArrived (reading_left result.input) result.attendance }
+    ensures input { IfOk result (λ p. IfSome p.input (λ e. EndsInput reader.handle.promise.form reader.handle.promise.log.value (I.remaining reader.handle.promise.input.value) (I.remaining e.input) reader.handle.promise.publisher.value.pass e.publisher e.reading)) }
+    // Whom its devices have heard, and which ends they were given to tell.
+    ensures noted { IfOk result (λ p. (p.attendances.items ≡ map heard_along sender.new.passes.duty.device.ways) × (p.ends.items ≡ map ends_along sender.new.passes.duty.device.ways)) }
+    ensures whole { IfOk result (λ p. p.ending ≡ Ok Whole → AllHaveArrived context.now.plan.now sender.old (reading_left p.input) p.attendances.items p.ends.items) }
     // A message that couldn't be read is a fault, however the sending went.
-    ensures faulted { IfSome (fault_in (reading_left result.input)) (λ fault. result.ending ≡ Err fault) }
-    // Whom its device has heard, and which ends that was given to tell.
-    ensures noted { (result.attendance ≡ sender.new.passes.duty.device.watch.attendance) × (result.ends ≡ sender.new.passes.duty.device.watch.ends) }
-    ensures told { result.ending ≡ Ok Whole → has_told_alone result.ends context.now.plan.now.geometry (end_in (reading_left result.input)) ≡ true }
-    // Where it ends without a fault it has told no end but the reading's.
-    ensures no_other { IfOk result.ending (λ _. has_told_no_other result.ends context.now.plan.now.geometry (end_in (reading_left result.input)) ≡ true) }
+    ensures faulted { IfOk result (λ p. IfSome (fault_in (reading_left p.input)) (λ fault. p.ending ≡ Err fault)) }
+    ensures told { IfOk result (λ p. p.ending ≡ Ok Whole → are_told_alone context.now.plan.now.geometry (end_in (reading_left p.input)) p.ends.items ≡ true) }
+    // Where it ends without a fault no device has told an end but the reading's.
+    ensures no_other { IfOk result (λ p. IfOk p.ending (λ _. are_told_no_other context.now.plan.now.geometry (end_in (reading_left p.input)) p.ends.items ≡ true)) }
     // Where it ends short a line has said why.
-    ensures short { result.ending ≡ Ok Short → SaysWhy context.now.plan.now sender.old result.told }
+    ensures short { IfOk result (λ p. p.ending ≡ Ok Short → SaysWhy context.now.plan.now sender.old p.told) }
 {
     let sent = send_all(context, sender, errors);
-    let told = told_of(&sent);
+    let line = told_of(&sent);
     context.state.stop();
-    let _ = tell_refused(errors, sender.passes.duty.device().tally().refused);
+    tell_each_refused(errors, sender.passes.duty.device().each());
     let input = input_end(context.rt, context, reader);
     let reading = reading_left(&input);
     let ending = ended(&reading, sent);
     let end = farewell_in(&reading, &ending);
     bid_farewell(context.rt, &mut sender.passes.duty, end);
-    let device = sender.passes.duty.device();
-    let (attendance, ends) = (device.attendance(), device.ends());
-    let ending = ending_in_all(ending, ends, &context.plan.geometry, end_in(&reading));
-    Published {
-        told: tell_if_elsewhere(errors, sender.peer, told, &ending),
+    let destinations = sender.passes.duty.device().each();
+    let attendances = attendances_of(alloc, destinations)?;
+    let ends = ends_of(alloc, destinations)?;
+    let geometry = &context.plan.geometry;
+    let told_alone = are_told_alone(ends.as_slice(), geometry, end_in(&reading));
+    let no_other = are_told_no_other(ends.as_slice(), geometry, end_in(&reading));
+    let ending = ending_unless_another(ending_told(ending, told_alone), no_other);
+    Ok(Published {
+        told: tell_if_elsewhere(errors, sender.peer, line, &ending),
         ending,
-        attendance,
+        attendances,
         ends,
         input,
-    }
+    })
 }

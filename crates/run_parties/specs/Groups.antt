@@ -1,9 +1,5 @@
--- Which receivers are a group, and when a subscriber's end is all parties'.
-use Rattle.std.specs.Prelude.{ℕ, ℤ, pos, Bool, ◌||◌, not, nat_le, nat_lt, Option, None, Some, if◌then◌else◌}
-
--- those along two ways or more
-abbrev pub group_of : ℕ → Option ℕ
-group_of ways = if nat_lt 1 ways then Some ways else None
+-- The ids of receivers, and when a subscriber's end is all parties'.
+use Rattle.std.specs.Prelude.{ℕ, ℤ, pos, Bool, ◌||◌, not, nat_le, nat_lt, if◌then◌else◌}
 
 -- the id of the receiver with this number, of so many: in a group its number
 abbrev pub id_of : ℕ → ℕ → ℤ

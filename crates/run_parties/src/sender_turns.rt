@@ -7,7 +7,6 @@ ghost use Rattle.run_parties.specs.RunLogs.{IsRunLog};
 
 use crate::context::Context;
 use crate::gate::{Gate, Role};
-use crate::group::group_of;
 use agents::{Duty, IdleStrategy, StreamSender, open_stream_sender};
 use conductor::Client;
 use endpoint::{DeviceError, Ways};
@@ -32,7 +31,7 @@ fn send_once<R: Wait + Clock, D: Ways, G>(
 {
     let (rt, state) = (context.rt, context.state);
     let now = state.moment(rt)?;
-    let busy = agent.cycle_ways(rt, &state.conductor, client, duty, now)?;
+    let busy = agent.cycle(rt, &state.conductor, client, duty, now)?;
     state.tell_sent(duty.device().sent(), duty.device().resent());
     Ok(busy)
 }
@@ -75,8 +74,7 @@ fn send_log<R: Wait + Clock, D: Ways + Drop, G: Gate>(
 {
     let (alloc, log) = (context.alloc, &context.state.log);
     let geometry = log.identity().geometry();
-    let group = group_of(device.ways());
-    let mut agent = open_stream_sender(alloc, log, reader, group)?;
+    let mut agent = open_stream_sender(alloc, log, reader, device.ways())?;
     let device = Metered::new(device, geometry);
     let mut duty = Duty::new(alloc, device, geometry.mtu())?;
     send_on(context, &mut agent, client, &mut duty)

@@ -3,7 +3,6 @@ mod Honest
 mod Standing
 pub mod Living
 mod Both
-pub mod Cycles
 pub mod Moments
 pub mod StreamRows
 pub mod StreamLiving

@@ -1,4 +1,4 @@
--- What a sender's life gives out is honest for its stream.
+-- What a sender gives out at a datagram and at a moment is honest for its stream.
 use Rattle.std.proofs.Common.{◌≡◌, ◌∙◌, ℕ, ℤ, ◌%◌, ◌≤◌, Bool, true, List, [], ◌∷◌, ◌++◌, map, sym, ap, subst}
 use Rattle.std.specs.List.{AllByRecursion}
 use Rattle.theory.specs.Bytes.{Identity}
@@ -17,7 +17,7 @@ use Rattle.sender.specs.Cycling.{AsksSetup, GivesAgain, GivesNew, Misses, NewsCo
 use Rattle.sender.specs.Sending.{HearsNews, Sending, after_fresh, all_noted, at_moment}
 use Rattle.sender.specs.declared.sender_core.SenderAnswer.{SenderAnswer}
 use Rattle.receiver.specs.Lives.{IsHonest, IsStream, Stream}
-use Rattle.sender_meaning.specs.Lives.{Act, GivesHonest, Hears, IsSpelled, Lives, LogCore, SendsStream, Ticks, after_moment, given_in, limit_in, looked_in, source_in, stays_in, told_status, was_heard}
+use Rattle.sender_meaning.specs.Lives.{IsSpelled, SendsStream, source_in, stays_in}
 use Rattle.sender_meaning.proofs.Honest.{IsGiven, again_given, beat_given, fresh_given, honest_given, setup_given}
 use Rattle.sender_meaning.proofs.Standing.{stands_on}
 
@@ -84,28 +84,3 @@ pub hears : {F : Type 0} (after_status : F → ℤ → ℤ → ℤ → ℕ → F
     → duties.Hears source_in stays_in after_status reached has_heard s now bytes t given → AllByRecursion (IsHonest x) given × SendsStream x t
 hears {F} after_status reached has_heard law x is spelled s t now bytes given h m =
     by_news law after_status reached has_heard x is spelled (at_moment s now) t m.hears.hears.news m.hears.answer given (record { identity = h.identity; unit = h.unit; low = h.low }) m.hears.hears.hears
-
--- ---- a life
-
-known_on : (s t : LogCore) (acts : List Act) → Lives s acts t → Grows (source_in s.reads).frames (source_in t.reads).frames
-known_on s t [] e f a = subst (λ (z : LogCore). Among f (source_in z.reads).frames) (sym e) a
-known_on s t (Hears now bytes given ∷ acts) m f a = known_on m.0 t acts m.2 f (subst (λ (z : Source). Among f z.frames) (sym m.1.hears.same) a)
-known_on s t (Ticks now given ∷ acts) m f a = known_on m.0 t acts m.2 f (m.1.cycles.reads.grows f a)
-
-pub lives_honest : HasOneReading → (x : Stream) → IsStream x → IsSpelled x → (s t : LogCore) (acts : List Act) → SendsStream x s → Lives s acts t → AllAmong (committed x.entries) (source_in t.reads).frames → AllByRecursion (IsHonest x) (given_in acts) × SendsStream x t
-lives_honest law x is spelled s t [] h e known = (tt, subst (λ (z : LogCore). SendsStream x z) (sym e) h)
-lives_honest law x is spelled s t (Hears now bytes given ∷ acts) h m known =
-    let u = m.0 in
-    let step = hears told_status limit_in was_heard law x is spelled s u now bytes given h m.1 in
-    let rest = lives_honest law x is spelled u t acts step.1 m.2 known in
-    (all_append (IsHonest x) given (given_in acts) step.0 rest.0, rest.1)
-lives_honest law x is spelled s t (Ticks now given ∷ acts) h m known =
-    let u = m.0 in
-    let before : AllAmong (committed x.entries) (source_in u.reads).frames =
-    all_from (λ f. Among f (committed x.entries)) (source_in u.reads).frames (λ f a. all_at (λ g. Among g (committed x.entries)) f (source_in t.reads).frames known (known_on u t acts m.2 f a)) in
-    let step = ticks looked_in after_moment limit_in law x is spelled s u now given h m.1 before in
-    let rest = lives_honest law x is spelled u t acts step.1 m.2 known in
-    (all_append (IsHonest x) given (given_in acts) step.0 rest.0, rest.1)
-
-pub gives_honest : HasOneReading → GivesHonest
-gives_honest law x is spelled s t acts h lives known = lives_honest law x is spelled s t acts h lives known

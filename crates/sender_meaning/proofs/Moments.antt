@@ -7,7 +7,7 @@ use Rattle.endpoint.specs.declared.device_error.DeviceError.{DeviceError}
 use Rattle.flow_control.specs.declared.stream.StreamFlow.{StreamFlow}
 use Rattle.shared_log.specs.declared.reader.source.LogFrames.{LogFrames}
 use Rattle.agents.specs.Cycles.{HearsAll}
-use Rattle.agents.specs.Duties.{Agent, AgentWays}
+use Rattle.agents.specs.Duties.{Agent, AgentCycle}
 use Rattle.agents.specs.Rounds.{HearsWays}
 use Rattle.sender_meaning.specs.Moments.{CyclesAt, HearsThere, StreamCore, TicksThere}
 
@@ -23,7 +23,7 @@ ways_heard now device tells turned (suc way) any s t d e h =
     let below = ways_heard now device tells turned way h.0 s h.2 d h.3 h.4 in
     (below.0 ++ h.5.heard, below.1 ++ h.5.given, hears_on now s h.2 t below.0 h.5.heard below.1 h.5.given below.2 h.5.all_heard)
 
-pub ways_cycle : {D : Type 0} (now : ℕ) (device : D → Device) (tells : D → Type 0) (turned : D → ℕ → D) (ways : ℕ) (a b : Agent LogFrames StreamFlow) (c after : ClientSeen) (d e : D) (result : Result Bool DeviceError) → AgentWays HearsThere TicksThere now device tells turned ways a c d result b after e → IfOk result (λ _. CyclesAt now a.core b.core)
+pub ways_cycle : {D : Type 0} (now : ℕ) (device : D → Device) (tells : D → Type 0) (turned : D → ℕ → D) (ways : ℕ) (a b : Agent LogFrames StreamFlow) (c after : ClientSeen) (d e : D) (result : Result Bool DeviceError) → AgentCycle HearsThere TicksThere now device tells turned ways a c d result b after e → IfOk result (λ _. CyclesAt now a.core b.core)
 ways_cycle now device tells turned ways a b c after d e (Ok busy) h =
     let w = h.cycle in
     let heard = ways_heard now device tells turned ways w.any a.core w.middle d w.between w.heard in

@@ -19,13 +19,17 @@ gives = refl
 gives_nothing : given_in_all (Regroups 2 ∷ Regroups 1 ∷ []) ≡ []
 gives_nothing = refl
 
-regroups : (s : StreamCore) → StreamLives s (Regroups 2 ∷ []) (record s { flow = flow_after (Some 2) s.handler.at [] })
-regroups s = (record s { flow = flow_after (Some 2) s.handler.at [] }, refl, refl)
+regroups : (s : StreamCore) → StreamLives 3 s (Regroups 2 ∷ []) (record s { flow = flow_after (Some 2) s.handler.at [] })
+regroups s = (record s { flow = flow_after (Some 2) s.handler.at [] }, record { some = omega arith; fewer = omega arith; is = refl }, refl)
 
 -- it stands where it stood
-stands : (s t : StreamCore) → StreamLives s (Regroups 2 ∷ []) t → t.handler.at ≡ s.handler.at
-stands s t lives = subst (λ (z : StreamCore). z.handler.at ≡ s.handler.at) (sym lives.2) (ap (λ (z : StreamCore). z.handler.at) lives.1)
+stands : (n : ℕ) (s t : StreamCore) → StreamLives n s (Regroups 2 ∷ []) t → t.handler.at ≡ s.handler.at
+stands n s t lives = subst (λ (z : StreamCore). z.handler.at ≡ s.handler.at) (sym lives.2) (ap (λ (z : StreamCore). z.handler.at) lives.1.is)
 
 -- and can't have moved on
-moves : (s t : StreamCore) → StreamLives s (Regroups 2 ∷ []) t → t.handler.at ≡ suc s.handler.at → ⊥
-moves s t lives on = let same = stands s t lives in omega (arith, same, on)
+moves : (n : ℕ) (s t : StreamCore) → StreamLives n s (Regroups 2 ∷ []) t → t.handler.at ≡ suc s.handler.at → ⊥
+moves n s t lives on = let same = stands n s t lives in omega (arith, same, on)
+
+-- to two destinations it can't go on by a group of two
+as_many : (s t : StreamCore) → StreamLives 2 s (Regroups 2 ∷ []) t → ⊥
+as_many s t lives = let fewer = lives.1.fewer in omega (arith, fewer)

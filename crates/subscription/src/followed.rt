@@ -305,6 +305,10 @@ impl<D: Datagrams> Datagrams for Followed<D> {
 
     ghost tells = { λ f. D.tells f.inner };
 
+    ghost lives_still = { λ _. tt };
+
+    ghost lives_on = { λ _ _ _ _ _. tt };
+
     /// Hands a datagram to the inner device.
     fn send(&mut self, datagram: &[u8]) -> Result<(), DeviceFailed>
         ensures counts { NeverFall (D.device self.old.inner) (D.device self.new.inner) }

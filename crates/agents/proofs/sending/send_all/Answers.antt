@@ -29,4 +29,8 @@ loop-index-preserved g c =
       nones = e.sends.same_nones ∙ l.invariant.nones;
       sent = λ t. sent_one _ _ _ all l.index _ (l.invariant.sent t) found (ap (λ (d : Device). d.sent) (e.sends.sent (l.invariant.tells t)));
       tells = λ t. e.still_tells (l.invariant.tells t);
+      lives = g.met.D.Datagrams.lives_on _ _ _ l.invariant.lives e.lives;
     }
+
+pub returns-in_err-send-clause-lives : goal.returns-in_err-send-clause-lives
+returns-in_err-send-clause-lives g c = g.met.D.Datagrams.lives_on _ _ _ c.loop-index.invariant.lives c.in_err-send.ensures.lives

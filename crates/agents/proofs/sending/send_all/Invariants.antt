@@ -9,4 +9,5 @@ invariant-loop-index g l = record {
   nones : (g.D.Datagrams.device l.device).nones ≡ (g.D.Datagrams.device l.initial.device).nones;
   sent : g.D.Datagrams.tells l.initial.device → (g.D.Datagrams.device l.device).sent ≡ (g.D.Datagrams.device l.initial.device).sent ++ take l.index l.outbox.datagrams;
   tells : g.D.Datagrams.tells l.initial.device → g.D.Datagrams.tells l.device;
+  lives : g.D.Datagrams.lives l.initial.device l.device;
 }

@@ -10,6 +10,7 @@ loop-count-init g c = record {
   stands = c.requires.stands;
   size = (refl, refl);
   tells = λ t. t;
+  lives = g.met.D.Datagrams.lives_still _;
 }
 
 pub loop-count-preserved : goal.loop-count-preserved
@@ -22,6 +23,7 @@ loop-count-preserved g c =
       stands = e.stands;
       size = (e.size.0 ∙ l.size.0, e.size.1 ∙ l.size.1);
       tells = λ t. e.still_tells (l.tells t);
+      lives = g.met.D.Datagrams.lives_on _ _ _ l.lives e.lives;
     }
 
 pub returns-in_err-hear_next-clause-hears : goal.returns-in_err-hear_next-clause-hears

@@ -10,4 +10,5 @@ invariant-loop-count g l = record {
   stands : g.P.Party.stands l.party;
   size : (l.self.mtu ≡ l.initial.self.mtu) × (g.P.Party.mtu l.party ≡ g.P.Party.mtu l.initial.party);
   tells : g.D.Datagrams.tells l.initial.self.device → g.D.Datagrams.tells l.self.device;
+  lives : g.D.Datagrams.lives l.initial.self.device l.self.device;
 }

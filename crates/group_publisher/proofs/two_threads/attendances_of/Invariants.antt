@@ -1,6 +1,0 @@
-use Rattle.std.proofs.Common.{◌≡◌, map, take}
-use Rattle.group_publisher.specs.Endings.{heard_along}
-use Rattle.group_publisher.proofs.two_threads.attendances_of.Given as goal
-
-abbrev pub invariant-loop-way : goal.invariant-loop-way
-invariant-loop-way g l = l.all.items ≡ map heard_along (take l.way-index l.ways)

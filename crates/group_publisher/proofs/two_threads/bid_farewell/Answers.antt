@@ -1,5 +1,0 @@
-use Rattle.group_publisher.proofs.Given.{again}
-use Rattle.group_publisher.proofs.two_threads.bid_farewell.Goals as goal
-
-pub loop-count-preserved : goal.loop-count-preserved
-loop-count-preserved g c = again _ _ _ _ c.loop-count.invariant c.tell_all-in-loop-count.ensures.given

@@ -1,0 +1,77 @@
+-- What a cycle shows of a destination.
+use Rattle.std.specs.Prelude.{ℕ, ℤ, List, Bool, true, false, not, ◌&&◌, ◌||◌, nat_eq, nat_lt, is_some, Option, None, Some}
+use Rattle.std.specs.declared.net.SocketAddr.{SocketAddr}
+use Rattle.loss_injector.specs.Losing.{Losing}
+use Rattle.endpoint.specs.Fans.{AllLive}
+use Rattle.peer.specs.Attends.{Attends}
+use Rattle.peer.specs.Patience.{Patient, patient_device}
+use Rattle.peer.specs.Silences.{judged}
+use Rattle.peer.specs.Watching.{Watching, behind_of, told}
+use Rattle.peer.specs.declared.watch.Behind.{Behind}
+use Rattle.peer.specs.declared.attendance.Attendance.{Attendance}
+use Rattle.publisher.specs.Looking.{calls_of, seen_of}
+use Rattle.publisher.specs.Numbers.{GoesOn}
+use Rattle.publisher.specs.Progress.{is_alone, is_broken, seen, with_work}
+use Rattle.publisher.specs.declared.looking.Seen.{Seen}
+use Rattle.publisher.specs.declared.progress.Progress.{Progress}
+use Rattle.publisher.specs.declared.seeing.News.{News}
+use Rattle.publisher.specs.declared.destination.Destination.{Destination}
+
+-- one over a publisher's device
+abbrev pub ChannelDestination : Type 0 → Type 0
+ChannelDestination D = Destination (Watching (Losing (Patient D)))
+
+-- what names it in a line, where it is one of several
+abbrev pub label_by : Option ℤ → SocketAddr → Option SocketAddr
+label_by None peer = None
+label_by (Some id) peer = Some peer
+
+abbrev pub label_of : {D : Type 0} → Destination D → Option SocketAddr
+label_of w = label_by w.id w.peer
+
+-- each one's device has lived on by its calls, and all else of it stays
+abbrev pub LivesAlong : {D : Type 0} → List (ChannelDestination D) → List (ChannelDestination D) → Type 0
+LivesAlong {D} old new = AllLive (GoesOn (Attends {D = Losing (Patient D)} (λ l. patient_device l.inner.nones) (λ l. ⊥))) old new
+
+-- a cycle begins, with the stream sent up to here
+abbrev pub begun : {D : Type 0} → ℕ → ChannelDestination D → ChannelDestination D
+begun at w = record w { before = calls_of w.device; device = record w.device { watch = told w.device.watch at } }
+
+-- one that was heard is silent for five seconds and more; as before where that isn't judged
+abbrev pub is_quiet : Attendance → Option ℕ → Bool → Bool
+is_quiet a None before = before
+is_quiet a (Some silence) before = is_some a.present && nat_lt 5000000000 silence
+
+-- what the cycle has shown
+abbrev pub shown : {D : Type 0} → ChannelDestination D → Seen
+shown w = seen_of w.before w.device
+
+abbrev pub after_work : {D : Type 0} → ℕ → ChannelDestination D → Progress
+after_work now w = seen (with_work w.progress (shown w).worked now) (shown w) now
+
+abbrev pub progress_after : {D : Type 0} → ℕ → ChannelDestination D → Progress
+progress_after now w = record (after_work now w) { alone = (after_work now w).alone || is_alone (after_work now w) (shown w).attendance now }
+
+abbrev pub silence_after : {D : Type 0} → ℕ → ChannelDestination D → Option ℕ
+silence_after now w = judged (progress_after now w).statuses (shown w).at_rest now
+
+abbrev pub quiet_after : {D : Type 0} → ℕ → ChannelDestination D → Bool
+quiet_after now w = is_quiet (shown w).attendance (silence_after now w) w.quiet
+
+-- what was seen up to this moment
+abbrev pub seen_along : {D : Type 0} → ℕ → ℕ → ChannelDestination D → ChannelDestination D
+seen_along linger now w = record w { progress = progress_after now w; silence = silence_after now w; quiet = quiet_after now w; behind = is_some (behind_of w.device.watch); broken = is_broken w.progress (shown w).worked linger now }
+
+-- one that is left behind is news where it wasn't before
+abbrev pub behind_now : Option Behind → Bool → Option Behind
+behind_now behind true = None
+behind_now behind false = behind
+
+-- what is to be told of that
+abbrev pub news_along : {D : Type 0} → ℕ → ℕ → ChannelDestination D → News
+news_along linger now w = record {
+  changed = not (nat_eq (shown w).attendance.changes w.progress.changes);
+  alone = is_alone (after_work now w) (shown w).attendance now;
+  quiet = quiet_after now w && not w.quiet;
+  behind = behind_now (behind_of w.device.watch) w.behind;
+}
