@@ -11,7 +11,7 @@ use Rattle.receiver.specs.Receiving.{Opened, TakesDatagram, listening}
 use Rattle.receiver.specs.Lives as meant
 use Rattle.receiver.specs.Lives.{IsHonest, IsStream, PollsARun, Stream}
 use Rattle.sender_meaning.specs.Lives.{GivesHonest, IsSpelled, SetupsAreHonest, given_in}
-use Rattle.subscription.specs.Meetings.{id_of, window_in}
+use Rattle.subscriber.specs.Meetings.{id_of, window_in}
 use Rattle.subscriber.specs.Living.{AreLives, Life, WritesLives}
 use Rattle.channel_meaning.specs.Streams.{GivesRun, IsFromIt, PublishesItsStream, StandsFrom, WritesWhatIsRead, farewell, GoesThrough}
 use Rattle.channel_meaning.proofs.Runs.{run_in}

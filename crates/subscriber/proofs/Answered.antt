@@ -10,11 +10,11 @@ use Rattle.options.specs.declared.ends.plans.SubscribePlan.{SubscribePlan}
 use Rattle.receiver.specs.Lives.{Act, ActsSo, Hears, Lives, Ticks}
 use Rattle.receiver.specs.Subscribing.{Subscribing}
 use Rattle.peer.specs.Ties.{Offer}
-use Rattle.subscription.specs.Offers.{setup_taken}
-use Rattle.subscription.specs.Watches.{AttendsEach, IsWithinTurn, JudgesEach, Seen, looking}
-use Rattle.subscription.specs.declared.images.Images.{Images}
-use Rattle.subscription.specs.declared.joined.Joined.{Joined}
-use Rattle.subscription.specs.declared.meeting.Meeting.{Meeting}
+use Rattle.subscriber.specs.Offers.{setup_taken}
+use Rattle.subscriber.specs.Watches.{AttendsEach, IsWithinTurn, JudgesEach, Seen, looking}
+use Rattle.subscriber.specs.declared.images.Images.{Images}
+use Rattle.subscriber.specs.declared.images.joined.Joined.{Joined}
+use Rattle.subscriber.specs.declared.listening.meeting.Meeting.{Meeting}
 use Rattle.subscriber.proofs.Leaving.{heard_unpolled, listened}
 use Rattle.subscriber.proofs.Lived.{all_heard, follows_on, lives_on, same_life}
 use Rattle.subscriber.specs.Answering.{AnswersEnd, HasAnswered, IsTicked, TellsPlace, ahead_of}
@@ -22,7 +22,7 @@ use Rattle.subscriber.specs.Leavings.{ListensOn, LivesUnpolled}
 use Rattle.subscriber.specs.Living.{Follows, LivesOn, WritesActs}
 use Rattle.subscriber.specs.Losing.{JudgesTurn}
 use Rattle.subscriber.specs.Turning.{Attends, Considers, ConsidersOffer, Passes, Renews, Resumes, with_device}
-use Rattle.subscriber.specs.declared.standing.Stand.{Stand}
+use Rattle.subscriber.specs.declared.images.standing.Stand.{Stand}
 
 pub place_told : (moment now : ℕ) (tells : Type 0) (s : Subscribing) (d : Device) (busy : Bool) (t : Subscribing) (e : Device) → now ≡ ahead_of moment → Cycle ReceiverHears ReceiverTicks now tells s d busy t e → TellsPlace moment s t
 place_told moment now tells s d busy t e is c = record {

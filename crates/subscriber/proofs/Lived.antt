@@ -16,25 +16,25 @@ use Rattle.agents.specs.Cycles.{HearsAll}
 use Rattle.agents.specs.Parties.{ReceiverHears}
 use Rattle.receiver.specs.Subscribing.{Subscribing}
 use Rattle.receiver.specs.Lives.{Act, Gives, GivesNone, Hears, Lives, Ticks, given_in, heard_in}
-use Rattle.subscription.specs.Calls.{IsJoined, IsMeeting}
+use Rattle.subscriber.specs.Calls.{IsJoined, IsMeeting}
 use Rattle.subscriber.specs.Endings.{EndsSo}
 use Rattle.subscriber.specs.declared.ended.Ending.{Ending}
 use Rattle.subscriber.specs.declared.ended.Ending.TheVariants.{Lost, Short, Whole}
 use Rattle.subscriber.specs.Deliveries.{Delivers, PollsAll, PollsNone, WritesAndNotes, WritesFirst}
 use Rattle.subscriber.specs.Living.{AreLives, AreUnlost, Follows, IsLossFrom, IsLossTo, IsNumbered, Life, LosesNothing, LivesOn, WritesActs, WritesLife, WritesLives, given_through, missing_through}
 use Rattle.subscriber.specs.Turning.{Attends, Considers, ConsidersOffer, IsLoss, Passes, Renews, Replaces, Resumes, with_device}
-use Rattle.subscription.specs.Images.{has_lost, missing_with, next}
-use Rattle.subscription.specs.declared.images.Images.{Images}
-use Rattle.subscription.specs.declared.images.Loss.{Loss}
+use Rattle.subscriber.specs.Images.{has_lost, missing_with, next}
+use Rattle.subscriber.specs.declared.images.Images.{Images}
+use Rattle.subscriber.specs.declared.images.Loss.{Loss}
 use Rattle.peer.specs.Ties.{Offer}
-use Rattle.subscription.specs.Offers.{SubscriberDevice, setup_taken}
-use Rattle.subscription.proofs.Ends.{ends_on, greatest_end}
-use Rattle.subscription.specs.Followers.{HasNoted, IsGreatestEnd, NotesEnds}
-use Rattle.subscription.specs.declared.follower.Follower.{Follower}
-use Rattle.subscription.specs.Watches.{Seen}
-use Rattle.subscriber.specs.declared.delivery.Delivered.{Delivered}
-use Rattle.subscription.specs.declared.joined.Joined.{Joined}
-use Rattle.subscription.specs.declared.meeting.Meeting.{Meeting}
+use Rattle.subscriber.specs.Offers.{SubscriberDevice, setup_taken}
+use Rattle.subscriber.proofs.Ends.{ends_on, greatest_end}
+use Rattle.subscriber.specs.Followers.{HasNoted, IsGreatestEnd, NotesEnds}
+use Rattle.subscriber.specs.declared.images.follower.Follower.{Follower}
+use Rattle.subscriber.specs.Watches.{Seen}
+use Rattle.subscriber.specs.declared.images.delivery.Delivered.{Delivered}
+use Rattle.subscriber.specs.declared.images.joined.Joined.{Joined}
+use Rattle.subscriber.specs.declared.listening.meeting.Meeting.{Meeting}
 
 -- ---- lives one behind the other
 

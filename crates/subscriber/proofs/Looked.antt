@@ -7,12 +7,12 @@ use Rattle.messages.specs.declared.form.Form.{Form}
 use Rattle.options.specs.declared.ends.plans.SubscribePlan.{SubscribePlan}
 use Rattle.receiver.specs.Lives.{Act, given_in, heard_in}
 use Rattle.receiver.specs.Subscribing.{Subscribing}
-use Rattle.subscription.proofs.Ends.{ends_on}
-use Rattle.subscription.specs.Followers.{HasNoted, NotesEnds}
-use Rattle.subscription.specs.declared.follower.Follower.{Follower}
-use Rattle.subscription.specs.declared.images.Images.{Images}
-use Rattle.subscription.specs.declared.joined.Joined.{Joined}
-use Rattle.subscription.specs.Watches.{Seen}
+use Rattle.subscriber.proofs.Ends.{ends_on}
+use Rattle.subscriber.specs.Followers.{HasNoted, NotesEnds}
+use Rattle.subscriber.specs.declared.images.follower.Follower.{Follower}
+use Rattle.subscriber.specs.declared.images.Images.{Images}
+use Rattle.subscriber.specs.declared.images.joined.Joined.{Joined}
+use Rattle.subscriber.specs.Watches.{Seen}
 use Rattle.subscriber.proofs.Breaking.{acts_kept}
 use Rattle.subscriber.proofs.Leaving.{none_given}
 use Rattle.subscriber.proofs.Lived.{follows_on, given_on, heard_on, lives_on}

@@ -1,10 +1,10 @@
 -- When an image is newly taken for lost.
 use Rattle.std.proofs.Common.{◌≡◌, ◌≢◌, ◌⊎◌, ◌∙◌, ◌-◌, ℕ, Bool, true, false, if◌then◌else◌, IsTrue, inl, inr, refl, sym, ap, subst, arith}
 use Rattle.std.specs.Prelude.{nat_lt}
-use Rattle.subscription.specs.Losses.{IsLeft}
-use Rattle.subscription.specs.Places.{RebuiltTo, lacks}
-use Rattle.subscription.specs.Watches.{IsBehind, Seen, noting}
-use Rattle.subscription.specs.declared.joined.Joined.{Joined}
+use Rattle.subscriber.specs.Losses.{IsLeft}
+use Rattle.subscriber.specs.Places.{RebuiltTo, lacks}
+use Rattle.subscriber.specs.Watches.{IsBehind, Seen, noting}
+use Rattle.subscriber.specs.declared.images.joined.Joined.{Joined}
 use Rattle.subscriber.proofs.Looked.{same_or_not}
 use Rattle.subscriber.specs.Leavings.{NotesHeard}
 use Rattle.subscriber.specs.Losing.{LacksWhereLost}

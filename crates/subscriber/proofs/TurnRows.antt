@@ -1,8 +1,8 @@
 -- Rows: when an image gives way to a SETUP.
 use Rattle.std.proofs.Common.{◌≡◌, ◌⊎◌, ◌≤◌, ◌-◌, ℕ, IsTrue, inl, inr, refl, arith}
-use Rattle.subscription.specs.Watches.{IsBehind, IsSilent, Seen}
-use Rattle.subscription.specs.declared.joined.Joined.{Joined}
-use Rattle.subscription.specs.declared.meeting.Meeting.{Meeting}
+use Rattle.subscriber.specs.Watches.{IsBehind, IsSilent, Seen}
+use Rattle.subscriber.specs.declared.images.joined.Joined.{Joined}
+use Rattle.subscriber.specs.declared.listening.meeting.Meeting.{Meeting}
 use Rattle.subscriber.specs.Turning.{GivesWay, IsAgain, IsAhead, IsNext}
 
 -- of an ended session its own SETUP, from its own peer, however silent it is

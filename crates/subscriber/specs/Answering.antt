@@ -2,11 +2,11 @@
 use Rattle.std.specs.Prelude.{◌≡◌, ◌⊎◌, ◌≤◌, ◌+◌, ◌-◌, ◌^◌, ◌↔◌, ℕ, min, List, IsTrue}
 use Rattle.receiver.specs.Lives.{Act, ActsSo, Lives, Ticks}
 use Rattle.receiver.specs.Subscribing.{Subscribing}
-use Rattle.subscription.specs.Watches.{IsSilent, Seen}
-use Rattle.subscription.specs.declared.joined.Joined.{Joined}
+use Rattle.subscriber.specs.Watches.{IsSilent, Seen}
+use Rattle.subscriber.specs.declared.images.joined.Joined.{Joined}
 use Rattle.subscriber.specs.Leavings.{AreUnpolled, LivesUnpolled}
 use Rattle.subscriber.specs.Standing.{HasAll, Stands}
-use Rattle.subscriber.specs.declared.standing.Stand.{Stand}
+use Rattle.subscriber.specs.declared.images.standing.Stand.{Stand}
 
 -- a moment that is ahead by what passes at the most from one status message to the next, so that one is due at it
 abbrev pub ahead_of : ℕ → ℕ

@@ -1,8 +1,8 @@
 -- What a user reads of a fault.
 use Rattle.std.specs.Prelude.{ℕ, List, codes}
 use Rattle.endpoint.specs.Texts as devices
-use Rattle.subscriber.specs.declared.delivery.fault.DeliveryFault.{DeliveryFault}
-use Rattle.subscriber.specs.declared.delivery.fault.DeliveryFault.TheVariants.{Output, Message, Failed}
+use Rattle.subscriber.specs.declared.images.delivery.fault.DeliveryFault.{DeliveryFault}
+use Rattle.subscriber.specs.declared.images.delivery.fault.DeliveryFault.TheVariants.{Output, Message, Failed}
 
 abbrev pub text_of : DeliveryFault → List ℕ
 text_of (Output number) = codes "output"

@@ -7,13 +7,13 @@ use Rattle.messages.specs.declared.form.Form.{Form}
 use Rattle.options.specs.declared.ends.plans.SubscribePlan.{SubscribePlan}
 use Rattle.receiver.specs.Subscribing.{Subscribing}
 use Rattle.receiver.specs.Lives.{Act, Lives, given_in, heard_in}
-use Rattle.subscription.specs.Followers.{HasNoted, NotesEnds}
-use Rattle.subscription.specs.Meetings.{HasMet, Opens}
-use Rattle.subscription.specs.declared.follower.Follower.{Follower}
-use Rattle.subscription.specs.declared.opening.Opening.{Opening}
-use Rattle.subscription.specs.Images.{missing_with, next}
-use Rattle.subscription.specs.declared.images.Images.{Images}
-use Rattle.subscription.specs.declared.images.Loss.{Loss}
+use Rattle.subscriber.specs.Followers.{HasNoted, NotesEnds}
+use Rattle.subscriber.specs.Meetings.{HasMet, Opens}
+use Rattle.subscriber.specs.declared.images.follower.Follower.{Follower}
+use Rattle.subscriber.specs.declared.listening.opening.Opening.{Opening}
+use Rattle.subscriber.specs.Images.{missing_with, next}
+use Rattle.subscriber.specs.declared.images.Images.{Images}
+use Rattle.subscriber.specs.declared.images.Loss.{Loss}
 use Rattle.subscriber.specs.Standing.{StandsHere}
 
 -- it lived on, and wrote what its polls gave, and counted that

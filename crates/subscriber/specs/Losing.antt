@@ -5,13 +5,13 @@ use Rattle.frames.specs.Frames.{header_of}
 use Rattle.frames.specs.declared.frame.Header.{Header}
 use Rattle.options.specs.declared.ends.plans.SubscribePlan.{SubscribePlan}
 use Rattle.receiver.specs.Lives.{Act, Lives}
-use Rattle.subscription.specs.Images.{next}
-use Rattle.subscription.specs.Losses.{IsLeft, NotesKept, NotesLoss}
-use Rattle.subscription.specs.Meetings.{id_of}
-use Rattle.subscription.specs.Offers.{asked_by}
-use Rattle.subscription.specs.Places.{RebuiltTo, lacks}
-use Rattle.subscription.specs.Watches.{IsHearing, IsWithinTurn, Seen, judging}
-use Rattle.subscription.specs.declared.joined.Joined.{Joined}
+use Rattle.subscriber.specs.Images.{next}
+use Rattle.subscriber.specs.Losses.{IsLeft, NotesKept, NotesLoss}
+use Rattle.subscriber.specs.Meetings.{id_of}
+use Rattle.subscriber.specs.Offers.{asked_by}
+use Rattle.subscriber.specs.Places.{RebuiltTo, lacks}
+use Rattle.subscriber.specs.Watches.{IsHearing, IsWithinTurn, Seen, judging}
+use Rattle.subscriber.specs.declared.images.joined.Joined.{Joined}
 use Rattle.subscriber.specs.Answering.{IsTicked}
 use Rattle.subscriber.specs.Leavings.{ListensOn, NotesHeard, NotesWork}
 use Rattle.subscriber.specs.Turning.{with_device}

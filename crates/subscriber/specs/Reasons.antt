@@ -1,7 +1,7 @@
 -- Why a subscriber ends short.
 use Rattle.std.specs.Prelude.{◌≡◌}
-use Rattle.subscription.specs.declared.joined.Joined.{Joined}
-use Rattle.subscription.specs.declared.telling.Unfinished.{Unfinished}
+use Rattle.subscriber.specs.declared.images.joined.Joined.{Joined}
+use Rattle.subscriber.specs.declared.reporting.Unfinished.{Unfinished}
 use Rattle.subscriber.specs.Standing.{StandsHere}
 
 -- the session that its image is of, by its peer, where it stands, and the greatest end that was told

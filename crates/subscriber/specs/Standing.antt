@@ -2,8 +2,8 @@
 use Rattle.std.specs.Prelude.{◌≡◌, ◌≤◌, ℕ, Option, None, Some}
 use Rattle.receiver.specs.Receiving.{Receiver}
 use Rattle.receiver.specs.Subscribing.{RepresentsSubscriber, Subscribing}
-use Rattle.subscription.specs.Places.{RebuiltTo, StandsAt}
-use Rattle.subscriber.specs.declared.standing.Stand.{Stand}
+use Rattle.subscriber.specs.Places.{RebuiltTo, StandsAt}
+use Rattle.subscriber.specs.declared.images.standing.Stand.{Stand}
 
 -- its consumer stands here
 abbrev pub StandsHere : Subscribing → ℕ → Type 0

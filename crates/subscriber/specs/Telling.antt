@@ -5,11 +5,11 @@ use Rattle.receiver.specs.Polling.{TellsPositions}
 use Rattle.receiver.specs.Receiving.{Receiver}
 use Rattle.receiver.specs.Subscribing.{RepresentsSubscriber}
 use Rattle.receiver.specs.declared.positions.Positions.{Positions}
-use Rattle.subscription.specs.Texts.{counters_line}
-use Rattle.subscription.specs.Watches.{Seen}
-use Rattle.subscription.specs.declared.joined.Joined.{Joined}
-use Rattle.subscription.specs.declared.telling.Counts.{Counts}
-use Rattle.subscription.specs.declared.telling.Totals.{Totals}
+use Rattle.subscriber.specs.Texts.{counters_line}
+use Rattle.subscriber.specs.Watches.{Seen}
+use Rattle.subscriber.specs.declared.images.joined.Joined.{Joined}
+use Rattle.subscriber.specs.declared.reporting.Counts.{Counts}
+use Rattle.subscriber.specs.declared.reporting.Totals.{Totals}
 use Rattle.subscriber.specs.Standing.{StandsHere}
 
 -- what it has counted behind so many messages, of which so many are new; in all where it has counted before an image and with one

@@ -11,23 +11,23 @@ use Rattle.std.specs.declared.net.SocketAddr.{SocketAddr}
 use Rattle.frames.specs.Frames.{setup_of}
 use Rattle.frames.specs.declared.frame.Setup.{Setup}
 use Rattle.options.specs.declared.ends.plans.SubscribePlan.{SubscribePlan}
-use Rattle.subscription.specs.Followers.{IsFresh}
-use Rattle.subscription.specs.Hearings.{turned_to}
-use Rattle.subscription.specs.Meetings.{HasMet, OpensNothing}
-use Rattle.subscription.specs.Calls.{IsMeeting}
+use Rattle.subscriber.specs.Followers.{IsFresh}
+use Rattle.subscriber.specs.Hearings.{turned_to}
+use Rattle.subscriber.specs.Meetings.{HasMet, OpensNothing}
+use Rattle.subscriber.specs.Calls.{IsMeeting}
 use Rattle.peer.specs.Ties.{Offer}
-use Rattle.subscription.specs.Offers.{IsOffered, SubscriberDevice, setup_taken, tied_anew}
-use Rattle.subscription.specs.Unheards.{IsUnnamed}
-use Rattle.subscription.specs.Watches.{IsBehind, IsSilent, Seen, attending, hearing, keeping}
-use Rattle.subscription.specs.Images.{loss_between, next, next_images}
-use Rattle.subscription.specs.Losses.{IsLeft}
-use Rattle.subscription.specs.Places.{RebuiltTo}
-use Rattle.subscription.specs.Texts.{missing_line}
-use Rattle.subscription.specs.declared.images.Loss.{Loss}
+use Rattle.subscriber.specs.Offers.{IsOffered, SubscriberDevice, setup_taken, tied_anew}
+use Rattle.subscriber.specs.Unheards.{IsUnnamed}
+use Rattle.subscriber.specs.Watches.{IsBehind, IsSilent, Seen, attending, hearing, keeping}
+use Rattle.subscriber.specs.Images.{loss_between, next, next_images}
+use Rattle.subscriber.specs.Losses.{IsLeft}
+use Rattle.subscriber.specs.Places.{RebuiltTo}
+use Rattle.subscriber.specs.Texts.{missing_line}
+use Rattle.subscriber.specs.declared.images.Loss.{Loss}
 use Rattle.subscriber.specs.Standing.{StandsHere}
-use Rattle.subscription.specs.declared.joined.Joined.{Joined}
-use Rattle.subscription.specs.declared.opening.Opening.{Opening}
-use Rattle.subscription.specs.declared.meeting.Meeting.{Meeting}
+use Rattle.subscriber.specs.declared.images.joined.Joined.{Joined}
+use Rattle.subscriber.specs.declared.listening.opening.Opening.{Opening}
+use Rattle.subscriber.specs.declared.listening.meeting.Meeting.{Meeting}
 
 -- it is the session's own SETUP: the same session and shape, and not behind what was rebuilt
 pub record GoesOn (was : Opening) (rebuilt : ℕ) (o : Opening) : Type 0 where

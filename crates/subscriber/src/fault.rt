@@ -1,9 +1,9 @@
 ghost use Rattle.std.specs.Prelude.{◌≡◌, Some};
-ghost use Rattle.subscriber.specs.Texts.{number_of, of_delivery, text_of};
+ghost use Rattle.subscriber.specs.FaultTexts.{number_of, of_delivery, text_of};
 ghost use Rattle.endpoint.specs.declared.device_error.DeviceError.TheVariants.{Device, Memory};
 ghost use Rattle.subscriber.specs.declared.fault.SubscribeFault.TheVariants.{Failed};
 
-use crate::delivery::fault::DeliveryFault;
+use crate::images::delivery::fault::DeliveryFault;
 use endpoint::{DeviceError, DeviceFailed};
 use std::alloc::AllocError;
 use std::error::Error;

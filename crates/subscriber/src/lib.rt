@@ -2,7 +2,7 @@
 //! soon as it is polled, and only then hears and answers, so that a status message never tells of a message that
 //! isn't written. While the output blocks a second thread sends the last status message again, which tells nothing
 //! new; the first one tells it what was sent by a slot that keeps the newest (`StatusRepeater`). What
-//! opens an image, what is heard, and the time that passes are `subscription`'s.
+//! opens an image is in `listening`, what is heard of its session in `images`, and the time that passes in `watch`.
 //!
 //! A stream has ended where an end was told that isn't below what is rebuilt, and the consumer stands there: all is written then.
 //! That is noted, and told, in the cycle in which it is so, and at once a status message is due (`answer_end`, by
@@ -42,22 +42,44 @@
 //! Where it ends by a fault, such a writer has grown by what the polls gave, image by image, but for the last message at
 //! most, of which a part may be written. All that the newest image gave before its last tick is written whole, and all
 //! that older ones gave: no status message has told of a message that isn't written (`BreaksLives`).
+//!
+//! What a datagram tells is exact (`setup_in`, `header_in`), and so is which SETUP opens an image for a plan, and which
+//! (`opening_of`): one of the plan's stream, and of its session if it names one, whose terms are no longer than it takes, and
+//! which tells no end of its stream (`Opens`). The image with a number, from 0, has the plan's receiver id and that number for
+//! its id (`id_of`), and the subscriber that is opened has met that SETUP (`opened`). Its window is one that the rules allow,
+//! and that the socket's buffer is sure to hold (`window_of`).
+//!
+//! The greatest end that was told of a session is the greatest of the datagrams that its subscriber was handed (`Follower`,
+//! `greatest_ends`). A device that follows a session counts the datagrams that begin with a frame of it, and keeps the last
+//! SETUP, exactly; it notes the last status message that it is given to send, whether that is taken or
+//! not, and what it was given for another session or another peer it forgets (`Followed`). Only such a device makes a
+//! `SentStatus`, so whoever has one knows that the device was given it. The last one that it was told is sent again by a
+//! `StatusRepeater`, which has the socket, where 300 ms have gone by without a newer one, byte for byte and to the same
+//! peer, and nothing else ever is (`repeats_the_last`): while the output blocks, the publisher goes on hearing its
+//! subscriber. Whoever gives its turns may keep news from it.
+//!
+//! Without an image a datagram is a SETUP that opens one, a frame whose sender is asked for a SETUP, or a stranger's, exactly;
+//! for each such frame its sender is asked once, with the frame's place, and nobody else is. Until a SETUP opens the first image
+//! nothing else happens (`listen`). When a subscriber is silent, quiet, behind or broken is
+//! exact (`Watch`), and so is each line that it tells (`Texts`). Something is lacking where the last frame that was heard begins
+//! above what is rebuilt (`Joined::lacks`); where that was noted in a turn (`Joined::note_kept`), it counts that it is judged then
+//! whether the image is lost (`Joined::judge`). What is missing behind a lost image is counted (`Images`).
 #![tactic(auto)]
 
-mod answering;
-mod delivery;
 mod ended;
 mod fault;
-mod following;
-mod losing;
+mod images;
+mod listening;
 mod repeating;
-mod standing;
+mod reporting;
 mod subscribing;
-mod turning;
+mod watch;
 
-pub use delivery::Delivered;
 pub use ended::{Ending, Subscribed};
 pub use fault::SubscribeFault;
-pub use losing::lacks_where_lost;
-pub use standing::Stand;
+pub use images::delivery::Delivered;
+pub use images::follower::greatest_ends;
+pub use images::losing::lacks_where_lost;
+pub use images::standing::Stand;
+pub use repeating::repeater::repeats_the_last;
 pub use subscribing::subscribe;

@@ -3,7 +3,11 @@
 ghost use Rattle.std.specs.Prelude.{◌≤◌, IfErr};
 ghost use Rattle.subscriber.specs.Leavings.{IsStartFault};
 
+pub(crate) mod repeater;
+
 use crate::fault::SubscribeFault;
+use crate::images::followed::News;
+use crate::repeating::repeater::StatusRepeater;
 use agents::Began;
 use crossbeam_queue::ArrayQueue;
 use endpoint::DeviceError;
@@ -12,7 +16,6 @@ use std::sync::{Arc, Wait};
 use std::thread;
 use std::thread::{JoinHandle, Threads};
 use std::time::{Clock, Duration};
-use subscription::{News, StatusRepeater};
 
 /// Milliseconds from one look to the next.
 const PAUSE: u64 = 100;

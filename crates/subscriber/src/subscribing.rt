@@ -9,15 +9,23 @@ ghost use Rattle.subscriber.specs.Endings.{EndsWithImage, HasEnded};
 ghost use Rattle.subscriber.specs.Leavings.{of_bind};
 ghost use Rattle.subscriber.specs.Reasons.{IsUnfinished, TellsUnfinished};
 ghost use Rattle.subscriber.specs.Telling.{AreTotals};
-ghost use Rattle.subscription.specs.Texts.{nobody_line, not_whole_line, unfinished_line};
+ghost use Rattle.subscriber.specs.Texts.{nobody_line, not_whole_line, unfinished_line};
 ghost use Rattle.subscriber.specs.Living.{Follows, WritesLife, WritesLives};
 ghost use Rattle.subscriber.specs.Writings.{Writes};
 ghost use Rattle.subscriber.specs.declared.ended.Ending.TheVariants.{Lost, Short, Whole};
 
 use crate::ended::{Ending, Subscribed};
 use crate::fault::SubscribeFault;
-use crate::following::{follow, leave, quiet_ending, strangers, tell_last};
+use crate::images::following::{follow, leave, quiet_ending, strangers, tell_last};
+use crate::images::joined::{Joined, tied_of};
+use crate::listening::listen;
+use crate::repeating::repeater::StatusRepeater;
 use crate::repeating::{Repeating, Slot};
+use crate::reporting::{
+    Totals, Unfinished, tell_joined, tell_nobody, tell_not_whole, tell_refused, tell_totals,
+    tell_unfinished,
+};
+use crate::watch::Watch;
 use agents::REPLY;
 use endpoint::{Binding, DeviceError};
 use frames::FaultCounts;
@@ -30,10 +38,6 @@ use std::net::{Net, SocketAddr};
 use std::sync::Wait;
 use std::thread::Threads;
 use std::time::{Clock, Instant};
-use subscription::{
-    Joined, StatusRepeater, Totals, Unfinished, Watch, listen, tell_joined, tell_nobody,
-    tell_not_whole, tell_refused, tell_totals, tell_unfinished, tied_of,
-};
 use text::Pace;
 
 /// Why there is no listener at this address.

@@ -2,7 +2,7 @@ use Rattle.std.proofs.Common.{subst, sym}
 use Rattle.std.proofs.lemmas.Result.{err_from_is_err_and}
 use Rattle.subscriber.proofs.Leaving.{left_life}
 use Rattle.subscriber.proofs.Lived.{told_end, whole_unlost}
-use Rattle.subscription.specs.declared.images.Images.{Images}
+use Rattle.subscriber.specs.declared.images.Images.{Images}
 use Rattle.subscriber.specs.Living.{WritesLife}
 use Rattle.subscriber.proofs.subscribing.follow_all.Goals as goal
 

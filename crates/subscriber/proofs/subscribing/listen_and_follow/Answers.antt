@@ -1,6 +1,6 @@
 use Rattle.std.proofs.Common.{inr, subst}
 use Rattle.std.specs.Prelude.{IfSome}
-use Rattle.subscription.specs.Calls.{IsJoined}
+use Rattle.subscriber.specs.Calls.{IsJoined}
 use Rattle.std.proofs.lemmas.Result.{IfOk-weaker, on_err_weaker}
 use Rattle.subscriber.proofs.Breaking.{before_image, life_lost}
 use Rattle.subscriber.proofs.Lived.{joined_life}
