@@ -15,9 +15,9 @@ use Rattle.subscriber.specs.declared.images.Images.{Images}
 use Rattle.subscriber.specs.Breaking.{BreaksActs, BreaksLife, BreaksLives, StopsAt, WritesTold, is_ticked, told_in}
 use Rattle.subscriber.specs.Deliveries.{BreaksOff, Ends, FailsBehind, Stops}
 use Rattle.subscriber.specs.Living.{IsLossFrom, IsNumbered, Life, WritesLife, given_through}
-use Rattle.subscriber.specs.declared.images.delivery.fault.DeliveryFault.{DeliveryFault}
-use Rattle.subscriber.specs.declared.images.delivery.fault.DeliveryFault.TheVariants as faults
-use Rattle.subscriber.specs.declared.ended.Subscribed.{Subscribed}
+use Rattle.subscriber.specs.declared.images.delivery.DeliveryFault.{DeliveryFault}
+use Rattle.subscriber.specs.declared.images.delivery.DeliveryFault.TheVariants as faults
+use Rattle.subscriber.specs.declared.ending.Subscribed.{Subscribed}
 use Rattle.subscriber.specs.declared.fault.SubscribeFault.{SubscribeFault}
 
 -- ---- a cycle

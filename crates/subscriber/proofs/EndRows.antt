@@ -5,8 +5,8 @@ use Rattle.subscriber.specs.Answering.{ahead_of}
 use Rattle.subscriber.specs.Watches.{Seen}
 use Rattle.subscriber.specs.Leavings.{HasEnough, IsEnding, IsQuietEnding}
 use Rattle.subscriber.specs.Standing.{HasAll, HasAllUpTo}
-use Rattle.subscriber.specs.declared.ended.Ending.TheVariants.{Whole, Short, Lost}
-use Rattle.subscriber.specs.declared.images.standing.Stand.{Stand}
+use Rattle.subscriber.specs.declared.ending.Ending.TheVariants.{Whole, Short, Lost}
+use Rattle.subscriber.specs.declared.images.session.Stand.{Stand}
 
 -- an end at which both stand
 all_there : HasAllUpTo (Some 96) 96 96

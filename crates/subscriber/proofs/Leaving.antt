@@ -26,7 +26,7 @@ use Rattle.subscriber.specs.declared.images.follower.Follower.{Follower}
 use Rattle.subscriber.specs.declared.images.Images.{Images}
 use Rattle.subscriber.specs.Leavings.{AreUnpolled, KeepsConsumers, ListensOn, LivesUnpolled, StandsStill}
 use Rattle.subscriber.specs.Living.{Follows, WritesActs, WritesLife, WritesLives}
-use Rattle.subscriber.specs.declared.ended.Subscribed.{Subscribed}
+use Rattle.subscriber.specs.declared.ending.Subscribed.{Subscribed}
 use Rattle.subscriber.specs.declared.fault.SubscribeFault.{SubscribeFault}
 
 -- ---- consumers that nobody moves

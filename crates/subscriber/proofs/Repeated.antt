@@ -2,7 +2,7 @@
 use Rattle.std.proofs.Common.{◌≡◌, Option, None, Some, subst, arith}
 use Rattle.subscriber.specs.Repeats.{Repeating, Steps, holding}
 use Rattle.subscriber.specs.Statuses.{Sent}
-use Rattle.subscriber.specs.declared.images.followed.News.TheVariants as news
+use Rattle.subscriber.specs.declared.images.session_device.StatusNews.TheVariants as news
 
 -- 299,999,999 ns later it sends nothing
 waits : (s : Sent) (sent : Option Sent) (t : Repeating) → Steps 299999999 None (holding s 0) sent t → sent ≡ None

@@ -3,8 +3,8 @@ use Rattle.std.proofs.Common.{◌≡◌, ◌∙◌, ◌-◌, ◌≤◌, ◌<◌,
 use Rattle.std.proofs.lemmas.Bool.{cases_lt}
 use Rattle.subscriber.specs.Repeats.{IsDue, Repeating, Repeats, RepeatsTheLast, Runs, Steps, Turn, holding_none, last_told, told_by}
 use Rattle.subscriber.specs.Statuses.{Sent}
-use Rattle.subscriber.specs.declared.images.followed.News.{News}
-use Rattle.subscriber.specs.declared.images.followed.News.TheVariants as news
+use Rattle.subscriber.specs.declared.images.session_device.StatusNews.{StatusNews}
+use Rattle.subscriber.specs.declared.images.session_device.StatusNews.TheVariants as news
 use Rattle.subscriber.specs.declared.repeating.repeater.Held.{Held}
 
 -- the message that is to be repeated
@@ -27,7 +27,7 @@ kept now (Some h) sent t step =
     (λ (early : ¬ IsDue now h). ap (λ (r : Repeating). held_in r.held) (step.early early).1)
     (due_or_early now h)
 
-told : (now : ℕ) (n : Option News) (r : Repeating) (sent : Option Sent) (t : Repeating) → Steps now n r sent t → held_in t.held ≡ told_by (held_in r.held) n
+told : (now : ℕ) (n : Option StatusNews) (r : Repeating) (sent : Option Sent) (t : Repeating) → Steps now n r sent t → held_in t.held ≡ told_by (held_in r.held) n
 told now None r sent t step = kept now r.held sent t step
 told now (Some (news.Sent s)) r sent t step = ap (λ (r : Repeating). held_in r.held) step.1
 told now (Some news.Cleared) r sent t step = ap (λ (r : Repeating). held_in r.held) step.1
@@ -45,7 +45,7 @@ was_held now (Some h) sent t s step is =
     (λ (early : ¬ IsDue now h). absurd (is_none s sent (step.early early).0 is))
     (due_or_early now h)
 
-was_told : (now : ℕ) (n : Option News) (r : Repeating) (sent : Option Sent) (t : Repeating) (s : Sent) → Steps now n r sent t → sent ≡ Some s → (held_in r.held ≡ Some s) × (n ≡ None)
+was_told : (now : ℕ) (n : Option StatusNews) (r : Repeating) (sent : Option Sent) (t : Repeating) (s : Sent) → Steps now n r sent t → sent ≡ Some s → (held_in r.held ≡ Some s) × (n ≡ None)
 was_told now None r sent t s step is = (was_held now r.held sent t s step is, refl)
 was_told now (Some (news.Sent n)) r sent t s step is = absurd (is_none s sent step.0 is)
 was_told now (Some news.Cleared) r sent t s step is = absurd (is_none s sent step.0 is)

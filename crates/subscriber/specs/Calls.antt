@@ -15,13 +15,13 @@ use Rattle.subscriber.specs.Images.{first_image}
 use Rattle.subscriber.specs.Hearings.{following}
 use Rattle.subscriber.specs.Meetings.{HasMet, Opens, OpensNothing, TakesSession, TellsHeader, id_of}
 use Rattle.subscriber.specs.Watches.{Seen, called, hearing, with_stranger}
-use Rattle.subscriber.specs.declared.images.joined.Joined.{Joined}
+use Rattle.subscriber.specs.declared.images.session.Session.{Session}
 use Rattle.subscriber.specs.declared.listening.Call.{Call}
-use Rattle.subscriber.specs.declared.listening.Call.TheVariants.{Opens as Opening, Asks, Stranger}
-use Rattle.subscriber.specs.declared.listening.meeting.Meeting.{Meeting}
+use Rattle.subscriber.specs.declared.listening.Call.TheVariants.{Opens as OpensBy, Asks, Stranger}
+use Rattle.subscriber.specs.declared.listening.setup_offer.SetupOffer.{SetupOffer}
 
 -- the image that a SETUP would open, and who sent it
-pub record IsMeeting (plan : SubscribePlan) (from : SocketAddr) (f : Setup) (m : Meeting) : Type 0 where
+pub record IsMeeting (plan : SubscribePlan) (from : SocketAddr) (f : Setup) (m : SetupOffer) : Type 0 where
   pub sender : m.from ≡ from
   pub told : m.setup ≡ f
   pub opens : Opens plan (setup_of m.setup) m.opening
@@ -33,14 +33,14 @@ pub record IsTaken (plan : SubscribePlan) (h : Header) : Type 0 where
 
 -- a SETUP opens an image, or is a stranger's
 abbrev pub IsSetupCall : SubscribePlan → SocketAddr → Setup → Call → Type 0
-IsSetupCall plan from f (Opening m) = IsMeeting plan from f m
+IsSetupCall plan from f (OpensBy m) = IsMeeting plan from f m
 IsSetupCall plan from f (Asks h) = ⊥
 IsSetupCall plan from f Stranger = OpensNothing plan (setup_of f)
 
 -- for a frame of a stream that the plan takes a SETUP is asked for; all else is a stranger's
 abbrev pub IsFrameCall : SubscribePlan → Option Header → Call → Type 0
 IsFrameCall plan None c = c ≡ Stranger
-IsFrameCall plan (Some h) (Opening m) = ⊥
+IsFrameCall plan (Some h) (OpensBy m) = ⊥
 IsFrameCall plan (Some h) (Asks named) = IsTaken plan h × IsHeader h × (header_of named ≡ h)
 IsFrameCall plan (Some h) Stranger = ¬ IsTaken plan h
 
@@ -53,20 +53,20 @@ abbrev pub IsCall : SubscribePlan → SocketAddr → List ℕ → Call → Type 
 IsCall plan from bytes c = (found : Option Setup) × TellsSetup bytes (option_map setup_of found) × IsCallWith plan from bytes found c
 
 -- a SETUP that opens an image is met
-abbrev pub met_by : Call → Option Meeting
-met_by (Opening m) = Some m
+abbrev pub met_by : Call → Option SetupOffer
+met_by (OpensBy m) = Some m
 met_by (Asks h) = None
 met_by Stranger = None
 
 -- a stranger's are counted, and all others heard
 abbrev pub seen_by : Call → Seen → Seen
-seen_by (Opening m) s = hearing s
+seen_by (OpensBy m) s = hearing s
 seen_by (Asks h) s = called s
 seen_by Stranger s = with_stranger s
 
 -- only the sender of a frame is asked, once and with the frame's place, for a SETUP that opens the first image
 abbrev pub answered : SubscribePlan → SocketAddr → Call → Listening → Listening
-answered plan from (Opening m) l = l
+answered plan from (OpensBy m) l = l
 answered plan from (Asks h) l = asking l from (asking_at (header_of h) (id_of plan 0))
 answered plan from Stranger l = l
 
@@ -75,7 +75,7 @@ pub record Waiting : Type 0 where
   pub socket : Listening
   pub seen : Seen
 
-pub record HeedsCall (plan : SubscribePlan) (came : Came) (old : Waiting) (found : Option Meeting) (new : Waiting) : Type 0 where
+pub record HeedsCall (plan : SubscribePlan) (came : Came) (old : Waiting) (found : Option SetupOffer) (new : Waiting) : Type 0 where
   pub call : Call
   pub is : IsCall plan came.from came.bytes call
   pub met : found ≡ met_by call
@@ -83,12 +83,12 @@ pub record HeedsCall (plan : SubscribePlan) (came : Came) (old : Waiting) (found
   pub answers : new.socket ≡ answered plan came.from call old.socket
 
 -- what came, if anything did
-abbrev pub Heeds : SubscribePlan → Option Came → Waiting → Option Meeting → Waiting → Type 0
+abbrev pub Heeds : SubscribePlan → Option Came → Waiting → Option SetupOffer → Waiting → Type 0
 Heeds plan None old found new = (found ≡ None) × (new ≡ old)
 Heeds plan (Some came) old found new = HeedsCall plan came old found new
 
 -- a subscriber with its first image, tied to the one whose SETUP opened it
-pub record IsJoinedBy (plan : SubscribePlan) (moment : ℕ) (m : Meeting) (socket : Listening) (j : Joined) : Type 0 where
+pub record IsJoinedBy (plan : SubscribePlan) (moment : ℕ) (m : SetupOffer) (socket : Listening) (j : Session) : Type 0 where
   pub opening : j.opening ≡ m.opening
   pub images : j.images ≡ first_image
   pub met : HasMet plan 0 (setup_of m.setup) moment j.follower.subscriber
@@ -101,8 +101,8 @@ pub record IsJoinedBy (plan : SubscribePlan) (moment : ℕ) (m : Meeting) (socke
   pub unheard : j.unheard ≡ []
 
 -- the SETUP opens an image for the plan, and came at the moment
-pub record IsJoined (plan : SubscribePlan) (s : Seen) (j : Joined) : Type 0 where
-  pub meeting : Meeting
+pub record IsJoined (plan : SubscribePlan) (s : Seen) (j : Session) : Type 0 where
+  pub meeting : SetupOffer
   pub socket : Listening
   pub opens : Opens plan (setup_of meeting.setup) meeting.opening
   pub joined : IsJoinedBy plan s.moment meeting socket j

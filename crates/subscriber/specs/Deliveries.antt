@@ -14,8 +14,8 @@ use Rattle.subscriber.specs.Followers.{HasNoted}
 use Rattle.subscriber.specs.declared.images.follower.Follower.{Follower}
 use Rattle.assembler.specs.declared.fault.AssemblyError.{AssemblyError}
 use Rattle.subscriber.specs.declared.images.delivery.Delivered.{Delivered}
-use Rattle.subscriber.specs.declared.images.delivery.fault.DeliveryFault.{DeliveryFault}
-use Rattle.subscriber.specs.declared.images.delivery.fault.DeliveryFault.TheVariants as faults
+use Rattle.subscriber.specs.declared.images.delivery.DeliveryFault.{DeliveryFault}
+use Rattle.subscriber.specs.declared.images.delivery.DeliveryFault.TheVariants as faults
 
 -- a poll that gives this message
 abbrev pub PollsOne : Subscribing → List ℕ → Subscribing → Type 0

@@ -10,12 +10,12 @@ use Rattle.subscriber.specs.Answering.{HasAnswered}
 use Rattle.subscriber.specs.Leavings.{IsEnding, IsQuietEnding}
 use Rattle.subscriber.specs.Living.{AreUnlost, Follows}
 use Rattle.subscriber.specs.Standing.{HasAll, Stands}
-use Rattle.subscriber.specs.declared.ended.Ending.{Ending}
-use Rattle.subscriber.specs.declared.ended.Ending.TheVariants.{Whole}
+use Rattle.subscriber.specs.declared.ending.Ending.{Ending}
+use Rattle.subscriber.specs.declared.ending.Ending.TheVariants.{Whole}
 use Rattle.subscriber.specs.Images.{has_lost}
 use Rattle.subscriber.specs.declared.images.Images.{Images}
-use Rattle.subscriber.specs.declared.ended.Subscribed.{Subscribed}
-use Rattle.subscriber.specs.declared.images.standing.Stand.{Stand}
+use Rattle.subscriber.specs.declared.ending.Subscribed.{Subscribed}
+use Rattle.subscriber.specs.declared.images.session.Stand.{Stand}
 
 -- it had no image, and was quiet: nothing is written
 pub record EndsWithoutImage (plan : SubscribePlan) (before : Option (List ℕ)) (done : Subscribed) (after : Option (List ℕ)) : Type 0 where

@@ -1,10 +1,9 @@
--- What a user reads of a fault, and of a silence.
-use Rattle.std.specs.Prelude.{ℕ, ℤ, Bool, true, false, List, Option, None, ◌++◌, codes}
+-- What a user reads of a fault.
+use Rattle.std.specs.Prelude.{ℕ, ℤ, List, Option, None, ◌++◌, codes}
 use Rattle.std.specs.Net.Text.{socket_text}
 use Rattle.endpoint.specs.Texts as devices
-use Rattle.subscriber.specs.Texts.{again_line, silent_line}
-use Rattle.subscriber.specs.declared.images.delivery.fault.DeliveryFault.{DeliveryFault}
-use Rattle.subscriber.specs.declared.images.delivery.fault.DeliveryFault.TheVariants as deliveries
+use Rattle.subscriber.specs.declared.images.delivery.DeliveryFault.{DeliveryFault}
+use Rattle.subscriber.specs.declared.images.delivery.DeliveryFault.TheVariants as deliveries
 use Rattle.subscriber.specs.declared.fault.SubscribeFault.{SubscribeFault}
 use Rattle.subscriber.specs.declared.fault.SubscribeFault.TheVariants.{Taken, NotHere, Output, Message, NoSocket, NoThread, Failed}
 
@@ -32,8 +31,3 @@ abbrev pub of_delivery : DeliveryFault → SubscribeFault
 of_delivery (deliveries.Output number) = Output number
 of_delivery (deliveries.Message error) = Message
 of_delivery (deliveries.Failed error) = Failed error
-
--- the session has become silent, or goes on
-abbrev pub silence_line : Bool → ℤ → ℕ → List ℕ
-silence_line true session place = silent_line session place
-silence_line false session place = again_line session place

@@ -7,9 +7,9 @@ use Rattle.frames.specs.declared.frame.Header.{Header as Heard}
 use Rattle.endpoint.specs.Devices.{counted}
 use Rattle.peer.specs.Setups.{TellsSetup}
 use Rattle.subscriber.specs.Meetings.{TellsHeader}
-use Rattle.subscriber.specs.declared.images.followed.Noted.{Noted}
-use Rattle.subscriber.specs.declared.images.followed.Noted.TheVariants.{Nothing, Given, Cleared}
-use Rattle.subscriber.specs.declared.images.followed.Notes.{Notes}
+use Rattle.subscriber.specs.declared.images.session_device.PendingStatus.{PendingStatus}
+use Rattle.subscriber.specs.declared.images.session_device.PendingStatus.TheVariants.{Nothing, Given, Cleared}
+use Rattle.subscriber.specs.declared.images.session_device.Notes.{Notes}
 
 pub record Following (D : Type 0) : Type 0 where
   pub inner : D
@@ -20,7 +20,7 @@ pub record Following (D : Type 0) : Type 0 where
   -- how many negative acknowledgements it was given to send
   pub naks : ℕ
   -- what it noted of the status messages that it was given to send
-  pub noted : Noted
+  pub noted : PendingStatus
 
 -- nothing was heard yet
 abbrev pub unheard : Notes
@@ -29,10 +29,6 @@ unheard = record { frames = 0; last = None; setup = None }
 -- nothing was heard of this session yet, nor sent
 abbrev pub following : {D : Type 0} → D → ℤ → ℤ → Following D
 following inner session stream = record { inner = inner; session = session; stream = stream; notes = unheard; naks = 0; noted = Nothing }
-
--- what it was given before is of no use any more
-abbrev pub clearing : {D : Type 0} → Following D → Following D
-clearing f = record f { noted = Cleared }
 
 -- it turns to another session, of which it has heard nothing, and for which it was given nothing
 abbrev pub turned_to : {D : Type 0} → Following D → ℤ → Following D
@@ -73,7 +69,7 @@ HearsFound f None buffer new = new ≡ f.notes
 HearsFound f (Some n) buffer new = NotesDatagram f.session f.stream (take n buffer) f.notes new
 
 -- of what a receiver sends only a status message has 36 bytes; the last one is noted
-abbrev pub noted_after : Noted → List ℕ → Noted
+abbrev pub noted_after : PendingStatus → List ℕ → PendingStatus
 noted_after before bytes = if nat_eq (length bytes) 36 then Given bytes else before
 
 -- of what a receiver sends only a negative acknowledgement has 28 bytes

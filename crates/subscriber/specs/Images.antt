@@ -1,7 +1,8 @@
 -- The images of a subscriber, one after the other, and what is missing between them.
-use Rattle.std.specs.Prelude.{◌+◌, ◌-◌, ◌%◌, ◌^◌, ℕ, min, Bool, ◌||◌, nat_lt, Option, None, Some, if◌then◌else◌}
+use Rattle.std.specs.Prelude.{◌+◌, ◌-◌, ◌%◌, ◌^◌, ℕ, min, Bool, ◌||◌, nat_lt, Option, None, Some, if◌then◌else◌, ◌<◌, ℤ, List, length}
 use Rattle.subscriber.specs.declared.images.Images.{Images}
 use Rattle.subscriber.specs.declared.images.Loss.{Loss}
+use Rattle.std.specs.List.{Contains}
 
 abbrev pub first_image : Images
 first_image = record { number = 0; missing = 0 }
@@ -30,3 +31,8 @@ next_images i loss = record { number = next i.number; missing = missing_with i.m
 -- the image was told as lost, or one before it lacked something
 abbrev pub has_lost : Bool → Images → Bool
 has_lost lost i = lost || nat_lt 0 i.missing
+
+-- this session wasn't told yet, and fewer than 16 were
+pub record IsUnnamed (sessions : List ℤ) (session : ℤ) : Type 0 where
+  pub few : length sessions < 16
+  pub untold : ¬ Contains sessions session

@@ -14,9 +14,9 @@ use Rattle.subscriber.specs.declared.fault.SubscribeFault.{SubscribeFault}
 use Rattle.subscriber.specs.declared.fault.SubscribeFault.TheVariants.{Taken, NotHere, NoSocket, NoThread, Failed}
 use Rattle.endpoint.specs.declared.device_error.DeviceError.TheVariants.{Device, Memory}
 use Rattle.std.specs.declared.net.SocketAddr.{SocketAddr}
-use Rattle.subscriber.specs.declared.images.standing.Stand.{Stand}
-use Rattle.subscriber.specs.declared.ended.Ending.{Ending}
-use Rattle.subscriber.specs.declared.ended.Ending.TheVariants.{Whole, Short, Lost}
+use Rattle.subscriber.specs.declared.images.session.Stand.{Stand}
+use Rattle.subscriber.specs.declared.ending.Ending.{Ending}
+use Rattle.subscriber.specs.declared.ending.Ending.TheVariants.{Whole, Short, Lost}
 
 -- frames of the session were counted before a cycle and behind it; where that is another number, one came at the moment
 pub record NotesHeard (before after : ℕ) (old new : Seen) : Type 0 where

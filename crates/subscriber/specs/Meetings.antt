@@ -11,7 +11,7 @@ use Rattle.receiver.specs.Subscribing.{RepresentsSubscriber, Subscribing}
 use Rattle.receiver.specs.declared.receiver_core.Outcome.{Outcome}
 use Rattle.options.specs.declared.ends.plans.SubscribePlan.{SubscribePlan}
 use Rattle.subscriber.specs.Windows.{window_of}
-use Rattle.subscriber.specs.declared.listening.opening.Opening.{Opening}
+use Rattle.subscriber.specs.declared.listening.setup_offer.ImageParams.{ImageParams}
 
 -- ---- what a datagram says
 
@@ -57,13 +57,13 @@ abbrev pub window_in : Setup → ℕ
 window_in f = window_of (bytes_of f.term_length) (bytes_of f.mtu)
 
 -- a SETUP opens an image of this session and shape for a plan, at this position
-pub record Opens (plan : SubscribePlan) (f : Setup) (o : Opening) : Type 0 where
+pub record Opens (plan : SubscribePlan) (f : Setup) (o : ImageParams) : Type 0 where
   pub admitted : Admits plan f
   pub session : o.session ≡ f.session
   pub at : OpensAt f (window_in f) o.geometry o.position
 
 abbrev pub OpensNothing : SubscribePlan → Setup → Type 0
-OpensNothing plan f = (o : Opening) → Opens plan f o → ⊥
+OpensNothing plan f = (o : ImageParams) → Opens plan f o → ⊥
 
 -- ---- a subscriber that meets a SETUP
 

@@ -7,7 +7,10 @@ use Rattle.loss_injector.specs.Losing.{Losing}
 use Rattle.peer.specs.Patience.{Patient}
 use Rattle.peer.specs.Ties.{Offer, Tied, asking, offer_given, with_peer}
 use Rattle.subscriber.specs.Hearings.{Following}
-use Rattle.subscriber.specs.declared.images.followed.Noted.TheVariants.{Cleared}
+use Rattle.subscriber.specs.declared.images.session_device.PendingStatus.TheVariants.{Cleared, Nothing, Given}
+use Rattle.subscriber.specs.declared.images.session_device.StatusNews.{StatusNews}
+use Rattle.subscriber.specs.declared.images.session_device.PendingStatus.{PendingStatus}
+use Rattle.subscriber.specs.declared.images.session_device.StatusNews.TheVariants as news
 
 -- a subscriber's device
 abbrev pub SubscriberDevice : Type 0
@@ -44,3 +47,13 @@ asking_peer t frame = record t { socket = asking t.socket t.peer frame }
 
 abbrev pub asked_by : SubscriberDevice → Wire → SubscriberDevice
 asked_by d frame = record d { inner = record (d.inner) { inner = record (d.inner.inner) { inner = asking_peer d.inner.inner.inner frame } } }
+
+-- what was noted of a device with this peer
+abbrev pub news_of : SocketAddr → PendingStatus → Option StatusNews
+news_of peer Nothing = None
+news_of peer (Given bytes) = Some (news.Sent (record { to = peer; bytes = bytes }))
+news_of peer Cleared = Some news.Cleared
+
+-- nothing is new any more
+abbrev pub news_taken : SubscriberDevice → SubscriberDevice
+news_taken d = record d { noted = Nothing }

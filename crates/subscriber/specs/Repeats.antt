@@ -2,8 +2,8 @@
 use Rattle.std.specs.Prelude.{◌≡◌, ◌≤◌, ◌-◌, ℕ, List, [], ◌∷◌, Option, None, Some}
 use Rattle.peer.specs.StatusSockets.{StatusSending, giving}
 use Rattle.subscriber.specs.Statuses.{Sent}
-use Rattle.subscriber.specs.declared.images.followed.News.{News}
-use Rattle.subscriber.specs.declared.images.followed.News.TheVariants as news
+use Rattle.subscriber.specs.declared.images.session_device.StatusNews.{StatusNews}
+use Rattle.subscriber.specs.declared.images.session_device.StatusNews.TheVariants as news
 use Rattle.subscriber.specs.declared.repeating.repeater.Held.{Held}
 
 -- what is to be repeated, if anything is
@@ -32,12 +32,12 @@ Repeats now None sent new = (sent ≡ None) × (new ≡ holding_none)
 Repeats now (Some h) sent new = RepeatsHeld now h sent new
 
 -- where something is new at a moment: a newer message is noted then, and behind a cleared one there is none
-abbrev pub held_by : ℕ → News → Option Held
+abbrev pub held_by : ℕ → StatusNews → Option Held
 held_by now (news.Sent s) = Some (record { status = s; since = now })
 held_by now news.Cleared = None
 
 -- a step at a moment: where something is new nothing is sent
-abbrev pub Steps : ℕ → Option News → Repeating → Option Sent → Repeating → Type 0
+abbrev pub Steps : ℕ → Option StatusNews → Repeating → Option Sent → Repeating → Type 0
 Steps now (Some n) old sent new = (sent ≡ None) × (new ≡ record { held = held_by now n })
 Steps now None old sent new = Repeats now old.held sent new
 
@@ -54,7 +54,7 @@ pub record RepeatingBy : Type 0 where
 -- what was new at a moment, and what was sent then
 pub record Turn : Type 0 where
   pub moment : ℕ
-  pub news : Option News
+  pub news : Option StatusNews
   pub sent : Option Sent
 
 -- turns one after the other, the first one first
@@ -63,7 +63,7 @@ Runs r [] t = t ≡ r
 Runs r (a ∷ turns) t = (m : Repeating) × Steps a.moment a.news r a.sent m × Runs m turns t
 
 -- the last message that was told, none where it was cleared since
-abbrev pub told_by : Option Sent → Option News → Option Sent
+abbrev pub told_by : Option Sent → Option StatusNews → Option Sent
 told_by before None = before
 told_by before (Some (news.Sent s)) = Some s
 told_by before (Some news.Cleared) = None

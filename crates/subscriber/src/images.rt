@@ -4,15 +4,10 @@ ghost use Rattle.std.specs.Prelude.{◌≡◌, Some};
 ghost use Rattle.subscriber.specs.Images.{first_image, loss_between, next_images};
 ghost use Rattle.subscriber.specs.Texts.{loss_text};
 
-pub(crate) mod answering;
 pub(crate) mod delivery;
-pub(crate) mod followed;
 pub(crate) mod follower;
-pub(crate) mod following;
-pub(crate) mod joined;
-pub(crate) mod losing;
-pub(crate) mod standing;
-pub(crate) mod turning;
+pub(crate) mod session;
+pub(crate) mod session_device;
 pub(crate) mod unheard;
 
 use std::fmt;

@@ -14,19 +14,18 @@ ghost use Rattle.subscriber.specs.Meetings.{Opens, id_of};
 ghost use Rattle.subscriber.specs.Texts.{waiting_counts, waiting_line};
 ghost use Rattle.subscriber.specs.Watches.{IsQuiet, TellsWhereDue, after_call};
 
-pub(crate) mod invitation;
-pub(crate) mod meeting;
-pub(crate) mod opening;
+pub(crate) mod setup_offer;
 pub(crate) mod window;
 
 use crate::images::Images;
-use crate::images::followed::Followed;
 use crate::images::follower::Follower;
-use crate::images::joined::{Joined, SubscriberDevice};
+use crate::images::session::Session;
+use crate::images::session_device::{SessionDevice, SubscriberDevice};
 use crate::images::unheard::Unheard;
-use crate::listening::invitation::{header_in, id_of, opened, takes_session};
-use crate::listening::meeting::{Meeting, meeting_of};
-use crate::reporting::{Counts, tell_waiting};
+use crate::listening::setup_offer::{
+    SetupOffer, header_in, id_of, meeting_of, opened, takes_session,
+};
+use crate::reporting::{Counted, Counts, Line, NOWHERE, tell as tell_line};
 use crate::watch::Watch;
 use agents::{Duty, IdleStrategy, REPLY};
 use endpoint::{DeviceError, DeviceFailed};
@@ -46,7 +45,7 @@ use std::time::Clock;
 #[derive(Clone, Copy)]
 pub(crate) enum Call {
     /// A SETUP that opens an image.
-    Opens(Meeting),
+    Opens(SetupOffer),
     /// A frame of a stream that the plan takes, by its header: a SETUP is asked for.
     Asks(Header),
     /// Anything else.
@@ -97,7 +96,7 @@ fn first_asking(plan: &SubscribePlan, header: &Header) -> Status
 }
 
 /// Heeds what came. The answer is the SETUP that opens an image, if it was one. The sender of a frame is asked for a SETUP.
-fn heed(plan: &SubscribePlan, listener: &mut Listener, watch: &mut Watch) -> Option<Meeting>
+fn heed(plan: &SubscribePlan, listener: &mut Listener, watch: &mut Watch) -> Option<SetupOffer>
     ensures heeds { Heeds plan.now listener.old.came (record { socket = listener.old; seen = watch.old }) result (record { socket = listener.new; seen = watch.new }) }
     ensures opens { IfSome result (λ m. Opens plan.now (setup_of m.setup) m.opening) }
     ensures moment { watch.new.moment ≡ watch.old.moment }
@@ -125,13 +124,13 @@ fn tied_duty(
     alloc: Global,
     plan: &SubscribePlan,
     listener: Listener,
-    meeting: &Meeting,
+    meeting: &SetupOffer,
 ) -> Result<Duty<SubscriberDevice>, AllocError>
     ensures { IfOk result (λ d. d ≡ record { device = following (begun (patient (tied_to listener meeting.now.from)) plan.now.end.rates plan.now.end.seed) meeting.now.opening.session plan.now.end.stream; mtu = 40 }) }
 {
     let tied = PatientDevice::new(TiedDevice::new(listener, meeting.from));
     let lossy = Lossy::new(alloc, tied, plan.end.rates, plan.end.seed);
-    let device = Followed::new(lossy, meeting.opening.session, plan.end.stream);
+    let device = SessionDevice::new(lossy, meeting.opening.session, plan.end.stream);
     match Duty::new(alloc, device, REPLY) {
         Ok(duty) => Ok(duty),
         Err(_) => Err(AllocError),
@@ -143,9 +142,9 @@ fn join(
     alloc: Global,
     plan: &SubscribePlan,
     listener: Listener,
-    meeting: &Meeting,
+    meeting: &SetupOffer,
     now: u64,
-) -> Result<Joined, DeviceError>
+) -> Result<Session, DeviceError>
     ensures { IfOk result (IsJoinedBy plan.now now meeting.now listener) }
 {
     let Ok(subscriber) = opened(alloc, plan, 0, &meeting.setup, now) else {
@@ -154,7 +153,7 @@ fn join(
     let Ok(duty) = tied_duty(alloc, plan, listener, meeting) else {
         return Err(DeviceError::Memory);
     };
-    Ok(Joined {
+    Ok(Session {
         opening: meeting.opening,
         images: Images::first(),
         follower: Follower {
@@ -187,7 +186,7 @@ fn tell<E: Write>(plan: &SubscribePlan, errors: &mut E, watch: &mut Watch) -> io
     };
     match watch.tells(plan, 0) {
         None => Ok(()),
-        Some(_) => tell_waiting(errors, &counts),
+        Some(_) => tell_line(errors, Line::Waiting(Counted(NOWHERE, counts))),
     }
 }
 
@@ -200,7 +199,7 @@ pub fn listen<R: Wait + Clock, E: Write>(
     mut listener: Listener,
     errors: &mut E,
     watch: &mut Watch,
-) -> Result<Option<Joined>, DeviceError>
+) -> Result<Option<Session>, DeviceError>
     ensures joined { IfOk result (λ found. IfSome found (IsJoined plan.now watch.new)) }
     ensures quiet { IfOk result (λ found. IfNone found (IsQuiet plan.now watch.new)) }
     // For each datagram that calls for a SETUP its sender was asked.

@@ -2,7 +2,7 @@
 
 ghost use Rattle.std.specs.Prelude.{◌≡◌, ◌≢◌, OnOk, Some};
 ghost use Rattle.std.specs.Io.KnownBytes.{Appends};
-ghost use Rattle.subscriber.specs.Texts.{IsClean, again_line, another_line, closed_line, counters_line, current_text, ended_line, joined_line, losses_text, lost_line, missing_line, nobody_line, not_whole_line, nowhere, places_text, nothing_heard_text, refused_line, sender_text, session_text, silent_line, told_end_text, unfinished_line, unfinished_text, unheard_line, waiting_line, written_text, totals_line, totals_text};
+ghost use Rattle.subscriber.specs.Texts.{IsClean, counted_text, line_of, line_text, losses_text, refused_line, session_text, told_end_text, totals_line, totals_text, unfinished_text};
 
 use crate::images::Loss;
 use frames::FaultCounts;
@@ -12,152 +12,21 @@ use std::net::SocketAddr;
 use std::{fmt, io};
 use text::Pace;
 
-/// An image was opened at a position.
-pub fn tell_joined<E: Write>(errors: &mut E, session: i32, position: u64) -> io::Result<()>
-    ensures { OnOk result (Appends (E.contents errors.old) (E.contents errors.new) (joined_line session position)) }
-{
-    writeln!(errors, "joined session {session} at position {position}")
-}
-
-/// Nothing has come of the session for 10 seconds.
-pub fn tell_silent<E: Write>(errors: &mut E, session: i32, position: u64) -> io::Result<()>
-    ensures { OnOk result (Appends (E.contents errors.old) (E.contents errors.new) (silent_line session position)) }
-{
-    writeln!(
-        errors,
-        "silent: session {session} at position {position}, its image is kept"
-    )
-}
-
-/// Something has come again of a session that was silent.
-pub fn tell_again<E: Write>(errors: &mut E, session: i32, position: u64) -> io::Result<()>
-    ensures { OnOk result (Appends (E.contents errors.old) (E.contents errors.new) (again_line session position)) }
-{
-    writeln!(errors, "session {session} goes on at position {position}")
-}
-
-/// Nothing that the image lacks has come for 10 seconds, and its session was heard.
-pub fn tell_lost<E: Write>(errors: &mut E, session: i32, position: u64) -> io::Result<()>
-    ensures { OnOk result (Appends (E.contents errors.old) (E.contents errors.new) (lost_line session position)) }
-{
-    writeln!(
-        errors,
-        "lost: session {session} can't be followed from position {position}"
-    )
-}
-
-/// A session.
+/// A session's id.
 #[derive(Clone, Copy)]
-struct Session(i32);
+pub(crate) struct SessionId(pub i32);
 
-impl fmt::Display for Session {
-    ghost output = { λ session. Some (session_text session.0) };
+impl fmt::Display for SessionId {
+    ghost output = { λ id. Some (session_text id) };
 
     fn fmt<W: fmt::Write>(&self, f: &mut fmt::Formatter<W>) -> fmt::Result {
         write!(f, "session {}", self.0)
     }
 }
 
-/// What is missing between an image that was lost and the next one.
-pub fn tell_missing<E: Write>(errors: &mut E, session: i32, loss: &Loss) -> io::Result<()>
-    ensures { OnOk result (Appends (E.contents errors.old) (E.contents errors.new) (missing_line session loss.now)) }
-{
-    let (session, loss) = (Session(session), *loss);
-    writeln!(errors, "missing: {session} {loss}")
-}
-
-/// A subscriber that has lost an image ends, and so many bytes lie between its images.
-pub fn tell_not_whole<E: Write>(errors: &mut E, bytes: u64) -> io::Result<()>
-    ensures { OnOk result (Appends (E.contents errors.old) (E.contents errors.new) (not_whole_line bytes)) }
-{
-    writeln!(
-        errors,
-        "not whole: an image was lost, {bytes} bytes are known to be missing"
-    )
-}
-
-/// The image was closed, since another one is opened; its receiver has refused so many datagrams.
-pub fn tell_closed<E: Write>(
-    errors: &mut E,
-    session: i32,
-    position: u64,
-    refused: FaultCounts,
-) -> io::Result<()>
-    ensures { OnOk result (Appends (E.contents errors.old) (E.contents errors.new) (closed_line session position refused)) }
-{
-    writeln!(
-        errors,
-        "closed: session {session} at position {position}, refused{refused}"
-    )
-}
-
-/// A SETUP of the session came from another than the peer.
-pub fn tell_another<E: Write>(errors: &mut E, session: i32, from: SocketAddr) -> io::Result<()>
-    ensures { OnOk result (Appends (E.contents errors.old) (E.contents errors.new) (another_line session from)) }
-{
-    writeln!(
-        errors,
-        "another sender at {from} for session {session}, not heard"
-    )
-}
-
-/// A session, and who sends it.
-#[derive(Clone, Copy)]
-struct Sender {
-    session: i32,
-    from: SocketAddr,
-}
-
-impl fmt::Display for Sender {
-    ghost output = { λ sender. Some (sender_text sender.session sender.from) };
-
-    fn fmt<W: fmt::Write>(&self, f: &mut fmt::Formatter<W>) -> fmt::Result {
-        write!(f, "session {} at {}", self.session, self.from)
-    }
-}
-
-/// The session that is followed.
-#[derive(Clone, Copy)]
-struct Current(i32);
-
-impl fmt::Display for Current {
-    ghost output = { λ current. Some (current_text current.0) };
-
-    fn fmt<W: fmt::Write>(&self, f: &mut fmt::Formatter<W>) -> fmt::Result {
-        write!(f, "session {} is followed", self.0)
-    }
-}
-
-/// A SETUP came of another session than the one that is followed.
-pub fn tell_unheard<E: Write>(
-    errors: &mut E,
-    session: i32,
-    from: SocketAddr,
-    followed: i32,
-) -> io::Result<()>
-    ensures { OnOk result (Appends (E.contents errors.old) (E.contents errors.new) (unheard_line session from followed)) }
-{
-    let (sender, current) = (Sender { session, from }, Current(followed));
-    writeln!(errors, "not heard: {sender}; {current}")
-}
-
-/// All of a session's stream up to its told end is written.
-pub fn tell_ended<E: Write>(errors: &mut E, session: i32, position: u64) -> io::Result<()>
-    ensures { OnOk result (Appends (E.contents errors.old) (E.contents errors.new) (ended_line session position)) }
-{
-    writeln!(errors, "ended: session {session} at position {position}")
-}
-
-/// A subscriber that was to end with the stream had no image for so many seconds.
-pub fn tell_nobody<E: Write>(errors: &mut E, seconds: u64) -> io::Result<()>
-    ensures { OnOk result (Appends (E.contents errors.old) (E.contents errors.new) (nobody_line seconds)) }
-{
-    writeln!(errors, "gave up: nobody published for {seconds} s")
-}
-
 /// A session of which not all is written, or no end was told.
 #[derive(Clone, Copy)]
-pub struct Unfinished {
+pub(crate) struct Unfinished {
     /// Its peer.
     pub from: SocketAddr,
     pub session: i32,
@@ -195,39 +64,9 @@ impl fmt::Display for Unfinished {
     }
 }
 
-/// Nothing was heard from a peer for so many seconds.
-#[derive(Clone, Copy)]
-struct NothingHeard {
-    from: SocketAddr,
-    seconds: u64,
-}
-
-impl fmt::Display for NothingHeard {
-    ghost output = { λ heard. Some (nothing_heard_text heard.from heard.seconds) };
-
-    fn fmt<W: fmt::Write>(&self, f: &mut fmt::Formatter<W>) -> fmt::Result {
-        let NothingHeard { from, seconds } = *self;
-        write!(f, "nothing was heard from {from} for {seconds} s")
-    }
-}
-
-/// A subscriber that was to end with the stream heard nothing of it for so many seconds.
-pub fn tell_unfinished<E: Write>(errors: &mut E, seconds: u64, left: &Unfinished) -> io::Result<()>
-    ensures { OnOk result (Appends (E.contents errors.old) (E.contents errors.new) (unfinished_line seconds left.now)) }
-{
-    let (cause, left) = (
-        NothingHeard {
-            from: left.from,
-            seconds,
-        },
-        *left,
-    );
-    writeln!(errors, "gave up: {cause}; {left}")
-}
-
 /// What the counters show, but for the positions.
 #[derive(Clone, Copy)]
-pub struct Counts {
+pub(crate) struct Counts {
     /// How many messages were written.
     pub messages: u64,
     /// How many of them since the line before.
@@ -240,40 +79,6 @@ pub struct Counts {
     pub strangers: u64,
     /// How many datagrams the image's receiver refused, by their faults.
     pub refused: FaultCounts,
-}
-
-/// What was written.
-#[derive(Clone, Copy)]
-struct Written(Counts);
-
-impl fmt::Display for Written {
-    ghost output = { λ written. Some (written_text written.0) };
-
-    fn fmt<W: fmt::Write>(&self, f: &mut fmt::Formatter<W>) -> fmt::Result {
-        let Counts {
-            messages,
-            since,
-            ..
-        } = self.0;
-        write!(f, "messages {messages} this-second {since}")
-    }
-}
-
-/// Where the image stands.
-#[derive(Clone, Copy)]
-struct Places(Positions);
-
-impl fmt::Display for Places {
-    ghost output = { λ places. Some (places_text places.0) };
-
-    fn fmt<W: fmt::Write>(&self, f: &mut fmt::Formatter<W>) -> fmt::Result {
-        let Positions {
-            least,
-            rebuilt,
-            high_water,
-        } = self.0;
-        write!(f, "least {least} rebuilt {rebuilt} high-water {high_water}")
-    }
 }
 
 /// What was asked for again, failed or was refused.
@@ -298,37 +103,34 @@ impl fmt::Display for Losses {
     }
 }
 
+/// What the counters show: where the image stands, and what was counted.
+#[derive(Clone, Copy)]
+pub(crate) struct Counted(pub Positions, pub Counts);
+
+impl fmt::Display for Counted {
+    ghost output = { λ counted. Some (counted_text counted) };
+
+    fn fmt<W: fmt::Write>(&self, f: &mut fmt::Formatter<W>) -> fmt::Result {
+        let Counted(places, counts) = *self;
+        let losses = Losses(counts);
+        write!(
+            f,
+            "messages {} this-second {} least {} rebuilt {} high-water {} {losses}",
+            counts.messages, counts.since, places.least, places.rebuilt, places.high_water
+        )
+    }
+}
+
 /// Where a subscriber without an image stands.
-const NOWHERE: Positions = Positions {
+pub(crate) const NOWHERE: Positions = Positions {
     least: 0,
     rebuilt: 0,
     high_water: 0,
 };
 
-/// The counters of a subscriber with an image of this session.
-pub fn tell_counters<E: Write>(
-    errors: &mut E,
-    session: i32,
-    positions: &Positions,
-    counts: &Counts,
-) -> io::Result<()>
-    ensures { OnOk result (Appends (E.contents errors.old) (E.contents errors.new) (counters_line session positions.now counts.now)) }
-{
-    let (written, places, losses) = (Written(*counts), Places(*positions), Losses(*counts));
-    writeln!(errors, "session {session} {written} {places} {losses}")
-}
-
-/// The counters of a subscriber without an image.
-pub fn tell_waiting<E: Write>(errors: &mut E, counts: &Counts) -> io::Result<()>
-    ensures { OnOk result (Appends (E.contents errors.old) (E.contents errors.new) (waiting_line counts.now)) }
-{
-    let (written, places, losses) = (Written(*counts), Places(NOWHERE), Losses(*counts));
-    writeln!(errors, "session none {written} {places} {losses}")
-}
-
 /// What a subscriber has done at its end.
 #[derive(Clone, Copy)]
-pub struct Totals {
+pub(crate) struct Totals {
     /// How many messages were written, and in what time from the first image on.
     pub pace: Pace,
     /// The session of the last image, and how many bytes of its stream were written, with headers and alignment.
@@ -356,20 +158,98 @@ impl fmt::Display for Totals {
     }
 }
 
-/// What it has done, in all, where it was any message.
-pub fn tell_totals<E: Write>(errors: &mut E, totals: &Totals) -> io::Result<()>
-    ensures some { totals.now.pace.count ≢ 0 → OnOk result (Appends (E.contents errors.old) (E.contents errors.new) (totals_line totals.now)) }
-    ensures none { totals.now.pace.count ≡ 0 → OnOk result (E.contents errors.new ≡ E.contents errors.old) }
+/// A line.
+#[derive(Clone, Copy)]
+pub(crate) enum Line {
+    /// An image was opened at a position.
+    Joined(SessionId, u64),
+    /// Nothing has come of the session for 10 seconds; its consumer stands here.
+    Silent(SessionId, u64),
+    /// Something has come again of a session that was silent.
+    Again(SessionId, u64),
+    /// Nothing that the image lacks has come for 10 seconds, and its session was heard.
+    Lost(SessionId, u64),
+    /// What is missing between an image that was lost and the next one.
+    Missing(SessionId, Loss),
+    /// The image was closed, since another one is opened; its receiver has refused so many datagrams.
+    Closed(SessionId, u64, FaultCounts),
+    /// A SETUP of the session came from another than the peer.
+    Another(SessionId, SocketAddr),
+    /// A SETUP came of another session than the one that is followed, which stands last.
+    Unheard(SessionId, SocketAddr, SessionId),
+    /// All of the session's stream up to its told end is written.
+    Ended(SessionId, u64),
+    /// A subscriber that was to end with the stream had no image for so many seconds.
+    Nobody(u64),
+    /// A subscriber that was to end with the stream heard nothing of it for so many seconds.
+    GaveUp(u64, Unfinished),
+    /// A subscriber that has lost an image ends, and so many bytes lie between its images.
+    NotWhole(u64),
+    /// The counters of a subscriber with an image of this session.
+    Counters(SessionId, Counted),
+    /// The counters of a subscriber without an image.
+    Waiting(Counted),
+    /// What it has done, in all.
+    Done(Totals),
+    /// What an image's receiver has refused, and how many datagrams came from strangers.
+    Refused(FaultCounts, u64),
+}
+
+impl fmt::Display for Line {
+    ghost output = { λ line. Some (line_text line) };
+
+    fn fmt<W: fmt::Write>(&self, f: &mut fmt::Formatter<W>) -> fmt::Result {
+        match *self {
+            Line::Joined(id, at) => write!(f, "joined {id} at position {at}"),
+            Line::Silent(id, at) => write!(f, "silent: {id} at position {at}, its image is kept"),
+            Line::Again(id, at) => write!(f, "{id} goes on at position {at}"),
+            Line::Lost(id, at) => write!(f, "lost: {id} can't be followed from position {at}"),
+            Line::Missing(id, loss) => write!(f, "missing: {id} {loss}"),
+            Line::Closed(id, at, refused) => write!(
+                f,
+                "closed: {id} at position {at}, refused{refused}"
+            ),
+            Line::Another(id, from) => write!(f, "another sender at {from} for {id}, not heard"),
+            Line::Unheard(id, at, own) => write!(f, "not heard: {id} at {at}; {own} is followed"),
+            Line::Ended(id, at) => write!(f, "ended: {id} at position {at}"),
+            Line::Nobody(seconds) => write!(f, "gave up: nobody published for {seconds} s"),
+            Line::GaveUp(seconds, left) => write!(
+                f,
+                "gave up: nothing was heard from {} for {seconds} s; {left}",
+                left.from
+            ),
+            Line::NotWhole(bytes) => write!(
+                f,
+                "not whole: an image was lost, {bytes} bytes are known to be missing"
+            ),
+            Line::Counters(id, counted) => write!(f, "{id} {counted}"),
+            Line::Waiting(counted) => write!(f, "session none {counted}"),
+            Line::Done(totals) => write!(f, "{totals}"),
+            Line::Refused(refused, others) => write!(f, "refused{refused} strangers {others}"),
+        }
+    }
+}
+
+/// Tells a line.
+pub(crate) fn tell<E: Write>(errors: &mut E, line: Line) -> io::Result<()>
+    ensures { OnOk result (Appends (E.contents errors.old) (E.contents errors.new) (line_of line)) }
+{
+    writeln!(errors, "{line}")
+}
+
+/// Tells what it has done, in all, where it was any message.
+pub(crate) fn tell_totals<E: Write>(errors: &mut E, totals: Totals) -> io::Result<()>
+    ensures some { totals.pace.count ≢ 0 → OnOk result (Appends (E.contents errors.old) (E.contents errors.new) (totals_line totals)) }
+    ensures none { totals.pace.count ≡ 0 → OnOk result (E.contents errors.new ≡ E.contents errors.old) }
 {
     if totals.pace.count == 0 {
         return Ok(());
     }
-    let totals = *totals;
-    writeln!(errors, "{totals}")
+    tell(errors, Line::Done(totals))
 }
 
-/// What an image's receiver has refused, and how many datagrams came from strangers, where there was any of these.
-pub fn tell_refused<E: Write>(
+/// Tells what an image's receiver has refused, and how many datagrams came from strangers, where there was any of these.
+pub(crate) fn tell_refused<E: Write>(
     errors: &mut E,
     refused: FaultCounts,
     strangers: u64,
@@ -380,5 +260,5 @@ pub fn tell_refused<E: Write>(
     if refused.is_none() && strangers == 0 {
         return Ok(());
     }
-    writeln!(errors, "refused{refused} strangers {strangers}")
+    tell(errors, Line::Refused(refused, strangers))
 }

@@ -1,7 +1,7 @@
 //! Sessions that were told as not heard.
 
 ghost use Rattle.std.specs.Prelude.{◌≡◌, ◌<◌, ◌↔◌, ◌++◌, [], ◌∷◌, IsTrue, length};
-ghost use Rattle.subscriber.specs.Unheards.{IsUnnamed};
+ghost use Rattle.subscriber.specs.Images.{IsUnnamed};
 
 use std::marker::Model;
 

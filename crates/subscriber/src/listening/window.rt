@@ -32,8 +32,7 @@ fn datagrams_of(mtu: u32) -> u64
     SURE_ROOM / room_of(mtu)
 }
 
-/// The window in bytes of an image of terms of so many bytes and of this MTU: half a term, or as much as its socket's buffer is
-/// sure to hold, but a datagram at the least.
+/// An image's window in bytes: half a term, or as much as its socket's buffer is sure to hold, but a datagram at the least.
 pub fn window_of(term_length: u32, mtu: u32) -> u32
     ensures value { result ≡ window_of term_length mtu }
     ensures allowed { IsTermLength term_length → IsMtu term_length mtu → IsWindow term_length mtu result }

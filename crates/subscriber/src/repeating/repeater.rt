@@ -3,7 +3,7 @@
 ghost use Rattle.std.specs.Prelude.{◌≡◌};
 ghost use Rattle.subscriber.specs.Repeats.{Repeats, RepeatsTheLast, Steps, given_again, held_by, holding_none};
 
-use crate::images::followed::{News, SentStatus};
+use crate::images::session_device::{SentStatus, StatusNews};
 use peer::StatusSocket;
 use std::marker::Model;
 
@@ -33,15 +33,15 @@ impl Model for Repeater {
 }
 
 /// What is to be repeated once this is new.
-fn held_by(now: u64, news: &News) -> Option<Held>
+fn held_by(now: u64, news: &StatusNews) -> Option<Held>
     ensures { result ≡ held_by now news.now }
 {
     match news {
-        News::Sent(status) => Some(Held {
+        StatusNews::Sent(status) => Some(Held {
             status: *status,
             since: now,
         }),
-        News::Cleared => None,
+        StatusNews::Cleared => None,
     }
 }
 
@@ -66,10 +66,8 @@ impl Repeater {
         Some(status)
     }
 
-    /// What to send again at this moment, by what is new. A newer message is noted, and nothing is sent; where the messages
-    /// before are of no use any more, none is. Where nothing is new the last one is sent again, as it was and to the same
-    /// peer, each 300 ms since it was noted.
-    pub fn step(&mut self, now: u64, news: Option<News>) -> Option<SentStatus>
+    /// What to send again at this moment: where nothing is new the last message, each 300 ms since it was noted.
+    pub fn step(&mut self, now: u64, news: Option<StatusNews>) -> Option<SentStatus>
         ensures { Steps now news self.old result self.new }
     {
         let Some(news) = news else {
@@ -107,7 +105,7 @@ impl StatusRepeater {
     }
 
     /// A step at a moment, whose message goes to its peer. The answer is that message.
-    pub fn turn(&mut self, now: u64, news: Option<News>) -> Option<SentStatus>
+    pub fn turn(&mut self, now: u64, news: Option<StatusNews>) -> Option<SentStatus>
         ensures step { Steps now news self.old.repeating result self.new.repeating }
         ensures given { self.new.socket ≡ given_again self.old.socket result }
     {

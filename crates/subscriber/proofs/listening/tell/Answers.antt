@@ -10,5 +10,5 @@ returns-in-Some-clause-tells g c =
     let s = c.args.watch.now in
     let counts : record { messages = 0; since = 0; naks = 0; lost = c.lost.result; strangers = c.strangers.result; refused = c.new.result } ≡ waiting_counts s =
     λ i. record { messages = 0; since = 0; naks = 0; lost = c.lost.ensures i; strangers = c.strangers.ensures i; refused = c.new.ensures i } in
-    let told = subst (λ (x : Counts). OnOk c.tell_waiting.result (Appends (g.E.Write.contents c.args.errors.now) (g.E.Write.contents c.tell_waiting.new.errors) (waiting_line x))) counts c.tell_waiting.ensures in
+    let told = subst (λ (x : Counts). OnOk c.tell.result (Appends (g.E.Write.contents c.args.errors.now) (g.E.Write.contents c.tell.new.errors) (waiting_line x))) counts c.tell.ensures in
     told_due c.args.plan.now 0 _ s c.tells.new.self c.tells.result _ _ c.in-Some.is c.tells.ensures.due c.tells.ensures.begins told
