@@ -12,7 +12,7 @@ use Rattle.receiver.specs.Lives as meant
 use Rattle.receiver.specs.Lives.{IsHonest, IsStream, PollsARun, Stream}
 use Rattle.sender_meaning.specs.Lives.{IsSpelled, SetupsAreHonest}
 use Rattle.sender_meaning.specs.StreamLives.{StreamGivesHonest, given_in_all}
-use Rattle.subscription.specs.Meetings.{id_of, window_in}
+use Rattle.subscriber.specs.Meetings.{id_of, window_in}
 use Rattle.subscriber.specs.Living.{AreLives, Life, WritesLives}
 use Rattle.channel_meaning.specs.Streams.{GivesRun, IsFromIt, PublishesItsStream, StandsFrom, WritesWhatIsRead, farewell, GoesThrough}
 use Rattle.channel_meaning.proofs.Runs.{run_in}

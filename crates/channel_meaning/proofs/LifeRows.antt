@@ -22,7 +22,7 @@ use Rattle.receiver.specs.Representing.{Core, RepresentsOpened, with_image}
 use Rattle.receiver.specs.Subscribing.{AssemblesFor, RepresentsSubscriber, Subscribing, SubscriberBecomes}
 use Rattle.receiver.specs.declared.receiver_core.Outcome.TheVariants as outcomes
 use Rattle.sender_meaning.proofs.StreamRows.{ab, spelled, two}
-use Rattle.subscription.specs.Meetings.{HasMet}
+use Rattle.subscriber.specs.Meetings.{HasMet}
 use Rattle.subscriber.specs.Living.{IsLife, Life, WritesLives}
 use Rattle.channel_meaning.specs.Streams.{IsFromIt, farewell}
 use Rattle.channel_meaning.proofs.SentRows.{data_bytes, first_frame, second_frame, setup_bytes}

@@ -13,11 +13,10 @@ use Rattle.peer.specs.declared.ending.Ending.{Ending as Published}
 use Rattle.peer.specs.declared.ending.Ending.TheVariants as published
 use Rattle.publisher.specs.declared.fault.PublishFault.{PublishFault}
 use Rattle.subscriber.specs.Endings.{HasEnded}
-use Rattle.subscriber.specs.Living.{WritesLives}
-use Rattle.subscriber.specs.Writings.{Writes}
-use Rattle.subscriber.specs.declared.ended.Ending.{Ending as EndedAs}
-use Rattle.subscriber.specs.declared.ended.Ending.TheVariants as subscribed
-use Rattle.subscriber.specs.declared.ended.Subscribed.{Subscribed}
+use Rattle.subscriber.specs.Living.{WritesLives, Writes}
+use Rattle.subscriber.specs.declared.ending.Ending.{Ending as EndedAs}
+use Rattle.subscriber.specs.declared.ending.Ending.TheVariants as subscribed
+use Rattle.subscriber.specs.declared.ending.Subscribed.{Subscribed}
 use Rattle.subscriber.specs.declared.fault.SubscribeFault.{SubscribeFault}
 use Rattle.command_line.specs.declared.readers.Reader.{Reader}
 use Rattle.commands.specs.Done.{IsDone, IsDoneBy, IsShort, IsShortBy, IsSubscribed}

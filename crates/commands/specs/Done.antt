@@ -15,11 +15,10 @@ use Rattle.options.specs.declared.ends.plans.SubscribePlan.{SubscribePlan}
 use Rattle.run.specs.declared.outcome.Ending.TheVariants as ran
 use Rattle.publisher.specs.Ended.{PublishesAll}
 use Rattle.subscriber.specs.Endings.{HasEnded}
-use Rattle.subscriber.specs.Living.{WritesLives}
-use Rattle.subscriber.specs.Writings.{Writes}
-use Rattle.subscriber.specs.declared.ended.Ending.{Ending as EndedAs}
-use Rattle.subscriber.specs.declared.ended.Ending.TheVariants as subscribed
-use Rattle.subscriber.specs.declared.ended.Subscribed.{Subscribed}
+use Rattle.subscriber.specs.Living.{WritesLives, Writes}
+use Rattle.subscriber.specs.declared.ending.Ending.{Ending as EndedAs}
+use Rattle.subscriber.specs.declared.ending.Ending.TheVariants as subscribed
+use Rattle.subscriber.specs.declared.ending.Subscribed.{Subscribed}
 use Rattle.command_line.specs.CommandLines.{AsksFor}
 use Rattle.command_line.specs.Lines.{IsPublishOf, IsSubscribeOf, publish_app, subscribe_app}
 use Rattle.command_line.specs.Readers.{help_line, reader_of}

@@ -3,9 +3,9 @@ use Rattle.std.specs.Prelude.{◌≡◌, ◌≢◌, ◌≤◌, ◌↔◌, ◌⊎
 use Rattle.clap.specs.Words.{Kinds, Text, fault_of, matches_of}
 use Rattle.peer.specs.declared.ending.Ending.{Ending as Published}
 use Rattle.peer.specs.declared.ending.Ending.TheVariants as published
-use Rattle.subscriber.specs.declared.ended.Ending.{Ending as EndedAs}
-use Rattle.subscriber.specs.declared.ended.Ending.TheVariants as subscribed
-use Rattle.subscriber.specs.declared.ended.Subscribed.{Subscribed}
+use Rattle.subscriber.specs.declared.ending.Ending.{Ending as EndedAs}
+use Rattle.subscriber.specs.declared.ending.Ending.TheVariants as subscribed
+use Rattle.subscriber.specs.declared.ending.Subscribed.{Subscribed}
 use Rattle.run.specs.declared.outcome.Ending.{Ending as Ran}
 use Rattle.run.specs.declared.outcome.Ending.TheVariants as ran
 use Rattle.std.specs.Borrow.{Bor}

@@ -3,8 +3,8 @@
 ghost use Rattle.std.specs.Prelude.{◌≡◌, ◌≢◌, ◌⊎◌, ◌≤◌, ◌<◌, ◌^◌, [], map, IsTrue};
 ghost use Rattle.clap.specs.Words.{fault_of};
 ghost use Rattle.command_line.specs.Lines.{subscribe_app};
-ghost use Rattle.subscriber.specs.declared.ended.Ending.{Ending as EndedAs};
-ghost use Rattle.subscriber.specs.declared.ended.Ending.TheVariants.{Lost, Whole};
+ghost use Rattle.subscriber.specs.declared.ending.Ending.{Ending as EndedAs};
+ghost use Rattle.subscriber.specs.declared.ending.Ending.TheVariants.{Lost, Whole};
 ghost use Rattle.commands.specs.Done.{IsSubscribed, IsSubscribedTold, SubscribesBy, SubscribesShortBy};
 ghost use Rattle.commands.specs.Statuses.{HasSubscribePlan, IsStatusOf, NoSubscribePlan, RefusesSubscribe, subscribed_as, subscribed_status};
 

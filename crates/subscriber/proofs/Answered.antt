@@ -10,19 +10,19 @@ use Rattle.options.specs.declared.ends.plans.SubscribePlan.{SubscribePlan}
 use Rattle.receiver.specs.Lives.{Act, ActsSo, Hears, Lives, Ticks}
 use Rattle.receiver.specs.Subscribing.{Subscribing}
 use Rattle.peer.specs.Ties.{Offer}
-use Rattle.subscription.specs.Offers.{setup_taken}
-use Rattle.subscription.specs.Watches.{AttendsEach, IsWithinTurn, JudgesEach, Seen, looking}
-use Rattle.subscription.specs.declared.images.Images.{Images}
-use Rattle.subscription.specs.declared.joined.Joined.{Joined}
-use Rattle.subscription.specs.declared.meeting.Meeting.{Meeting}
+use Rattle.subscriber.specs.Offers.{setup_taken}
+use Rattle.subscriber.specs.Losing.{with_device, JudgesTurn}
+use Rattle.subscriber.specs.Watches.{AttendsEach, IsWithinTurn, JudgesEach, Seen, looking}
+use Rattle.subscriber.specs.declared.images.Images.{Images}
+use Rattle.subscriber.specs.declared.images.session.Session.{Session}
+use Rattle.subscriber.specs.declared.listening.setup_offer.SetupOffer.{SetupOffer}
 use Rattle.subscriber.proofs.Leaving.{heard_unpolled, listened}
 use Rattle.subscriber.proofs.Lived.{all_heard, follows_on, lives_on, same_life}
 use Rattle.subscriber.specs.Answering.{AnswersEnd, HasAnswered, IsTicked, TellsPlace, ahead_of}
 use Rattle.subscriber.specs.Leavings.{ListensOn, LivesUnpolled}
 use Rattle.subscriber.specs.Living.{Follows, LivesOn, WritesActs}
-use Rattle.subscriber.specs.Losing.{JudgesTurn}
-use Rattle.subscriber.specs.Turning.{Attends, Considers, ConsidersOffer, Passes, Renews, Resumes, with_device}
-use Rattle.subscriber.specs.declared.standing.Stand.{Stand}
+use Rattle.subscriber.specs.Turning.{Attends, Considers, ConsidersOffer, Passes, Renews, Resumes}
+use Rattle.subscriber.specs.declared.images.session.Stand.{Stand}
 
 pub place_told : (moment now : ℕ) (tells : Type 0) (s : Subscribing) (d : Device) (busy : Bool) (t : Subscribing) (e : Device) → now ≡ ahead_of moment → Cycle ReceiverHears ReceiverTicks now tells s d busy t e → TellsPlace moment s t
 place_told moment now tells s d busy t e is c = record {
@@ -54,13 +54,13 @@ answered_on s t acts h lives = record {
 -- ---- a cycle, and then a look at the end
 
 -- it lived on, answered, and then lines were told
-pub answered_life : (plan : SubscribePlan) (a b c : Option (List ℕ)) (count more : ℕ) (j k l m : Joined) → k.images ≡ j.images → l.images ≡ k.images → m.images ≡ l.images → m.follower ≡ l.follower
+pub answered_life : (plan : SubscribePlan) (a b c : Option (List ℕ)) (count more : ℕ) (j k l m : Session) → k.images ≡ j.images → l.images ≡ k.images → m.images ≡ l.images → m.follower ≡ l.follower
     → Follows plan a count j.images j.follower b → LivesOn plan.end.form count j.follower b more k.follower c → ListensOn k.follower l.follower → Follows plan a more m.images m.follower c
 answered_life plan a b c count more j k l m first second third same h w on =
     let lived : Follows plan a more j.images l.follower c = listened plan a c more j.images k.follower l.follower (follows_on plan a b c count more j.images j.follower k.follower h w) on in
     same_life plan a c more l m third same (subst (λ (n : Images). Follows plan a more n l.follower c) (sym (second ∙ first)) lived)
 
-pub ends_answered : (form : Form) (count more at : ℕ) (before after : Option (List ℕ)) (j k l : Joined) (x : Stand) → k.ended ≡ j.ended → WritesActs form count j.follower.subscriber before more k.follower.subscriber after → IsTicked at k.follower.subscriber → LivesUnpolled k.follower.subscriber l.follower.subscriber → AnswersEnd at k l x
+pub ends_answered : (form : Form) (count more at : ℕ) (before after : Option (List ℕ)) (j k l : Session) (x : Stand) → k.ended ≡ j.ended → WritesActs form count j.follower.subscriber before more k.follower.subscriber after → IsTicked at k.follower.subscriber → LivesUnpolled k.follower.subscriber l.follower.subscriber → AnswersEnd at k l x
     → (IsTrue j.ended → HasAnswered j.follower.subscriber) → IsTrue l.ended → HasAnswered l.follower.subscriber
 ends_answered form count more at before after j k l x same w ticked on a answered so = by_case (a.told so)
   where
@@ -85,37 +85,37 @@ ends_answered form count more at before after j k l x same w ticked on a answere
 -- ---- a SETUP
 
 -- the image and its end are the same
-pub same_answered : (j k : Joined) → k.ended ≡ j.ended → k.follower.subscriber ≡ j.follower.subscriber → (IsTrue j.ended → HasAnswered j.follower.subscriber) → IsTrue k.ended → HasAnswered k.follower.subscriber
+pub same_answered : (j k : Session) → k.ended ≡ j.ended → k.follower.subscriber ≡ j.follower.subscriber → (IsTrue j.ended → HasAnswered j.follower.subscriber) → IsTrue k.ended → HasAnswered k.follower.subscriber
 same_answered j k ended same answered so = subst HasAnswered (sym same) (answered (subst (λ (b : Bool). IsTrue b) ended so))
 
-turned : (plan : SubscribePlan) (s t : Seen) (m : Meeting) (rebuilt : ℕ) (j k : Joined) → Passes s m rebuilt j k t ⊎ Resumes s m rebuilt j k t ⊎ Renews plan s m rebuilt j k t → (IsTrue j.ended → HasAnswered j.follower.subscriber) → IsTrue k.ended → HasAnswered k.follower.subscriber
+turned : (plan : SubscribePlan) (s t : Seen) (m : SetupOffer) (rebuilt : ℕ) (j k : Session) → Passes s m rebuilt j k t ⊎ Resumes s m rebuilt j k t ⊎ Renews plan s m rebuilt j k t → (IsTrue j.ended → HasAnswered j.follower.subscriber) → IsTrue k.ended → HasAnswered k.follower.subscriber
 turned plan s t m rebuilt j k (inl p) h = same_answered j k (ap (λ x. x.ended) p.warns.kept) (ap (λ x. x.follower.subscriber) p.warns.kept) h
 turned plan s t m rebuilt j k (inr (inl p)) h = same_answered j k (ap (λ x. x.ended) p.tied) (ap (λ x. x.follower.subscriber) p.tied) h
 turned plan s t m rebuilt j k (inr (inr p)) h = λ so. let not = p.replaced.renewed.ended in cc
 
-considered : (plan : SubscribePlan) (from : SocketAddr) (f : Setup) (s t : Seen) (j k : Joined) → Considers plan s from f j k t → (IsTrue j.ended → HasAnswered j.follower.subscriber) → IsTrue k.ended → HasAnswered k.follower.subscriber
+considered : (plan : SubscribePlan) (from : SocketAddr) (f : Setup) (s t : Seen) (j k : Session) → Considers plan s from f j k t → (IsTrue j.ended → HasAnswered j.follower.subscriber) → IsTrue k.ended → HasAnswered k.follower.subscriber
 considered plan from f s t j k (inl p) h = same_answered j k (ap (λ x. x.ended) p.1) (ap (λ x. x.follower.subscriber) p.1) h
 considered plan from f s t j k (inr p) h = turned plan s t p.0 p.2.0 j k p.2.2 h
 
-offered : (plan : SubscribePlan) (s t : Seen) (offer : Offer) (j k : Joined) → ConsidersOffer plan s offer j k t → (IsTrue j.ended → HasAnswered j.follower.subscriber) → IsTrue k.ended → HasAnswered k.follower.subscriber
+offered : (plan : SubscribePlan) (s t : Seen) (offer : Offer) (j k : Session) → ConsidersOffer plan s offer j k t → (IsTrue j.ended → HasAnswered j.follower.subscriber) → IsTrue k.ended → HasAnswered k.follower.subscriber
 offered plan s t None j k p h = same_answered j k (ap (λ x. x.ended) p.0) (ap (λ x. x.follower.subscriber) p.0) h
 offered plan s t (Some offer) j k p h = considered plan offer.0 offer.1 s t j k p h
 
-pub attended_answered : (plan : SubscribePlan) (s t : Seen) (j k : Joined) → Attends plan s j k t → (IsTrue j.ended → HasAnswered j.follower.subscriber) → IsTrue k.ended → HasAnswered k.follower.subscriber
+pub attended_answered : (plan : SubscribePlan) (s t : Seen) (j k : Session) → Attends plan s j k t → (IsTrue j.ended → HasAnswered j.follower.subscriber) → IsTrue k.ended → HasAnswered k.follower.subscriber
 attended_answered plan s t j k p h = offered plan s p.2 p.0 (with_device j (setup_taken j.duty.device)) k p.3 h
 
 -- ---- turns
 
-turned_within : (plan : SubscribePlan) (s t : Seen) (m : Meeting) (rebuilt : ℕ) (j k : Joined) → Passes s m rebuilt j k t ⊎ Resumes s m rebuilt j k t ⊎ Renews plan s m rebuilt j k t → IsWithinTurn s t
+turned_within : (plan : SubscribePlan) (s t : Seen) (m : SetupOffer) (rebuilt : ℕ) (j k : Session) → Passes s m rebuilt j k t ⊎ Resumes s m rebuilt j k t ⊎ Renews plan s m rebuilt j k t → IsWithinTurn s t
 turned_within plan s t m rebuilt j k (inl p) = record { turns = ap (λ x. x.turns) p.seen; attended = ap (λ x. x.attended) p.seen; judged = ap (λ x. x.judged) p.seen }
 turned_within plan s t m rebuilt j k (inr (inl p)) = record { turns = ap (λ x. x.turns) p.seen; attended = ap (λ x. x.attended) p.seen; judged = ap (λ x. x.judged) p.seen }
 turned_within plan s t m rebuilt j k (inr (inr p)) = record { turns = ap (λ x. x.turns) p.seen; attended = ap (λ x. x.attended) p.seen; judged = ap (λ x. x.judged) p.seen }
 
-considered_within : (plan : SubscribePlan) (from : SocketAddr) (f : Setup) (s t : Seen) (j k : Joined) → Considers plan s from f j k t → IsWithinTurn s t
+considered_within : (plan : SubscribePlan) (from : SocketAddr) (f : Setup) (s t : Seen) (j k : Session) → Considers plan s from f j k t → IsWithinTurn s t
 considered_within plan from f s t j k (inl p) = record { turns = ap (λ x. x.turns) p.2; attended = ap (λ x. x.attended) p.2; judged = ap (λ x. x.judged) p.2 }
 considered_within plan from f s t j k (inr p) = turned_within plan s t p.0 p.2.0 j k p.2.2
 
-offered_within : (plan : SubscribePlan) (s t : Seen) (offer : Offer) (j k : Joined) → ConsidersOffer plan s offer j k t → IsWithinTurn s t
+offered_within : (plan : SubscribePlan) (s t : Seen) (offer : Offer) (j k : Session) → ConsidersOffer plan s offer j k t → IsWithinTurn s t
 offered_within plan s t None j k p = record { turns = ap (λ x. x.turns) p.1; attended = ap (λ x. x.attended) p.1; judged = ap (λ x. x.judged) p.1 }
 offered_within plan s t (Some offer) j k p = considered_within plan offer.0 offer.1 s t j k p
 
@@ -126,7 +126,7 @@ pub record HasJudged (s t : Seen) : Type 0 where
   pub judged : t.judged ≡ (s.judged + 1) % 2 ^ 64
 
 -- and then nothing else was but that lines were told
-pub has_judged : (s t u : Seen) (j k : Joined) → JudgesTurn s j k t → IsWithinTurn t u → HasJudged s u
+pub has_judged : (s t u : Seen) (j k : Session) → JudgesTurn s j k t → IsWithinTurn t u → HasJudged s u
 has_judged s t u j k h told = record {
   turns = told.turns ∙ ap (λ x. x.turns) h.counted ∙ h.within.turns;
   attended = told.attended ∙ ap (λ x. x.attended) h.counted ∙ h.within.attended;
@@ -134,7 +134,7 @@ has_judged s t u j k h told = record {
 }
 
 -- a turn begins, and what came of SETUPs in it is attended
-pub turn_attended : (plan : SubscribePlan) (r s a t : Seen) (now : ℕ) (j k : Joined) → r.turns ≡ r.attended → s ≡ looking r now → HasJudged s a → Attends plan a j k t → t.turns ≡ t.attended
+pub turn_attended : (plan : SubscribePlan) (r s a t : Seen) (now : ℕ) (j k : Session) → r.turns ≡ r.attended → s ≡ looking r now → HasJudged s a → Attends plan a j k t → t.turns ≡ t.attended
 turn_attended plan r s a t now j k before looks once p =
     let u = p.2 in
     let so = offered_within plan a u p.0 (with_device j (setup_taken j.duty.device)) k p.3 in
@@ -152,7 +152,7 @@ turn_judged r s a now before looks once =
     once.turns ∙ ap (λ x. x.turns) looks ∙ ap (λ (n : ℕ). (n + 1) % 2 ^ 64) (before ∙ sym (ap (λ x. x.judged) looks)) ∙ sym once.judged
 
 -- what comes of SETUPs is no judgement of that
-pub attended_judged : (plan : SubscribePlan) (s t : Seen) (j k : Joined) → JudgesEach s → Attends plan s j k t → JudgesEach t
+pub attended_judged : (plan : SubscribePlan) (s t : Seen) (j k : Session) → JudgesEach s → Attends plan s j k t → JudgesEach t
 attended_judged plan s t j k each p =
     let so = offered_within plan s p.2 p.0 (with_device j (setup_taken j.duty.device)) k p.3 in
     ap (λ x. x.turns) p.4 ∙ so.turns ∙ each ∙ sym so.judged ∙ sym (ap (λ x. x.judged) p.4)

@@ -11,13 +11,13 @@ use Rattle.receiver.specs.Subscribing.{Subscribing}
 use Rattle.subscriber.proofs.Leaving.{fault_unpolled, none_given}
 use Rattle.subscriber.proofs.Lived.{all_polled, delivered_lives, given_on, lives_on, polled_given, spelled_on}
 use Rattle.subscriber.proofs.Told.{none_told, none_told_behind, told_behind, told_first}
-use Rattle.subscription.specs.declared.images.Images.{Images}
+use Rattle.subscriber.specs.declared.images.Images.{Images}
 use Rattle.subscriber.specs.Breaking.{BreaksActs, BreaksLife, BreaksLives, StopsAt, WritesTold, is_ticked, told_in}
 use Rattle.subscriber.specs.Deliveries.{BreaksOff, Ends, FailsBehind, Stops}
 use Rattle.subscriber.specs.Living.{IsLossFrom, IsNumbered, Life, WritesLife, given_through}
-use Rattle.subscriber.specs.declared.delivery.fault.DeliveryFault.{DeliveryFault}
-use Rattle.subscriber.specs.declared.delivery.fault.DeliveryFault.TheVariants as faults
-use Rattle.subscriber.specs.declared.ended.Subscribed.{Subscribed}
+use Rattle.subscriber.specs.declared.images.delivery.DeliveryFault.{DeliveryFault}
+use Rattle.subscriber.specs.declared.images.delivery.DeliveryFault.TheVariants as faults
+use Rattle.subscriber.specs.declared.ending.Subscribed.{Subscribed}
 use Rattle.subscriber.specs.declared.fault.SubscribeFault.{SubscribeFault}
 
 -- ---- a cycle

@@ -2,11 +2,11 @@
 use Rattle.std.proofs.Common.{◌≡◌, ◌≤◌, ◌-◌, ◌^◌, ℕ, Bool, IsTrue, subst, Option, None, Some, true, false, inl, inr, refl, arith, lit≤}
 use Rattle.options.specs.declared.ends.plans.SubscribePlan.{SubscribePlan}
 use Rattle.subscriber.specs.Answering.{ahead_of}
-use Rattle.subscription.specs.Watches.{Seen}
+use Rattle.subscriber.specs.Watches.{Seen}
 use Rattle.subscriber.specs.Leavings.{HasEnough, IsEnding, IsQuietEnding}
 use Rattle.subscriber.specs.Standing.{HasAll, HasAllUpTo}
-use Rattle.subscriber.specs.declared.ended.Ending.TheVariants.{Whole, Short, Lost}
-use Rattle.subscriber.specs.declared.standing.Stand.{Stand}
+use Rattle.subscriber.specs.declared.ending.Ending.TheVariants.{Whole, Short, Lost}
+use Rattle.subscriber.specs.declared.images.session.Stand.{Stand}
 
 -- an end at which both stand
 all_there : HasAllUpTo (Some 96) 96 96

@@ -20,13 +20,13 @@ use Rattle.receiver.specs.Receiving.{Meets, MeetsAll, MeetsFrame, MeetsHeartbeat
 use Rattle.receiver.specs.Subscribing.{RepresentsSubscriber, Subscribing}
 use Rattle.receiver.specs.declared.receiver_core.Outcome.{Outcome}
 use Rattle.subscriber.proofs.Lived.{all_heard, all_in, follows_on, heard_on, life_ended, life_on, lives_on}
-use Rattle.subscription.proofs.Parties.{subscribers_cycle}
-use Rattle.subscription.specs.Followers.{FollowerHears, FollowerTicks, HasNoted}
-use Rattle.subscription.specs.declared.follower.Follower.{Follower}
-use Rattle.subscription.specs.declared.images.Images.{Images}
+use Rattle.subscriber.proofs.Parties.{subscribers_cycle}
+use Rattle.subscriber.specs.Followers.{FollowerHears, FollowerTicks, HasNoted}
+use Rattle.subscriber.specs.declared.images.follower.Follower.{Follower}
+use Rattle.subscriber.specs.declared.images.Images.{Images}
 use Rattle.subscriber.specs.Leavings.{AreUnpolled, KeepsConsumers, ListensOn, LivesUnpolled, StandsStill}
 use Rattle.subscriber.specs.Living.{Follows, WritesActs, WritesLife, WritesLives}
-use Rattle.subscriber.specs.declared.ended.Subscribed.{Subscribed}
+use Rattle.subscriber.specs.declared.ending.Subscribed.{Subscribed}
 use Rattle.subscriber.specs.declared.fault.SubscribeFault.{SubscribeFault}
 
 -- ---- consumers that nobody moves

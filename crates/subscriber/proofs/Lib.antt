@@ -1,3 +1,12 @@
+pub mod Openings
+pub mod Windows
+pub mod Calling
+pub mod Repeaters
+mod Repeated
+mod BehindRows
+pub mod Due
+pub mod Ends
+pub mod Parties
 pub mod Writing
 pub mod Written
 pub mod Patience

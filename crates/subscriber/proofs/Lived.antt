@@ -16,25 +16,26 @@ use Rattle.agents.specs.Cycles.{HearsAll}
 use Rattle.agents.specs.Parties.{ReceiverHears}
 use Rattle.receiver.specs.Subscribing.{Subscribing}
 use Rattle.receiver.specs.Lives.{Act, Gives, GivesNone, Hears, Lives, Ticks, given_in, heard_in}
-use Rattle.subscription.specs.Calls.{IsJoined, IsMeeting}
+use Rattle.subscriber.specs.Calls.{IsJoined, IsMeeting}
 use Rattle.subscriber.specs.Endings.{EndsSo}
-use Rattle.subscriber.specs.declared.ended.Ending.{Ending}
-use Rattle.subscriber.specs.declared.ended.Ending.TheVariants.{Lost, Short, Whole}
+use Rattle.subscriber.specs.declared.ending.Ending.{Ending}
+use Rattle.subscriber.specs.declared.ending.Ending.TheVariants.{Lost, Short, Whole}
 use Rattle.subscriber.specs.Deliveries.{Delivers, PollsAll, PollsNone, WritesAndNotes, WritesFirst}
 use Rattle.subscriber.specs.Living.{AreLives, AreUnlost, Follows, IsLossFrom, IsLossTo, IsNumbered, Life, LosesNothing, LivesOn, WritesActs, WritesLife, WritesLives, given_through, missing_through}
-use Rattle.subscriber.specs.Turning.{Attends, Considers, ConsidersOffer, IsLoss, Passes, Renews, Replaces, Resumes, with_device}
-use Rattle.subscription.specs.Images.{has_lost, missing_with, next}
-use Rattle.subscription.specs.declared.images.Images.{Images}
-use Rattle.subscription.specs.declared.images.Loss.{Loss}
+use Rattle.subscriber.specs.Turning.{Attends, Considers, ConsidersOffer, IsLoss, Passes, Renews, Replaces, Resumes}
+use Rattle.subscriber.specs.Offers.{SubscriberDevice, setup_taken}
+use Rattle.subscriber.specs.Losing.{with_device}
+use Rattle.subscriber.specs.Images.{has_lost, missing_with, next}
+use Rattle.subscriber.specs.declared.images.Images.{Images}
+use Rattle.subscriber.specs.declared.images.Loss.{Loss}
 use Rattle.peer.specs.Ties.{Offer}
-use Rattle.subscription.specs.Offers.{SubscriberDevice, setup_taken}
-use Rattle.subscription.proofs.Ends.{ends_on, greatest_end}
-use Rattle.subscription.specs.Followers.{HasNoted, IsGreatestEnd, NotesEnds}
-use Rattle.subscription.specs.declared.follower.Follower.{Follower}
-use Rattle.subscription.specs.Watches.{Seen}
-use Rattle.subscriber.specs.declared.delivery.Delivered.{Delivered}
-use Rattle.subscription.specs.declared.joined.Joined.{Joined}
-use Rattle.subscription.specs.declared.meeting.Meeting.{Meeting}
+use Rattle.subscriber.proofs.Ends.{ends_on, greatest_end}
+use Rattle.subscriber.specs.Followers.{HasNoted, IsGreatestEnd, NotesEnds}
+use Rattle.subscriber.specs.declared.images.follower.Follower.{Follower}
+use Rattle.subscriber.specs.Watches.{Seen}
+use Rattle.subscriber.specs.declared.images.delivery.Delivered.{Delivered}
+use Rattle.subscriber.specs.declared.images.session.Session.{Session}
+use Rattle.subscriber.specs.declared.listening.setup_offer.SetupOffer.{SetupOffer}
 
 -- ---- lives one behind the other
 
@@ -134,7 +135,7 @@ pub spelled_on : (form : Form) (xs ys : List (List ℕ)) → spelling form (xs +
 spelled_on form xs ys = flat_map-append (spelled form) xs ys
 
 -- the first image
-pub joined_life : (plan : SubscribePlan) (s : Seen) (j : Joined) (before : Option (List ℕ)) → IsJoined plan s j → Follows plan before 0 j.images j.follower before
+pub joined_life : (plan : SubscribePlan) (s : Seen) (j : Session) (before : Option (List ℕ)) → IsJoined plan s j → Follows plan before 0 j.images j.follower before
 joined_life plan s j before h = record {
   life = record {
     newest = record { setup = setup_of h.meeting.setup; opening = h.meeting.opening; number = 0; moment = s.moment; acts = []; loss = None };
@@ -189,7 +190,7 @@ follows_on plan a b c count more number f g h w = record {
 }
 
 -- what is missing behind an image
-lost_from : (s : Seen) (m : Meeting) (j : Joined) (loss : Option Loss) → IsLoss s m j loss → IsLossFrom j.follower.subscriber loss
+lost_from : (s : Seen) (m : SetupOffer) (j : Session) (loss : Option Loss) → IsLoss s m j loss → IsLossFrom j.follower.subscriber loss
 lost_from s m j loss (inl (left, (place, stands, is))) = subst (IsLossFrom j.follower.subscriber) (sym is) (by_order (nat_lt place m.opening.position) refl)
   where
     by_order : (b : Bool) → nat_lt place m.opening.position ≡ b → IsLossFrom j.follower.subscriber (if b then Some (record { from = place; to = m.opening.position }) else None)
@@ -197,7 +198,7 @@ lost_from s m j loss (inl (left, (place, stands, is))) = subst (IsLossFrom j.fol
     by_order false more = tt
 lost_from s m j loss (inr (stays, is)) = subst (IsLossFrom j.follower.subscriber) (sym is) tt
 
-lost_to : (s : Seen) (m : Meeting) (j : Joined) (loss : Option Loss) → IsLoss s m j loss → IsLossTo loss m.opening.position
+lost_to : (s : Seen) (m : SetupOffer) (j : Session) (loss : Option Loss) → IsLoss s m j loss → IsLossTo loss m.opening.position
 lost_to s m j loss (inl (left, (place, stands, is))) = subst (λ x. IsLossTo x m.opening.position) (sym is) (by_order (nat_lt place m.opening.position))
   where
     by_order : (b : Bool) → IsLossTo (if b then Some (record { from = place; to = m.opening.position }) else None) m.opening.position
@@ -206,7 +207,7 @@ lost_to s m j loss (inl (left, (place, stands, is))) = subst (λ x. IsLossTo x m
 lost_to s m j loss (inr (stays, is)) = subst (λ x. IsLossTo x m.opening.position) (sym is) tt
 
 -- a SETUP opened another image in its place
-renewed : (plan : SubscribePlan) (from : SocketAddr) (f : Setup) (s : Seen) (m : Meeting) (a b : Option (List ℕ)) (count : ℕ) (j k : Joined) → IsMeeting plan from f m → Replaces plan s m j k → Follows plan a count j.images j.follower b → Follows plan a count k.images k.follower b
+renewed : (plan : SubscribePlan) (from : SocketAddr) (f : Setup) (s : Seen) (m : SetupOffer) (a b : Option (List ℕ)) (count : ℕ) (j k : Session) → IsMeeting plan from f m → Replaces plan s m j k → Follows plan a count j.images j.follower b → Follows plan a count k.images k.follower b
 renewed plan from f s m a b count j k meeting x follows =
     let h = follows.life in
     let r = x.renewed in
@@ -236,31 +237,31 @@ renewed plan from f s m a b count j k meeting x follows =
     numbered_on (m ∷ ms) n = n
 
 -- the image is the same
-pub same_life : (plan : SubscribePlan) (a b : Option (List ℕ)) (count : ℕ) (j k : Joined) → k.images ≡ j.images → k.follower ≡ j.follower → Follows plan a count j.images j.follower b → Follows plan a count k.images k.follower b
+pub same_life : (plan : SubscribePlan) (a b : Option (List ℕ)) (count : ℕ) (j k : Session) → k.images ≡ j.images → k.follower ≡ j.follower → Follows plan a count j.images j.follower b → Follows plan a count k.images k.follower b
 same_life plan a b count j k number same h = subst (λ n. Follows plan a count n k.follower b) (sym number) (subst (λ x. Follows plan a count j.images x b) (sym same) h)
 
-kept_life : (plan : SubscribePlan) (a b : Option (List ℕ)) (count : ℕ) (j k : Joined) → k ≡ j → Follows plan a count j.images j.follower b → Follows plan a count k.images k.follower b
+kept_life : (plan : SubscribePlan) (a b : Option (List ℕ)) (count : ℕ) (j k : Session) → k ≡ j → Follows plan a count j.images j.follower b → Follows plan a count k.images k.follower b
 kept_life plan a b count j k kept h = same_life plan a b count j k (ap (λ x. x.images) kept) (ap (λ x. x.follower) kept) h
 
-turned_life : (plan : SubscribePlan) (from : SocketAddr) (f : Setup) (s t : Seen) (m : Meeting) (a b : Option (List ℕ)) (count rebuilt : ℕ) (j k : Joined) → IsMeeting plan from f m → Passes s m rebuilt j k t ⊎ Resumes s m rebuilt j k t ⊎ Renews plan s m rebuilt j k t → Follows plan a count j.images j.follower b → Follows plan a count k.images k.follower b
+turned_life : (plan : SubscribePlan) (from : SocketAddr) (f : Setup) (s t : Seen) (m : SetupOffer) (a b : Option (List ℕ)) (count rebuilt : ℕ) (j k : Session) → IsMeeting plan from f m → Passes s m rebuilt j k t ⊎ Resumes s m rebuilt j k t ⊎ Renews plan s m rebuilt j k t → Follows plan a count j.images j.follower b → Follows plan a count k.images k.follower b
 turned_life plan from f s t m a b count rebuilt j k meeting (inl p) h = same_life plan a b count j k (ap (λ x. x.images) p.warns.kept) (ap (λ x. x.follower) p.warns.kept) h
 turned_life plan from f s t m a b count rebuilt j k meeting (inr (inl p)) h = same_life plan a b count j k (ap (λ x. x.images) p.tied) (ap (λ x. x.follower) p.tied) h
 turned_life plan from f s t m a b count rebuilt j k meeting (inr (inr p)) h = renewed plan from f s m a b count j k meeting p.replaced h
 
-considered_life : (plan : SubscribePlan) (from : SocketAddr) (f : Setup) (s t : Seen) (a b : Option (List ℕ)) (count : ℕ) (j k : Joined) → Considers plan s from f j k t → Follows plan a count j.images j.follower b → Follows plan a count k.images k.follower b
+considered_life : (plan : SubscribePlan) (from : SocketAddr) (f : Setup) (s t : Seen) (a b : Option (List ℕ)) (count : ℕ) (j k : Session) → Considers plan s from f j k t → Follows plan a count j.images j.follower b → Follows plan a count k.images k.follower b
 considered_life plan from f s t a b count j k (inl p) h = kept_life plan a b count j k p.1 h
 considered_life plan from f s t a b count j k (inr p) h = turned_life plan from f s t p.0 a b count p.2.0 j k p.1 p.2.2 h
 
-offered_life : (plan : SubscribePlan) (s t : Seen) (offer : Offer) (a b : Option (List ℕ)) (count : ℕ) (j k : Joined) → ConsidersOffer plan s offer j k t → Follows plan a count j.images j.follower b → Follows plan a count k.images k.follower b
+offered_life : (plan : SubscribePlan) (s t : Seen) (offer : Offer) (a b : Option (List ℕ)) (count : ℕ) (j k : Session) → ConsidersOffer plan s offer j k t → Follows plan a count j.images j.follower b → Follows plan a count k.images k.follower b
 offered_life plan s t None a b count j k p h = kept_life plan a b count j k p.0 h
 offered_life plan s t (Some offer) a b count j k p h = considered_life plan offer.0 offer.1 s t a b count j k p h
 
 -- whatever came of the SETUP that came in a cycle
-pub attended_life : (plan : SubscribePlan) (s t : Seen) (a b : Option (List ℕ)) (count : ℕ) (j k : Joined) → Attends plan s j k t → Follows plan a count j.images j.follower b → Follows plan a count k.images k.follower b
+pub attended_life : (plan : SubscribePlan) (s t : Seen) (a b : Option (List ℕ)) (count : ℕ) (j k : Session) → Attends plan s j k t → Follows plan a count j.images j.follower b → Follows plan a count k.images k.follower b
 attended_life plan s t a b count j k p h = offered_life plan s p.2 p.0 a b count (with_device j (setup_taken j.duty.device)) k p.3 h
 
 -- what was new of its status messages was told
-pub told_life : (plan : SubscribePlan) (a b : Option (List ℕ)) (count : ℕ) (j k : Joined) (d : SubscriberDevice) → k ≡ with_device j d → Follows plan a count j.images j.follower b → Follows plan a count k.images k.follower b
+pub told_life : (plan : SubscribePlan) (a b : Option (List ℕ)) (count : ℕ) (j k : Session) (d : SubscriberDevice) → k ≡ with_device j d → Follows plan a count j.images j.follower b → Follows plan a count k.images k.follower b
 told_life plan a b count j k d told h = same_life plan a b count j k (ap (λ x. x.images) told) (ap (λ x. x.follower) told) h
 
 -- ---- to the end

@@ -7,12 +7,12 @@ use Rattle.messages.specs.declared.form.Form.{Form}
 use Rattle.options.specs.declared.ends.plans.SubscribePlan.{SubscribePlan}
 use Rattle.receiver.specs.Lives.{Act, given_in, heard_in}
 use Rattle.receiver.specs.Subscribing.{Subscribing}
-use Rattle.subscription.proofs.Ends.{ends_on}
-use Rattle.subscription.specs.Followers.{HasNoted, NotesEnds}
-use Rattle.subscription.specs.declared.follower.Follower.{Follower}
-use Rattle.subscription.specs.declared.images.Images.{Images}
-use Rattle.subscription.specs.declared.joined.Joined.{Joined}
-use Rattle.subscription.specs.Watches.{Seen}
+use Rattle.subscriber.proofs.Ends.{ends_on}
+use Rattle.subscriber.specs.Followers.{HasNoted, NotesEnds}
+use Rattle.subscriber.specs.declared.images.follower.Follower.{Follower}
+use Rattle.subscriber.specs.declared.images.Images.{Images}
+use Rattle.subscriber.specs.declared.images.session.Session.{Session}
+use Rattle.subscriber.specs.Watches.{Seen}
 use Rattle.subscriber.proofs.Breaking.{acts_kept}
 use Rattle.subscriber.proofs.Leaving.{none_given}
 use Rattle.subscriber.proofs.Lived.{follows_on, given_on, heard_on, lives_on}
@@ -61,14 +61,14 @@ pub unpolled_broken : (form : Form) (count more : ℕ) (a b : Option (List ℕ))
 unpolled_broken form count more a b s m t w l = acts_broken form count more a b s t (unpolled_acts form count more a b s m t w l)
 
 -- an image lived on
-pub looked_life : (plan : SubscribePlan) (a b c : Option (List ℕ)) (count more : ℕ) (j k : Joined) → k.images ≡ j.images → Follows plan a count j.images j.follower b → LivesOn plan.end.form count j.follower b more k.follower c → Follows plan a more k.images k.follower c
+pub looked_life : (plan : SubscribePlan) (a b c : Option (List ℕ)) (count more : ℕ) (j k : Session) → k.images ≡ j.images → Follows plan a count j.images j.follower b → LivesOn plan.end.form count j.follower b more k.follower c → Follows plan a more k.images k.follower c
 looked_life plan a b c count more j k same h w = subst (λ (n : Images). Follows plan a more n k.follower c) (sym same) (follows_on plan a b c count more j.images j.follower k.follower h w)
 
 -- that a silence was told changes nothing else
-pub same_else : (c a s : Joined) → a ≡ record c { follower = a.follower; duty = a.duty; ended = a.ended } → s ≡ record a { silent = s.silent } → s ≡ record c { follower = s.follower; duty = s.duty; ended = s.ended; silent = s.silent }
+pub same_else : (c a s : Session) → a ≡ record c { follower = a.follower; duty = a.duty; ended = a.ended } → s ≡ record a { silent = s.silent } → s ≡ record c { follower = s.follower; duty = s.duty; ended = s.ended; silent = s.silent }
 same_else c a s same told =
-    subst (λ (j : Joined). j ≡ record c { follower = j.follower; duty = j.duty; ended = j.ended; silent = j.silent }) (sym told)
-    (ap (λ (j : Joined). record j { silent = s.silent }) same)
+    subst (λ (j : Session). j ≡ record c { follower = j.follower; duty = j.duty; ended = j.ended; silent = j.silent }) (sym told)
+    (ap (λ (j : Session). record j { silent = s.silent }) same)
 
 pub same_or_not : (a b : ℕ) → (a ≡ b) ⊎ (a ≢ b)
 same_or_not a b = ⊎_elim (λ p. inl p.1) (λ p. inr p.1) (eqb_tells a b)

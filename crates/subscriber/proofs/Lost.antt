@@ -1,13 +1,12 @@
 -- When an image is newly taken for lost.
 use Rattle.std.proofs.Common.{◌≡◌, ◌≢◌, ◌⊎◌, ◌∙◌, ◌-◌, ℕ, Bool, true, false, if◌then◌else◌, IsTrue, inl, inr, refl, sym, ap, subst, arith}
 use Rattle.std.specs.Prelude.{nat_lt}
-use Rattle.subscription.specs.Losses.{IsLeft}
-use Rattle.subscription.specs.Places.{RebuiltTo, lacks}
-use Rattle.subscription.specs.Watches.{IsBehind, Seen, noting}
-use Rattle.subscription.specs.declared.joined.Joined.{Joined}
+use Rattle.subscriber.specs.Losing.{IsLeft, LacksWhereLost}
+use Rattle.subscriber.specs.Standing.{RebuiltTo, lacks}
+use Rattle.subscriber.specs.Watches.{IsBehind, Seen, noting}
+use Rattle.subscriber.specs.declared.images.session.Session.{Session}
 use Rattle.subscriber.proofs.Looked.{same_or_not}
 use Rattle.subscriber.specs.Leavings.{NotesHeard}
-use Rattle.subscriber.specs.Losing.{LacksWhereLost}
 
 -- something that was lacking came at the moment, or nothing was lacking
 abbrev IsKept : Seen → Type 0
@@ -36,7 +35,7 @@ pub lacking : LacksWhereLost
 lacking s t old new h lost fresh = by_loss (h.judges.0 lost)
   where
     behind : IsTrue h.answered.lost ⊎ IsLeft h.noted h.answered → IsBehind h.noted
-    behind (inl was) = absurd (fresh (subst IsTrue (ap (λ (j : Joined). j.lost) h.same ∙ ap (λ (j : Joined). j.lost) h.cycle.same) was))
+    behind (inl was) = absurd (fresh (subst IsTrue (ap (λ (j : Session). j.lost) h.same ∙ ap (λ (j : Session). j.lost) h.cycle.same) was))
     behind (inr left) = left.behind
 
     never : IsBehind h.noted → IsKept h.kept → ⊥

@@ -7,9 +7,9 @@ use Rattle.endpoint.specs.declared.device_error.DeviceError.TheVariants as error
 use Rattle.messages.specs.declared.form.Form.{Form}
 use Rattle.receiver.specs.Subscribing.{Subscribing}
 use Rattle.subscriber.specs.Deliveries.{Ends}
-use Rattle.subscriber.specs.Texts.{of_delivery}
-use Rattle.subscriber.specs.declared.delivery.fault.DeliveryFault.{DeliveryFault}
-use Rattle.subscriber.specs.declared.delivery.fault.DeliveryFault.TheVariants as deliveries
+use Rattle.subscriber.specs.FaultTexts.{of_delivery}
+use Rattle.subscriber.specs.declared.images.delivery.DeliveryFault.{DeliveryFault}
+use Rattle.subscriber.specs.declared.images.delivery.DeliveryFault.TheVariants as deliveries
 use Rattle.subscriber.specs.declared.fault.SubscribeFault.TheVariants as faults
 
 never_grown : (a b : ℕ) → a ≡ 0 → b ≡ 0 → HasGrown a b → ⊥

@@ -6,8 +6,8 @@ use Rattle.std.proofs.lemmas.Grind.{flat_map-append}
 use Rattle.messages.specs.Forms.{spelled, spelling}
 use Rattle.messages.specs.declared.form.Form.{Form}
 use Rattle.receiver.specs.Subscribing.{Subscribing}
-use Rattle.subscriber.specs.declared.delivery.fault.DeliveryFault.{DeliveryFault}
-use Rattle.subscriber.specs.declared.delivery.fault.DeliveryFault.TheVariants as faults
+use Rattle.subscriber.specs.declared.images.delivery.DeliveryFault.{DeliveryFault}
+use Rattle.subscriber.specs.declared.images.delivery.DeliveryFault.TheVariants as faults
 use Rattle.subscriber.specs.Deliveries.{Delivers, Stops, StopsAtOne, PollsOne, PollsAll, Steps}
 
 -- so many messages were polled and written

@@ -5,7 +5,7 @@ use Rattle.std.proofs.KnownBytes.{Appends-nil, Appends-trans}
 use Rattle.std.proofs.lemmas.Grind.{flat_map-append}
 use Rattle.messages.specs.Forms.{spelled}
 use Rattle.messages.specs.declared.form.Form.{Form}
-use Rattle.subscriber.specs.Writings.{Writes}
+use Rattle.subscriber.specs.Living.{Writes}
 
 pub writes_none : (form : Form) (count : ℕ) (before : Option (List ℕ)) → Writes form count before count before
 writes_none form count before = record { messages = []; counted = omega arith; written = Appends-nil before }

@@ -2,11 +2,11 @@
 use Rattle.std.specs.Prelude.{◌≡◌, ◌⊎◌, ◌≤◌, ◌+◌, ◌-◌, ◌^◌, ◌↔◌, ℕ, min, List, IsTrue}
 use Rattle.receiver.specs.Lives.{Act, ActsSo, Lives, Ticks}
 use Rattle.receiver.specs.Subscribing.{Subscribing}
-use Rattle.subscription.specs.Watches.{IsSilent, Seen}
-use Rattle.subscription.specs.declared.joined.Joined.{Joined}
+use Rattle.subscriber.specs.Watches.{IsSilent, Seen}
+use Rattle.subscriber.specs.declared.images.session.Session.{Session}
 use Rattle.subscriber.specs.Leavings.{AreUnpolled, LivesUnpolled}
 use Rattle.subscriber.specs.Standing.{HasAll, Stands}
-use Rattle.subscriber.specs.declared.standing.Stand.{Stand}
+use Rattle.subscriber.specs.declared.images.session.Stand.{Stand}
 
 -- a moment that is ahead by what passes at the most from one status message to the next, so that one is due at it
 abbrev pub ahead_of : ℕ → ℕ
@@ -47,11 +47,11 @@ pub record HasAnswered (t : Subscribing) : Type 0 where
   pub lived : Lives teller since t
 
 -- where it has answered the end that was noted before, it has the one that is noted now
-abbrev pub StaysAnswered : Joined → Joined → Type 0
+abbrev pub StaysAnswered : Session → Session → Type 0
 StaysAnswered old new = (IsTrue old.ended → HasAnswered old.follower.subscriber) → IsTrue new.ended → HasAnswered new.follower.subscriber
 
 -- whether it has all of its stream is noted, and where that is new it tells where it stands; what is heard then is no poll
-pub record AnswersEnd (moment : ℕ) (old new : Joined) (x : Stand) : Type 0 where
+pub record AnswersEnd (moment : ℕ) (old new : Session) (x : Stand) : Type 0 where
   pub before : Stand
   pub stood : Stands old.follower.subscriber old.follower.end before
   pub noted : IsTrue new.ended ↔ HasAll before
@@ -60,6 +60,6 @@ pub record AnswersEnd (moment : ℕ) (old new : Joined) (x : Stand) : Type 0 whe
   pub told : IsTrue new.ended → IsTrue old.ended ⊎ TellsPlace moment old.follower.subscriber new.follower.subscriber
 
 -- that a session is silent is noted while its stream hasn't ended
-pub record NotesSilence (s : Seen) (old new : Joined) : Type 0 where
+pub record NotesSilence (s : Seen) (old new : Session) : Type 0 where
   pub ended : IsTrue old.ended → new.silent ≡ old.silent
   pub going : ¬ IsTrue old.ended → IsTrue new.silent ↔ IsSilent s

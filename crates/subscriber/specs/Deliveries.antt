@@ -10,12 +10,12 @@ use Rattle.endpoint.specs.declared.device_error.DeviceError.{DeviceError}
 use Rattle.receiver.specs.Polling.{Polls}
 use Rattle.receiver.specs.Subscribing.{Subscribing, SubscriberBecomes}
 use Rattle.receiver.specs.declared.poll_error.PollError.TheVariants.{NoImage, Unassembled}
-use Rattle.subscription.specs.Followers.{HasNoted}
-use Rattle.subscription.specs.declared.follower.Follower.{Follower}
+use Rattle.subscriber.specs.Followers.{HasNoted}
+use Rattle.subscriber.specs.declared.images.follower.Follower.{Follower}
 use Rattle.assembler.specs.declared.fault.AssemblyError.{AssemblyError}
-use Rattle.subscriber.specs.declared.delivery.Delivered.{Delivered}
-use Rattle.subscriber.specs.declared.delivery.fault.DeliveryFault.{DeliveryFault}
-use Rattle.subscriber.specs.declared.delivery.fault.DeliveryFault.TheVariants as faults
+use Rattle.subscriber.specs.declared.images.delivery.Delivered.{Delivered}
+use Rattle.subscriber.specs.declared.images.delivery.DeliveryFault.{DeliveryFault}
+use Rattle.subscriber.specs.declared.images.delivery.DeliveryFault.TheVariants as faults
 
 -- a poll that gives this message
 abbrev pub PollsOne : Subscribing → List ℕ → Subscribing → Type 0

@@ -3,19 +3,19 @@ use Rattle.std.specs.Prelude.{◌≡◌, ◌⊎◌, ℕ, Bool, List, Option, Som
 use Rattle.options.specs.declared.ends.plans.SubscribePlan.{SubscribePlan}
 use Rattle.receiver.specs.Lives.{heard_in}
 use Rattle.receiver.specs.Subscribing.{Subscribing}
-use Rattle.subscription.specs.Followers.{IsGreatestEnd}
-use Rattle.subscription.specs.declared.follower.Follower.{Follower}
-use Rattle.subscription.specs.Watches.{IsQuiet, Seen}
+use Rattle.subscriber.specs.Followers.{IsGreatestEnd}
+use Rattle.subscriber.specs.declared.images.follower.Follower.{Follower}
+use Rattle.subscriber.specs.Watches.{IsQuiet, Seen}
 use Rattle.subscriber.specs.Answering.{HasAnswered}
 use Rattle.subscriber.specs.Leavings.{IsEnding, IsQuietEnding}
 use Rattle.subscriber.specs.Living.{AreUnlost, Follows}
 use Rattle.subscriber.specs.Standing.{HasAll, Stands}
-use Rattle.subscriber.specs.declared.ended.Ending.{Ending}
-use Rattle.subscriber.specs.declared.ended.Ending.TheVariants.{Whole}
-use Rattle.subscription.specs.Images.{has_lost}
-use Rattle.subscription.specs.declared.images.Images.{Images}
-use Rattle.subscriber.specs.declared.ended.Subscribed.{Subscribed}
-use Rattle.subscriber.specs.declared.standing.Stand.{Stand}
+use Rattle.subscriber.specs.declared.ending.Ending.{Ending}
+use Rattle.subscriber.specs.declared.ending.Ending.TheVariants.{Whole}
+use Rattle.subscriber.specs.Images.{has_lost}
+use Rattle.subscriber.specs.declared.images.Images.{Images}
+use Rattle.subscriber.specs.declared.ending.Subscribed.{Subscribed}
+use Rattle.subscriber.specs.declared.images.session.Stand.{Stand}
 
 -- it had no image, and was quiet: nothing is written
 pub record EndsWithoutImage (plan : SubscribePlan) (before : Option (List ℕ)) (done : Subscribed) (after : Option (List ℕ)) : Type 0 where

@@ -6,17 +6,17 @@ use Rattle.options.specs.declared.ends.plans.SubscribePlan.{SubscribePlan}
 use Rattle.receiver.specs.Lives.{Act, Gives, GivesNone, Hears, Lives, Ticks, heard_in}
 use Rattle.receiver.specs.Receiving.{Opened, Receiver}
 use Rattle.receiver.specs.Subscribing.{RepresentsSubscriber, Subscribing}
-use Rattle.subscription.specs.Followers.{HasNoted}
-use Rattle.subscription.specs.declared.follower.Follower.{Follower}
-use Rattle.subscription.specs.Watches.{IsQuiet, Seen, hearing, working}
+use Rattle.subscriber.specs.Followers.{HasNoted}
+use Rattle.subscriber.specs.declared.images.follower.Follower.{Follower}
+use Rattle.subscriber.specs.Watches.{IsQuiet, Seen, hearing, working}
 use Rattle.subscriber.specs.Standing.{HasAll}
 use Rattle.subscriber.specs.declared.fault.SubscribeFault.{SubscribeFault}
 use Rattle.subscriber.specs.declared.fault.SubscribeFault.TheVariants.{Taken, NotHere, NoSocket, NoThread, Failed}
 use Rattle.endpoint.specs.declared.device_error.DeviceError.TheVariants.{Device, Memory}
 use Rattle.std.specs.declared.net.SocketAddr.{SocketAddr}
-use Rattle.subscriber.specs.declared.standing.Stand.{Stand}
-use Rattle.subscriber.specs.declared.ended.Ending.{Ending}
-use Rattle.subscriber.specs.declared.ended.Ending.TheVariants.{Whole, Short, Lost}
+use Rattle.subscriber.specs.declared.images.session.Stand.{Stand}
+use Rattle.subscriber.specs.declared.ending.Ending.{Ending}
+use Rattle.subscriber.specs.declared.ending.Ending.TheVariants.{Whole, Short, Lost}
 
 -- frames of the session were counted before a cycle and behind it; where that is another number, one came at the moment
 pub record NotesHeard (before after : ℕ) (old new : Seen) : Type 0 where

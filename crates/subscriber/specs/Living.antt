@@ -7,14 +7,20 @@ use Rattle.messages.specs.declared.form.Form.{Form}
 use Rattle.options.specs.declared.ends.plans.SubscribePlan.{SubscribePlan}
 use Rattle.receiver.specs.Subscribing.{Subscribing}
 use Rattle.receiver.specs.Lives.{Act, Lives, given_in, heard_in}
-use Rattle.subscription.specs.Followers.{HasNoted, NotesEnds}
-use Rattle.subscription.specs.Meetings.{HasMet, Opens}
-use Rattle.subscription.specs.declared.follower.Follower.{Follower}
-use Rattle.subscription.specs.declared.opening.Opening.{Opening}
-use Rattle.subscription.specs.Images.{missing_with, next}
-use Rattle.subscription.specs.declared.images.Images.{Images}
-use Rattle.subscription.specs.declared.images.Loss.{Loss}
+use Rattle.subscriber.specs.Followers.{HasNoted, NotesEnds}
+use Rattle.subscriber.specs.Meetings.{HasMet, Opens}
+use Rattle.subscriber.specs.declared.images.follower.Follower.{Follower}
+use Rattle.subscriber.specs.declared.listening.setup_offer.ImageParams.{ImageParams}
+use Rattle.subscriber.specs.Images.{missing_with, next}
+use Rattle.subscriber.specs.declared.images.Images.{Images}
+use Rattle.subscriber.specs.declared.images.Loss.{Loss}
 use Rattle.subscriber.specs.Standing.{StandsHere}
+
+-- some messages, whole and one after the other, and it has counted them
+pub record Writes (form : Form) (count : ℕ) (before : Option (List ℕ)) (more : ℕ) (after : Option (List ℕ)) : Type 0 where
+  pub messages : List (List ℕ)
+  pub counted : more ≡ count + length messages
+  pub written : Appends before after (spelling form messages)
 
 -- it lived on, and wrote what its polls gave, and counted that
 pub record WritesActs (form : Form) (count : ℕ) (s : Subscribing) (before : Option (List ℕ)) (more : ℕ) (t : Subscribing) (after : Option (List ℕ)) : Type 0 where
@@ -32,7 +38,7 @@ pub record LivesOn (form : Form) (count : ℕ) (f : Follower) (before : Option (
 -- where it was lost
 pub record Life : Type 0 where
   pub setup : Setup
-  pub opening : Opening
+  pub opening : ImageParams
   pub number : ℕ
   pub moment : ℕ
   pub acts : List Act

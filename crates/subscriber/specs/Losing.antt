@@ -1,25 +1,42 @@
 -- What a subscriber makes of an image that lacks what doesn't come.
-use Rattle.std.specs.Prelude.{◌≡◌, ℕ, IsTrue, List, Option, None, Some}
+use Rattle.std.specs.Prelude.{◌≡◌, ℕ, IsTrue, List, Option, None, Some, ◌≢◌, ◌⊎◌, ◌↔◌, true, false}
 use Rattle.theory.specs.Control.{asking_at}
 use Rattle.frames.specs.Frames.{header_of}
 use Rattle.frames.specs.declared.frame.Header.{Header}
 use Rattle.options.specs.declared.ends.plans.SubscribePlan.{SubscribePlan}
 use Rattle.receiver.specs.Lives.{Act, Lives}
-use Rattle.subscription.specs.Images.{next}
-use Rattle.subscription.specs.Losses.{IsLeft, NotesKept, NotesLoss}
-use Rattle.subscription.specs.Meetings.{id_of}
-use Rattle.subscription.specs.Offers.{asked_by}
-use Rattle.subscription.specs.Places.{RebuiltTo, lacks}
-use Rattle.subscription.specs.Watches.{IsHearing, IsWithinTurn, Seen, judging}
-use Rattle.subscription.specs.declared.joined.Joined.{Joined}
+use Rattle.subscriber.specs.Images.{next}
+use Rattle.subscriber.specs.Meetings.{id_of}
+use Rattle.subscriber.specs.Offers.{SubscriberDevice, asked_by}
+use Rattle.subscriber.specs.Standing.{RebuiltTo, lacks}
+use Rattle.subscriber.specs.Watches.{IsHearing, IsWithinTurn, Seen, judging, IsBehind, noting}
+use Rattle.subscriber.specs.declared.images.session.Session.{Session}
 use Rattle.subscriber.specs.Answering.{IsTicked}
 use Rattle.subscriber.specs.Leavings.{ListensOn, NotesHeard, NotesWork}
-use Rattle.subscriber.specs.Turning.{with_device}
+
+-- where the image was rebuilt further, or lacks nothing, that is noted
+pub record NotesKeptAt (before rebuilt : ℕ) (j : Session) (old new : Seen) : Type 0 where
+  pub stands : RebuiltTo j.follower.subscriber rebuilt
+  pub moved : rebuilt ≢ before → new ≡ noting true old
+  pub whole : ¬ IsTrue (lacks j.opening.geometry j.duty.device.notes.last rebuilt) → new ≡ noting true old
+  pub behind : rebuilt ≡ before → IsTrue (lacks j.opening.geometry j.duty.device.notes.last rebuilt) → new ≡ noting false old
+
+abbrev pub NotesKept : ℕ → Session → Seen → Seen → Type 0
+NotesKept before j old new = (rebuilt : ℕ) × NotesKeptAt before rebuilt j old new
+
+-- an image whose stream hasn't ended lacks what doesn't come
+pub record IsLeft (s : Seen) (j : Session) : Type 0 where
+  pub going : ¬ IsTrue j.ended
+  pub behind : IsBehind s
+
+-- an image that is left so is noted as lost, once and for all
+abbrev pub NotesLoss : Seen → Session → Session → Type 0
+NotesLoss s old new = IsTrue new.lost ↔ (IsTrue old.lost ⊎ IsLeft s old)
 
 -- a turn's cycle: what its image's subscriber lived through, last the moment, and what was noted of it. First whether its session
 -- was heard, and a call of its socket worked; then, by how far the image was rebuilt before it and how far it is now, whether the
 -- image lacks nothing, or something that it lacked came
-pub record NotesCycle (s : Seen) (old cycled : Joined) (kept : Seen) : Type 0 where
+pub record NotesCycle (s : Seen) (old cycled : Session) (kept : Seen) : Type 0 where
   pub acts : List Act
   pub lived : Lives old.follower.subscriber acts cycled.follower.subscriber
   pub ticked : IsTicked s.moment cycled.follower.subscriber
@@ -34,11 +51,11 @@ pub record NotesCycle (s : Seen) (old cycled : Joined) (kept : Seen) : Type 0 wh
 
 -- and then, behind the answer to the stream's end, in which the session may be heard again, it is judged once, by what was noted,
 -- whether the image is lost
-pub record JudgesTurn (s : Seen) (old new : Joined) (t : Seen) : Type 0 where
-  pub cycled : Joined
+pub record JudgesTurn (s : Seen) (old new : Session) (t : Seen) : Type 0 where
+  pub cycled : Session
   pub kept : Seen
   pub cycle : NotesCycle s old cycled kept
-  pub answered : Joined
+  pub answered : Session
   pub listens : ListensOn cycled.follower answered.follower
   pub same : answered ≡ record cycled { follower = answered.follower; duty = answered.duty; ended = answered.ended; silent = answered.silent }
   pub noted : Seen
@@ -51,18 +68,22 @@ pub record JudgesTurn (s : Seen) (old new : Joined) (t : Seen) : Type 0 where
 
 -- so an image is newly taken for lost only where its cycle rebuilt nothing more, and what it lacks was heard of
 abbrev pub LacksWhereLost : Type 0
-LacksWhereLost = (s t : Seen) (old new : Joined) → (h : JudgesTurn s old new t) → IsTrue new.lost → ¬ IsTrue old.lost
+LacksWhereLost = (s t : Seen) (old new : Session) → (h : JudgesTurn s old new t) → IsTrue new.lost → ¬ IsTrue old.lost
     → RebuiltTo h.cycled.follower.subscriber h.cycle.before × IsTrue (lacks h.cycled.opening.geometry h.cycled.duty.device.notes.last h.cycle.before)
 
+-- a session with this device
+abbrev pub with_device : Session → SubscriberDevice → Session
+with_device j d = record j { duty = record (j.duty) { device = d } }
+
 -- at each frame of its session its peer is asked for a SETUP, with the frame's place, under the id of the next image
-pub record IsAskedFor (s : Seen) (j : Joined) : Type 0 where
+pub record IsAskedFor (s : Seen) (j : Session) : Type 0 where
   pub left : IsLeft s j
   pub hearing : IsHearing s
 
-abbrev pub Asks : SubscribePlan → Option Header → Joined → Joined → Type 0
+abbrev pub Asks : SubscribePlan → Option Header → Session → Session → Type 0
 Asks plan None old new = new ≡ old
 Asks plan (Some h) old new = new ≡ with_device old (asked_by old.duty.device (asking_at (header_of h) (id_of plan (next old.images.number))))
 
-pub record AsksAnew (plan : SubscribePlan) (s : Seen) (old new : Joined) : Type 0 where
+pub record AsksAnew (plan : SubscribePlan) (s : Seen) (old new : Session) : Type 0 where
   pub asks : IsAskedFor s old → Asks plan old.duty.device.notes.last old new
   pub quiet : ¬ IsAskedFor s old → new ≡ old

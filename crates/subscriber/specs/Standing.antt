@@ -1,9 +1,38 @@
 -- Where a subscriber with an image stands, and when it has all of its stream.
-use Rattle.std.specs.Prelude.{◌≡◌, ◌≤◌, ℕ, Option, None, Some}
-use Rattle.receiver.specs.Receiving.{Receiver}
+use Rattle.std.specs.Prelude.{◌≡◌, ◌≤◌, ℕ, Option, None, Some, ℤ, pos, negsuc, nat_lt, Bool, false}
+use Rattle.receiver.specs.Receiving.{Receiver, Opened}
 use Rattle.receiver.specs.Subscribing.{RepresentsSubscriber, Subscribing}
-use Rattle.subscription.specs.Places.{RebuiltTo, StandsAt}
-use Rattle.subscriber.specs.declared.standing.Stand.{Stand}
+use Rattle.subscriber.specs.declared.images.session.Stand.{Stand}
+use Rattle.theory.specs.Consumer.{least_of}
+use Rattle.theory.specs.Control.{named_by}
+use Rattle.theory.specs.Position.{Geometry}
+use Rattle.theory.specs.Units.{IsContiguous}
+use Rattle.frames.specs.Frames.{header_of}
+use Rattle.frames.specs.declared.frame.Header.{Header}
+
+-- where the consumer of an image stands, the least one; 0 without an image
+abbrev pub StandsAt : Option Opened → ℕ → Type 0
+StandsAt None at = at ≡ 0
+StandsAt (Some o) at = at ≡ least_of o.image.consumers
+
+-- how far an image is rebuilt; 0 without an image
+abbrev pub IsRebuiltTo : Option Opened → ℕ → Type 0
+IsRebuiltTo None at = at ≡ 0
+IsRebuiltTo (Some o) at = IsContiguous o.image.stored o.image.join at
+
+-- the image of a subscriber is
+abbrev pub RebuiltTo : Subscribing → ℕ → Type 0
+RebuiltTo s at = (r : Receiver) → RepresentsSubscriber s r → IsRebuiltTo r.image at
+
+-- a position lies above this one
+abbrev pub lies_above : ℤ → ℕ → Bool
+lies_above (pos p) rebuilt = nat_lt rebuilt p
+lies_above (negsuc n) rebuilt = false
+
+-- of a stream of this shape a frame was heard last that begins above what is rebuilt: something before it is lacking
+abbrev pub lacks : Geometry → Option Header → ℕ → Bool
+lacks g None rebuilt = false
+lacks g (Some h) rebuilt = lies_above (named_by g (header_of h)) rebuilt
 
 -- its consumer stands here
 abbrev pub StandsHere : Subscribing → ℕ → Type 0

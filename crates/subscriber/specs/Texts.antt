@@ -1,39 +1,138 @@
--- What a user reads of a fault, and of a silence.
-use Rattle.std.specs.Prelude.{ℕ, ℤ, Bool, true, false, List, Option, None, ◌++◌, codes}
+-- What a subscriber tells on its error output.
+use Rattle.std.specs.Prelude.{◌≡◌, ℕ, ℤ, Bool, true, false, List, [], ◌∷◌, ◌++◌, Option, None, Some, codes, decimal}
+use Rattle.std.specs.Fmt.{signed_decimal}
 use Rattle.std.specs.Net.Text.{socket_text}
-use Rattle.endpoint.specs.Texts as devices
-use Rattle.subscription.specs.Texts.{again_line, silent_line}
-use Rattle.subscriber.specs.declared.delivery.fault.DeliveryFault.{DeliveryFault}
-use Rattle.subscriber.specs.declared.delivery.fault.DeliveryFault.TheVariants as deliveries
-use Rattle.subscriber.specs.declared.fault.SubscribeFault.{SubscribeFault}
-use Rattle.subscriber.specs.declared.fault.SubscribeFault.TheVariants.{Taken, NotHere, Output, Message, NoSocket, NoThread, Failed}
+use Rattle.std.specs.declared.net.SocketAddr.{SocketAddr}
+use Rattle.frames.specs.FaultCounts.{counts_text, uncounted}
+use Rattle.frames.specs.declared.fault_counts.FaultCounts.{FaultCounts}
+use Rattle.receiver.specs.declared.positions.Positions.{Positions}
+use Rattle.peer.specs.Texts.{joined}
+use Rattle.subscriber.specs.Watches.{Seen}
+use Rattle.subscriber.specs.declared.images.Loss.{Loss}
+use Rattle.text.specs.Paces.{pace_text}
+use Rattle.subscriber.specs.declared.reporting.Counted.{Counted}
+use Rattle.subscriber.specs.declared.reporting.Counts.{Counts}
+use Rattle.subscriber.specs.declared.reporting.Line.{Line}
+use Rattle.subscriber.specs.declared.reporting.Line.TheVariants as lines
+use Rattle.subscriber.specs.declared.reporting.SessionId.{SessionId}
+use Rattle.subscriber.specs.declared.reporting.Totals.{Totals}
+use Rattle.subscriber.specs.declared.reporting.Unfinished.{Unfinished}
 
-abbrev pub text_of : SubscribeFault → List ℕ
-text_of (Taken address) = socket_text address ++ codes " is in use"
-text_of (NotHere address) = socket_text address ++ codes " isn't an address of this machine"
-text_of (Output number) = codes "output"
-text_of Message = codes "message"
-text_of (NoSocket number) = codes "device"
-text_of NoThread = codes "device: the system gives no thread"
-text_of (Failed error) = devices.text_of error
+abbrev pub loss_text : Loss → List ℕ
+loss_text loss = joined (codes "from position " ∷ decimal loss.from ∷ codes " to " ∷ decimal loss.to ∷ [])
 
--- the system's number of what failed, where it gave one
-abbrev pub number_of : SubscribeFault → Option ℤ
-number_of (Taken address) = None
-number_of (NotHere address) = None
-number_of (Output number) = number
-number_of Message = None
-number_of (NoSocket number) = number
-number_of NoThread = None
-number_of (Failed error) = None
+abbrev pub session_text : SessionId → List ℕ
+session_text id = joined (codes "session " ∷ signed_decimal id.0 ∷ [])
 
--- a cycle's fault as a subscriber's
-abbrev pub of_delivery : DeliveryFault → SubscribeFault
-of_delivery (deliveries.Output number) = Output number
-of_delivery (deliveries.Message error) = Message
-of_delivery (deliveries.Failed error) = Failed error
+-- ---- what it is told of a session that isn't finished
+
+abbrev pub told_end_text : Option ℕ → List ℕ
+told_end_text None = codes " of which no end was told"
+told_end_text (Some end) = joined (codes ", and the end that was told is " ∷ decimal end ∷ [])
+
+-- where its session stands
+abbrev pub unfinished_text : Unfinished → List ℕ
+unfinished_text left = joined (codes "session " ∷ signed_decimal left.session ∷ codes " stands at position " ∷ decimal left.position ∷ told_end_text left.end ∷ [])
+
+-- ---- counters
+
+abbrev pub losses_text : Counts → List ℕ
+losses_text c = joined (
+    codes "naks " ∷ decimal c.naks ∷ codes " lost " ∷ decimal c.lost ∷ codes " strangers " ∷ decimal c.strangers ∷ codes " refused" ∷ counts_text c.refused.counts ∷ [])
+
+abbrev pub counted_text : Counted → List ℕ
+counted_text c = joined (
+    codes "messages " ∷ decimal c.1.messages ∷ codes " this-second " ∷ decimal c.1.since
+    ∷ codes " least " ∷ decimal c.0.least ∷ codes " rebuilt " ∷ decimal c.0.rebuilt ∷ codes " high-water " ∷ decimal c.0.high_water
+    ∷ codes " " ∷ losses_text c.1 ∷ [])
+
+-- where one without an image stands
+abbrev pub nowhere : Positions
+nowhere = record { least = 0; rebuilt = 0; high_water = 0 }
+
+-- what it has done in all
+abbrev pub totals_text : Totals → List ℕ
+totals_text t = joined (
+    codes "wrote " ∷ decimal t.pace.count ∷ codes " messages, " ∷ decimal t.bytes ∷ codes " bytes of session " ∷ signed_decimal t.session
+    ∷ codes ", " ∷ pace_text t.pace ∷ codes "; " ∷ decimal t.naks ∷ codes " NAKs sent" ∷ [])
+
+-- ---- lines
+
+abbrev pub line_text : Line → List ℕ
+line_text (lines.Joined id at) = joined (codes "joined " ∷ session_text id ∷ codes " at position " ∷ decimal at ∷ [])
+line_text (lines.Silent id at) = joined (codes "silent: " ∷ session_text id ∷ codes " at position " ∷ decimal at ∷ codes ", its image is kept" ∷ [])
+line_text (lines.Again id at) = joined (session_text id ∷ codes " goes on at position " ∷ decimal at ∷ [])
+line_text (lines.Lost id at) = joined (codes "lost: " ∷ session_text id ∷ codes " can't be followed from position " ∷ decimal at ∷ [])
+line_text (lines.Missing id loss) = joined (codes "missing: " ∷ session_text id ∷ codes " " ∷ loss_text loss ∷ [])
+line_text (lines.Closed id at refused) = joined (codes "closed: " ∷ session_text id ∷ codes " at position " ∷ decimal at ∷ codes ", refused" ∷ counts_text refused.counts ∷ [])
+line_text (lines.Another id from) = joined (codes "another sender at " ∷ socket_text from ∷ codes " for " ∷ session_text id ∷ codes ", not heard" ∷ [])
+line_text (lines.Unheard id from own) = joined (codes "not heard: " ∷ session_text id ∷ codes " at " ∷ socket_text from ∷ codes "; " ∷ session_text own ∷ codes " is followed" ∷ [])
+line_text (lines.Ended id at) = joined (codes "ended: " ∷ session_text id ∷ codes " at position " ∷ decimal at ∷ [])
+line_text (lines.Nobody seconds) = joined (codes "gave up: nobody published for " ∷ decimal seconds ∷ codes " s" ∷ [])
+line_text (lines.GaveUp seconds left) = joined (codes "gave up: nothing was heard from " ∷ socket_text left.from ∷ codes " for " ∷ decimal seconds ∷ codes " s; " ∷ unfinished_text left ∷ [])
+line_text (lines.NotWhole bytes) = joined (codes "not whole: an image was lost, " ∷ decimal bytes ∷ codes " bytes are known to be missing" ∷ [])
+line_text (lines.Counters id c) = joined (session_text id ∷ codes " " ∷ counted_text c ∷ [])
+line_text (lines.Waiting c) = joined (codes "session none " ∷ counted_text c ∷ [])
+line_text (lines.Done totals) = totals_text totals
+line_text (lines.Refused refused strangers) = joined (codes "refused" ∷ counts_text refused.counts ∷ codes " strangers " ∷ decimal strangers ∷ [])
+
+abbrev pub line_of : Line → List ℕ
+line_of line = line_text line ++ 10 ∷ []
+
+abbrev pub id_of : ℤ → SessionId
+id_of session = record { 0 = session }
+
+abbrev pub joined_line : ℤ → ℕ → List ℕ
+joined_line session position = line_of (lines.Joined (id_of session) position)
 
 -- the session has become silent, or goes on
 abbrev pub silence_line : Bool → ℤ → ℕ → List ℕ
-silence_line true session place = silent_line session place
-silence_line false session place = again_line session place
+silence_line true session position = line_of (lines.Silent (id_of session) position)
+silence_line false session position = line_of (lines.Again (id_of session) position)
+
+abbrev pub lost_line : ℤ → ℕ → List ℕ
+lost_line session position = line_of (lines.Lost (id_of session) position)
+
+abbrev pub missing_line : ℤ → Loss → List ℕ
+missing_line session loss = line_of (lines.Missing (id_of session) loss)
+
+abbrev pub another_line : ℤ → SocketAddr → List ℕ
+another_line session from = line_of (lines.Another (id_of session) from)
+
+abbrev pub unheard_line : ℤ → SocketAddr → ℤ → List ℕ
+unheard_line session from own = line_of (lines.Unheard (id_of session) from (id_of own))
+
+abbrev pub ended_line : ℤ → ℕ → List ℕ
+ended_line session position = line_of (lines.Ended (id_of session) position)
+
+-- why it gave up
+abbrev pub nobody_line : ℕ → List ℕ
+nobody_line seconds = line_of (lines.Nobody seconds)
+
+abbrev pub unfinished_line : ℕ → Unfinished → List ℕ
+unfinished_line seconds left = line_of (lines.GaveUp seconds left)
+
+abbrev pub not_whole_line : ℕ → List ℕ
+not_whole_line bytes = line_of (lines.NotWhole bytes)
+
+-- with an image of this session
+abbrev pub counters_line : ℤ → Positions → Counts → List ℕ
+counters_line session p c = line_of (lines.Counters (id_of session) (record { 0 = p; 1 = c }))
+
+abbrev pub waiting_line : Counts → List ℕ
+waiting_line c = line_of (lines.Waiting (record { 0 = nowhere; 1 = c }))
+
+-- what one without an image has counted
+abbrev pub waiting_counts : Seen → Counts
+waiting_counts s = record { messages = 0; since = 0; naks = 0; lost = s.lost; strangers = s.strangers; refused = uncounted }
+
+-- nothing was refused, and no stranger came
+pub record IsClean (refused : FaultCounts) (strangers : ℕ) : Type 0 where
+  pub none : refused ≡ uncounted
+  pub nobody : strangers ≡ 0
+
+abbrev pub refused_line : FaultCounts → ℕ → List ℕ
+refused_line refused strangers = line_of (lines.Refused refused strangers)
+
+abbrev pub totals_line : Totals → List ℕ
+totals_line t = line_of (lines.Done t)

@@ -11,67 +11,62 @@ use Rattle.std.specs.declared.net.SocketAddr.{SocketAddr}
 use Rattle.frames.specs.Frames.{setup_of}
 use Rattle.frames.specs.declared.frame.Setup.{Setup}
 use Rattle.options.specs.declared.ends.plans.SubscribePlan.{SubscribePlan}
-use Rattle.subscription.specs.Followers.{IsFresh}
-use Rattle.subscription.specs.Hearings.{turned_to}
-use Rattle.subscription.specs.Meetings.{HasMet, OpensNothing}
-use Rattle.subscription.specs.Calls.{IsMeeting}
+use Rattle.subscriber.specs.Followers.{IsFresh}
+use Rattle.subscriber.specs.Hearings.{turned_to}
+use Rattle.subscriber.specs.Meetings.{HasMet, OpensNothing}
+use Rattle.subscriber.specs.Calls.{IsMeeting}
 use Rattle.peer.specs.Ties.{Offer}
-use Rattle.subscription.specs.Offers.{IsOffered, SubscriberDevice, setup_taken, tied_anew}
-use Rattle.subscription.specs.Unheards.{IsUnnamed}
-use Rattle.subscription.specs.Watches.{IsBehind, IsSilent, Seen, attending, hearing, keeping}
-use Rattle.subscription.specs.Images.{loss_between, next, next_images}
-use Rattle.subscription.specs.Losses.{IsLeft}
-use Rattle.subscription.specs.Places.{RebuiltTo}
-use Rattle.subscription.specs.Texts.{missing_line}
-use Rattle.subscription.specs.declared.images.Loss.{Loss}
-use Rattle.subscriber.specs.Standing.{StandsHere}
-use Rattle.subscription.specs.declared.joined.Joined.{Joined}
-use Rattle.subscription.specs.declared.opening.Opening.{Opening}
-use Rattle.subscription.specs.declared.meeting.Meeting.{Meeting}
+use Rattle.subscriber.specs.Offers.{IsOffered, setup_taken, tied_anew}
+use Rattle.subscriber.specs.Losing.{with_device, IsLeft}
+use Rattle.subscriber.specs.Images.{IsUnnamed, loss_between, next, next_images}
+use Rattle.subscriber.specs.Watches.{IsBehind, IsSilent, Seen, attending, hearing, keeping}
+use Rattle.subscriber.specs.Standing.{RebuiltTo, StandsHere}
+use Rattle.subscriber.specs.Texts.{missing_line}
+use Rattle.subscriber.specs.declared.images.Loss.{Loss}
+use Rattle.subscriber.specs.declared.images.session.Session.{Session}
+use Rattle.subscriber.specs.declared.listening.setup_offer.ImageParams.{ImageParams}
+use Rattle.subscriber.specs.declared.listening.setup_offer.SetupOffer.{SetupOffer}
 
 -- it is the session's own SETUP: the same session and shape, and not behind what was rebuilt
-pub record GoesOn (was : Opening) (rebuilt : ℕ) (o : Opening) : Type 0 where
+pub record GoesOn (was : ImageParams) (rebuilt : ℕ) (o : ImageParams) : Type 0 where
   pub session : o.session ≡ was.session
   pub shape : o.geometry ≡ was.geometry
   pub further : rebuilt ≤ o.position
 
-abbrev pub with_device : Joined → SubscriberDevice → Joined
-with_device j d = record j { duty = record (j.duty) { device = d } }
-
 -- a SETUP of the image's session, which another sent than its peer
-pub record IsAnother (m : Meeting) (j : Joined) : Type 0 where
+pub record IsAnother (m : SetupOffer) (j : Session) : Type 0 where
   pub session : m.opening.session ≡ j.opening.session
   pub sender : m.from ≢ j.duty.device.inner.inner.inner.peer
 
 -- a SETUP of another session, which is told as not heard
-pub record IsUnheard (m : Meeting) (j : Joined) : Type 0 where
+pub record IsUnheard (m : SetupOffer) (j : Session) : Type 0 where
   pub session : m.opening.session ≢ j.opening.session
   pub unnamed : IsUnnamed j.unheard m.opening.session
 
 -- the image is kept, and its peer; another sender of its session is noted, and another session, each once
-pub record Warns (m : Meeting) (old new : Joined) : Type 0 where
+pub record Warns (m : SetupOffer) (old new : Session) : Type 0 where
   pub warned : IsTrue new.warned ↔ (IsTrue old.warned ⊎ IsAnother m old)
   pub named : IsUnheard m old → new.unheard ≡ old.unheard ++ m.opening.session ∷ []
   pub known : ¬ IsUnheard m old → new.unheard ≡ old.unheard
   pub kept : new ≡ record old { warned = new.warned; unheard = new.unheard }
 
 -- the next publisher's: of another session, or another sent it than the peer
-abbrev pub IsNext : Meeting → Joined → Type 0
+abbrev pub IsNext : SetupOffer → Session → Type 0
 IsNext m j = (m.opening.session ≢ j.opening.session) ⊎ (m.from ≢ j.duty.device.inner.inner.inner.peer)
 
 -- the image's own, from its peer, above what is rebuilt
-pub record IsAhead (m : Meeting) (rebuilt : ℕ) (j : Joined) : Type 0 where
+pub record IsAhead (m : SetupOffer) (rebuilt : ℕ) (j : Session) : Type 0 where
   pub peer : ¬ IsNext m j
   pub own : GoesOn j.opening rebuilt m.opening
   pub ahead : rebuilt < m.opening.position
 
 -- an image whose stream has ended gives way to the next publisher's, and one that hasn't ended while its session is silent, or
 -- where what it lacks doesn't come, to its own
-abbrev pub GivesWay : Seen → Meeting → ℕ → Joined → Type 0
+abbrev pub GivesWay : Seen → SetupOffer → ℕ → Session → Type 0
 GivesWay s m rebuilt j = (IsTrue j.ended × IsNext m j) ⊎ ((¬ IsTrue j.ended) × (IsSilent s ⊎ (IsBehind s × IsAhead m rebuilt j)))
 
 -- what is missing behind an image that gives way: where what it lacks didn't come, all between its consumer and the SETUP
-abbrev pub IsLoss : Seen → Meeting → Joined → Option Loss → Type 0
+abbrev pub IsLoss : Seen → SetupOffer → Session → Option Loss → Type 0
 IsLoss s m j loss =
     (IsLeft s j × ((place : ℕ) × StandsHere j.follower.subscriber place × (loss ≡ loss_between place m.opening.position)))
     ⊎ ((¬ IsLeft s j) × (loss ≡ None))
@@ -82,11 +77,11 @@ TellsLoss session None before after = after ≡ before
 TellsLoss session (Some loss) before after = Appends before after (missing_line session loss)
 
 -- the image is kept, and this is its peer
-abbrev pub IsTiedTo : SocketAddr → Joined → Joined → Type 0
+abbrev pub IsTiedTo : SocketAddr → Session → Session → Type 0
 IsTiedTo from old new = new ≡ with_device old (tied_anew old.duty.device from)
 
 -- a SETUP has opened a new image, whose peer is the one that sent it, and before which this is missing
-pub record IsRenewed (plan : SubscribePlan) (moment : ℕ) (m : Meeting) (loss : Option Loss) (old new : Joined) : Type 0 where
+pub record IsRenewed (plan : SubscribePlan) (moment : ℕ) (m : SetupOffer) (loss : Option Loss) (old new : Session) : Type 0 where
   pub images : new.images ≡ next_images old.images loss
   pub met : HasMet plan (next old.images.number) (setup_of m.setup) moment new.follower.subscriber
   pub fresh : IsFresh new.follower m.opening.session plan.end.stream
@@ -99,53 +94,53 @@ pub record IsRenewed (plan : SubscribePlan) (moment : ℕ) (m : Meeting) (loss :
   pub unheard : new.unheard ≡ []
 
 -- and what is missing is what was between them
-pub record Replaces (plan : SubscribePlan) (s : Seen) (m : Meeting) (old new : Joined) : Type 0 where
+pub record Replaces (plan : SubscribePlan) (s : Seen) (m : SetupOffer) (old new : Session) : Type 0 where
   pub loss : Option Loss
   pub is : IsLoss s m old loss
   pub renewed : IsRenewed plan s.moment m loss old new
 
 -- the image doesn't give way: nothing is made of it, but that another sender or session is noted
-pub record Passes (s : Seen) (m : Meeting) (rebuilt : ℕ) (old new : Joined) (t : Seen) : Type 0 where
+pub record Passes (s : Seen) (m : SetupOffer) (rebuilt : ℕ) (old new : Session) (t : Seen) : Type 0 where
   pub stays : ¬ GivesWay s m rebuilt old
   pub warns : Warns m old new
   pub seen : t ≡ s
 
 -- it is the own again of a session that was silent, whose stream hasn't ended, where the image is rebuilt up to here
-pub record IsAgain (s : Seen) (m : Meeting) (rebuilt : ℕ) (j : Joined) : Type 0 where
+pub record IsAgain (s : Seen) (m : SetupOffer) (rebuilt : ℕ) (j : Session) : Type 0 where
   pub going : ¬ IsTrue j.ended
   pub silent : IsSilent s
   pub own : GoesOn j.opening rebuilt m.opening
 
 -- the image would give way, and goes on
-pub record Resumes (s : Seen) (m : Meeting) (rebuilt : ℕ) (old new : Joined) (t : Seen) : Type 0 where
+pub record Resumes (s : Seen) (m : SetupOffer) (rebuilt : ℕ) (old new : Session) (t : Seen) : Type 0 where
   pub way : GivesWay s m rebuilt old
   pub again : IsAgain s m rebuilt old
   pub tied : IsTiedTo m.from old new
   pub seen : t ≡ s
 
 -- the image gives way
-pub record Renews (plan : SubscribePlan) (s : Seen) (m : Meeting) (rebuilt : ℕ) (old new : Joined) (t : Seen) : Type 0 where
+pub record Renews (plan : SubscribePlan) (s : Seen) (m : SetupOffer) (rebuilt : ℕ) (old new : Session) (t : Seen) : Type 0 where
   pub way : GivesWay s m rebuilt old
   pub other : ¬ IsAgain s m rebuilt old
   pub replaced : Replaces plan s m old new
   pub seen : t ≡ keeping (hearing s)
 
 -- what is made of a SETUP that would open an image
-abbrev pub Turns : SubscribePlan → Seen → Meeting → Joined → Joined → Seen → Type 0
+abbrev pub Turns : SubscribePlan → Seen → SetupOffer → Session → Session → Seen → Type 0
 Turns plan s m old new t =
     (rebuilt : ℕ) × RebuiltTo old.follower.subscriber rebuilt × (Passes s m rebuilt old new t ⊎ Resumes s m rebuilt old new t ⊎ Renews plan s m rebuilt old new t)
 
 -- what is made of any SETUP
-abbrev pub Considers : SubscribePlan → Seen → SocketAddr → Setup → Joined → Joined → Seen → Type 0
+abbrev pub Considers : SubscribePlan → Seen → SocketAddr → Setup → Session → Session → Seen → Type 0
 Considers plan s from f old new t =
-    (OpensNothing plan (setup_of f) × (new ≡ old) × (t ≡ s)) ⊎ ((m : Meeting) × IsMeeting plan from f m × Turns plan s m old new t)
+    (OpensNothing plan (setup_of f) × (new ≡ old) × (t ≡ s)) ⊎ ((m : SetupOffer) × IsMeeting plan from f m × Turns plan s m old new t)
 
 -- and of the one that came in a cycle, if one did
-abbrev pub ConsidersOffer : SubscribePlan → Seen → Offer → Joined → Joined → Seen → Type 0
+abbrev pub ConsidersOffer : SubscribePlan → Seen → Offer → Session → Session → Seen → Type 0
 ConsidersOffer plan s None old new t = (new ≡ old) × (t ≡ s)
 ConsidersOffer plan s (Some offer) old new t = Considers plan s offer.0 offer.1 old new t
 
-abbrev pub Attends : SubscribePlan → Seen → Joined → Joined → Seen → Type 0
+abbrev pub Attends : SubscribePlan → Seen → Session → Session → Seen → Type 0
 Attends plan s old new t =
     (offer : Offer) × IsOffered old.duty.device.notes.setup old.duty.device.inner.inner.inner offer
     × (u : Seen) × ConsidersOffer plan s offer (with_device old (setup_taken old.duty.device)) new u × (t ≡ attending u)

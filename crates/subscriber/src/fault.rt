@@ -1,10 +1,10 @@
 ghost use Rattle.std.specs.Prelude.{◌≡◌, Some};
-ghost use Rattle.subscriber.specs.Texts.{number_of, of_delivery, text_of};
-ghost use Rattle.endpoint.specs.declared.device_error.DeviceError.TheVariants.{Device, Memory};
+ghost use Rattle.subscriber.specs.FaultTexts.{number_of, of_delivery, text_of};
+ghost use Rattle.endpoint.specs.declared.device_error.DeviceError.TheVariants.{Memory};
 ghost use Rattle.subscriber.specs.declared.fault.SubscribeFault.TheVariants.{Failed};
 
-use crate::delivery::fault::DeliveryFault;
-use endpoint::{DeviceError, DeviceFailed};
+use crate::images::delivery::DeliveryFault;
+use endpoint::DeviceError;
 use std::alloc::AllocError;
 use std::error::Error;
 use std::fmt;
@@ -17,8 +17,7 @@ pub enum SubscribeFault {
     Taken(SocketAddr),
     /// This machine doesn't have the address.
     NotHere(SocketAddr),
-    /// The output failed. What was polled last may be lost; no status message went out for it. With the system's number, where
-    /// it gave one.
+    /// The output failed, with the system's number, if any. What was polled last may be lost; no status message told of it.
     Output(Option<i32>),
     /// A message was refused, and is lost.
     Message,
@@ -79,14 +78,6 @@ impl From<DeviceError> for SubscribeFault {
 
     fn from(error: DeviceError) -> SubscribeFault {
         SubscribeFault::Failed(error)
-    }
-}
-
-impl From<DeviceFailed> for SubscribeFault {
-    ghost from_gives = { λ _ fault. fault ≡ Failed Device };
-
-    fn from(_failed: DeviceFailed) -> SubscribeFault {
-        SubscribeFault::Failed(DeviceError::Device)
     }
 }
 

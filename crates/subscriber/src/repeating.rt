@@ -3,16 +3,18 @@
 ghost use Rattle.std.specs.Prelude.{◌≤◌, IfErr};
 ghost use Rattle.subscriber.specs.Leavings.{IsStartFault};
 
+pub(crate) mod repeater;
+
 use crate::fault::SubscribeFault;
+use crate::images::session_device::StatusNews;
+use crate::repeating::repeater::StatusRepeater;
 use agents::Began;
 use crossbeam_queue::ArrayQueue;
-use endpoint::DeviceError;
 use std::alloc::{AllocError, Global};
 use std::sync::{Arc, Wait};
 use std::thread;
 use std::thread::{JoinHandle, Threads};
 use std::time::{Clock, Duration};
-use subscription::{News, StatusRepeater};
 
 /// Milliseconds from one look to the next.
 const PAUSE: u64 = 100;
@@ -21,7 +23,7 @@ const PAUSE: u64 = 100;
 #[derive(Clone, Copy)]
 enum Told {
     /// What is new of the status messages.
-    News(News),
+    News(StatusNews),
     /// To end.
     End,
 }
@@ -33,14 +35,8 @@ pub(crate) struct Slot {
 }
 
 impl Slot {
-    fn new(alloc: Global) -> Result<Slot, AllocError> {
-        Ok(Slot {
-            newest: ArrayQueue::new(alloc, 1)?,
-        })
-    }
-
     /// Tells what is new. What stood there before isn't told any more.
-    pub(crate) fn tell<R: Wait>(&self, rt: &R, news: News) {
+    pub(crate) fn tell<R: Wait>(&self, rt: &R, news: StatusNews) {
         self.newest.force_push(rt, Told::News(news));
     }
 
@@ -82,31 +78,14 @@ pub(crate) struct Repeating {
 
 /// A slot, once for each thread.
 fn shared_slot(alloc: Global) -> Result<(Arc<Slot, Global>, Arc<Slot, Global>), AllocError> {
-    let ours = Arc::new(alloc, Slot::new(alloc)?)?;
+    let newest = ArrayQueue::new(alloc, 1)?;
+    let ours = Arc::new(alloc, Slot { newest })?;
     let theirs = Arc::try_clone(&ours)?;
     Ok((ours, theirs))
 }
 
-/// Starts the thread. The fault is `Memory`, or `NoThread`.
-fn started<R: Threads + Wait + Clock + Copy + Send + 'static>(
-    rt: &R,
-    alloc: Global,
-    repeater: StatusRepeater,
-    began: Began,
-) -> Result<Repeating, SubscribeFault>
-    ensures { IfErr result IsStartFault }
-{
-    let (slot, theirs) = shared_slot(alloc)?;
-    let there = *rt;
-    match thread::spawn(rt, move || repeat_all(&there, &theirs, &began, repeater)) {
-        Ok(handle) => Ok(Repeating { slot, handle }),
-        Err(_) => Err(SubscribeFault::NoThread),
-    }
-}
-
 impl Repeating {
-    /// Starts the thread, which gives the repeater its turns. The fault is `Device` where the clock can't be read,
-    /// `NoThread`, or `Memory`.
+    /// Starts the thread, which gives the repeater its turns. `Device`: the clock can't be read.
     pub(crate) fn start<R: Threads + Wait + Clock + Copy + Send + 'static>(
         rt: &R,
         alloc: Global,
@@ -115,7 +94,12 @@ impl Repeating {
         ensures { IfErr result IsStartFault }
     {
         let began = Began::now(rt)?;
-        started(rt, alloc, repeater, began)
+        let (slot, theirs) = shared_slot(alloc)?;
+        let there = *rt;
+        match thread::spawn(rt, move || repeat_all(&there, &theirs, &began, repeater)) {
+            Ok(handle) => Ok(Repeating { slot, handle }),
+            Err(_) => Err(SubscribeFault::NoThread),
+        }
     }
 
     /// Where the thread is told something.

@@ -4,7 +4,7 @@ use Rattle.clap.specs.Words.{Text, fault_of}
 use Rattle.command_line.specs.Lines.{publish_app, subscribe_app}
 use Rattle.command_line.specs.Readers.{reader_of}
 use Rattle.commands.specs.Statuses.{IsStatusOf, RefusesPublish, RefusesSubscribe}
-use Rattle.subscriber.specs.declared.ended.Ending.TheVariants.{Whole}
+use Rattle.subscriber.specs.declared.ending.Ending.TheVariants.{Whole}
 use Rattle.commands.specs.Done.{HasPlanBy, PublishesBy, SubscribesBy, SubscribesShortBy}
 use Rattle.commands.proofs.Ended.{done_by, no_version, short_by}
 use Rattle.commands.proofs.LineStatuses.{by_reader, refused_by, texts_behind, version_status}

@@ -1,5 +1,5 @@
 use Rattle.std.proofs.Common.{⊎_elim, arith, inl, inr}
-use Rattle.subscriber.specs.declared.ended.Ending.TheVariants.{Lost, Short}
+use Rattle.subscriber.specs.declared.ending.Ending.TheVariants.{Lost, Short}
 use Rattle.commands.specs.Done.{IsSubscribedTold}
 use Rattle.commands.proofs.Ended.{none_held, none_short, told_short, told_whole}
 use Rattle.commands.proofs.LineStatuses.{refused_line, taken, untaken}

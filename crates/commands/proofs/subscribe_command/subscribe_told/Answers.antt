@@ -1,5 +1,5 @@
 use Rattle.std.proofs.Common.{◌∙◌, ⊎_elim, IsTrue, arith, inl, inr, subst, sym, Bool}
-use Rattle.subscriber.specs.declared.ended.Ending.TheVariants.{Lost}
+use Rattle.subscriber.specs.declared.ending.Ending.TheVariants.{Lost}
 use Rattle.commands.specs.Done.{IsSubscribed}
 use Rattle.commands.proofs.subscribe_command.subscribe_told.Goals as goal
 

@@ -1,0 +1,10 @@
+use Rattle.std.proofs.Common.{◌≡◌, ℕ, rules, subst, sym}
+use Rattle.theory.specs.Image.{IsWindow}
+use Rattle.subscriber.proofs.Windows.{allowed}
+use Rattle.subscriber.specs.Windows.{window_of}
+use Rattle.subscriber.proofs.listening.window.window_of.Goals as goal
+
+pub returns-clause-allowed : goal.returns-clause-allowed
+returns-clause-allowed c =
+    let value : c.max.result ≡ window_of c.args.term_length c.args.mtu = search rules in
+    λ term mtu. subst (λ (w : ℕ). IsWindow c.args.term_length c.args.mtu w) (sym value) (allowed c.args.term_length c.args.mtu term mtu)

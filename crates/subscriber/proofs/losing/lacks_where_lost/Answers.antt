@@ -1,5 +1,0 @@
-use Rattle.subscriber.proofs.Lost.{lacking}
-use Rattle.subscriber.proofs.losing.lacks_where_lost.Goals as goal
-
-pub returns : goal.returns
-returns c = lacking

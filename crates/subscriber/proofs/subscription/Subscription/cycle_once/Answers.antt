@@ -1,0 +1,25 @@
+use Rattle.std.proofs.Common.{◌+◌, ℕ, refl, subst}
+use Rattle.receiver.specs.Lives.{ActsSo, Ticks}
+use Rattle.std.proofs.lemmas.Result.{err_from_is_err_and}
+use Rattle.subscriber.proofs.Breaking.{cycle_broken}
+use Rattle.subscriber.proofs.Lived.{cycle_lives_on}
+use Rattle.subscriber.proofs.Patience.{patient}
+use Rattle.subscriber.proofs.subscription.Subscription.cycle_once.Goals as goal
+
+pub returns-in_err-done-clause-patient : goal.returns-in_err-done-clause-patient
+returns-in_err-done-clause-patient g c =
+    let p = err_from_is_err_and c.from_residual.result c.from_residual.ensures.1 in
+    rw (p.1, p.2) (patient _ _ _ _ _ _ _ _ _ _ _ _ refl refl c.in_err-done.ensures.fault)
+
+pub returns-clause-lives : goal.returns-clause-lives
+returns-clause-lives g c = cycle_lives_on c.args.self.now.plan.end.form _ _ c.args.written (c.args.written + c.in_ok-done.done.messages) _ _ _ _ c.in_ok-done.done _ _ _ refl c.in_ok-done.ensures.done
+
+pub returns-in_err-done-clause-broken : goal.returns-in_err-done-clause-broken
+returns-in_err-done-clause-broken g c =
+    let p = err_from_is_err_and c.from_residual.result c.from_residual.ensures.1 in
+    rw p.1 (cycle_broken _ _ _ _ _ _ _ _ _ _ _ _ c.in_err-done.ensures.fault)
+
+pub returns-clause-ticked : goal.returns-clause-ticked
+returns-clause-ticked g c =
+    let w = c.in_ok-done.ensures.done.writes in
+    (w.cycle.middle, subst (λ (n : ℕ). ActsSo w.cycle.middle (Ticks n) c.cycle.new.follower.subscriber) c.moment.ensures w.cycle.ticked.becomes)

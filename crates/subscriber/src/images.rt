@@ -1,0 +1,75 @@
+//! The images of a subscriber, one after the other.
+
+ghost use Rattle.std.specs.Prelude.{◌≡◌, Some};
+ghost use Rattle.subscriber.specs.Images.{first_image, loss_between, next_images};
+ghost use Rattle.subscriber.specs.Texts.{loss_text};
+
+pub(crate) mod delivery;
+pub(crate) mod follower;
+pub(crate) mod session;
+pub(crate) mod session_device;
+pub(crate) mod unheard;
+
+use std::fmt;
+
+/// What is missing between an image that was lost and the next one, in bytes of the stream.
+#[derive(Clone, Copy, Debug, PartialEq, Eq)]
+pub struct Loss {
+    /// Where the consumer stood.
+    pub from: u64,
+    /// Where the next image was joined, which lies above that.
+    pub to: u64,
+}
+
+impl fmt::Display for Loss {
+    ghost output = { λ loss. Some (loss_text loss) };
+
+    fn fmt<W: fmt::Write>(&self, f: &mut fmt::Formatter<W>) -> fmt::Result {
+        write!(f, "from position {} to {}", self.from, self.to)
+    }
+}
+
+/// Which image it is, and what is missing between those before it.
+#[derive(Clone, Copy, Debug, PartialEq, Eq)]
+pub struct Images {
+    /// The image's number, from 0.
+    pub number: u64,
+    /// How many bytes of the stream lost images lacked, in all. At the greatest `u64` it stays.
+    pub missing: u64,
+}
+
+/// What is missing between these positions; nothing, where the second isn't above the first.
+pub fn loss_between(from: u64, to: u64) -> Option<Loss>
+    ensures { result ≡ loss_between from to }
+{
+    if from < to {
+        return Some(Loss { from, to });
+    }
+    None
+}
+
+impl Images {
+    /// The first one.
+    pub fn first() -> Images
+        ensures { result ≡ first_image }
+    {
+        Images {
+            number: 0,
+            missing: 0,
+        }
+    }
+
+    /// The next one, before which this is missing.
+    pub fn next(&self, loss: Option<Loss>) -> Images
+        ensures { result ≡ next_images self.now loss }
+    {
+        let bytes = match loss {
+            None => 0,
+            Some(loss) => loss.to.saturating_sub(loss.from),
+        };
+        Images {
+            number: self.number.wrapping_add(1),
+            missing: self.missing.saturating_add(bytes),
+        }
+    }
+}

@@ -1,0 +1,446 @@
+//! A session that a subscriber follows.
+
+ghost use Rattle.std.specs.Prelude.{◌≡◌, ◌≢◌, ◌≤◌, ◌↔◌, ◌+◌, ◌-◌, ◌^◌, min, ℕ, IfErr, IfOk, IsTrue, OnErr, OnOk};
+ghost use Rattle.std.specs.Io.KnownBytes.{Appends};
+ghost use Rattle.endpoint.specs.declared.device_error.DeviceError.TheVariants.{Device};
+ghost use Rattle.receiver.specs.Receiving.{Receiver};
+ghost use Rattle.receiver.specs.Subscribing.{RepresentsSubscriber};
+ghost use Rattle.subscriber.specs.Answering.{AnswersEnd, BidsFarewell, NotesSilence, TellsPlace};
+ghost use Rattle.subscriber.specs.Images.{has_lost};
+ghost use Rattle.subscriber.specs.Leavings.{ListensOn, LivesUnpolled, NotesHeard, NotesWork, StandsStill};
+ghost use Rattle.subscriber.specs.Losing.{LacksWhereLost, NotesKept, NotesLoss};
+ghost use Rattle.subscriber.specs.Standing.{HasAll, IsRebuiltTo, Stands, StandsAt, StandsHere, lacks, lies_above};
+ghost use Rattle.subscriber.specs.Telling.{AreCounts, AreTotals, IsUnfinished, TellsLine, TellsNow};
+ghost use Rattle.subscriber.specs.Texts.{another_line, ended_line, lost_line, silence_line, unheard_line};
+ghost use Rattle.subscriber.specs.Turning.{IsTiedTo, Warns};
+ghost use Rattle.subscriber.specs.Watches.{IsBroken, IsWithinTurn, judging};
+
+use crate::fault::SubscribeFault;
+use crate::images::Images;
+use crate::images::follower::Follower;
+use crate::images::session_device::SubscriberDevice;
+use crate::images::unheard::Unheard;
+use crate::listening::setup_offer::{ImageParams, SetupOffer};
+use crate::reporting::{Counted, Counts, Line, SessionId, Totals, Unfinished, tell};
+use crate::watch::Watch;
+use agents::{Duty, IdleStrategy, REPLY};
+use endpoint::DeviceError;
+use receiver::STATUS_INTERVAL;
+use std::io;
+use std::io::Write;
+use std::net::SocketAddr;
+use std::sync::Wait;
+use std::time::Clock;
+use text::Pace;
+
+/// How long a subscriber that has ended still tells where it stands, in nanoseconds.
+const FAREWELL: u64 = 1_000_000_000;
+
+/// Where a subscriber with an image stands, in bytes of the stream.
+#[derive(Clone, Copy, Debug, PartialEq, Eq)]
+pub struct Stand {
+    /// Where its consumer stands: all before that is polled.
+    pub place: u64,
+    /// How far its image is rebuilt without a gap.
+    pub rebuilt: u64,
+    /// The greatest end that was told.
+    pub end: Option<u64>,
+}
+
+impl Stand {
+    /// Whether it has all of the stream: an end was told that isn't below what is rebuilt, and its consumer has come so far.
+    pub(crate) fn has_all(&self) -> bool
+        ensures { IsTrue result ↔ HasAll self.now }
+    {
+        match self.end {
+            None => false,
+            Some(end) => self.rebuilt <= end && end <= self.place,
+        }
+    }
+}
+
+/// A session that is followed: its image, its device, which is tied to the publisher, and what was told of it.
+#[derive(Drop)]
+pub struct Session {
+    /// What opened the image.
+    pub opening: ImageParams,
+    pub images: Images,
+    pub follower: Follower,
+    pub duty: Duty<SubscriberDevice>,
+    /// Whether it was told that the image is lost.
+    pub lost: bool,
+    /// Whether its session's silence was told.
+    pub silent: bool,
+    /// Whether another sender of its session was told.
+    pub warned: bool,
+    /// Whether all up to its session's told end is written.
+    pub ended: bool,
+    /// Other sessions that were told as not heard.
+    pub unheard: Unheard,
+}
+
+/// Whether a position lies above what is rebuilt.
+fn lies_above(position: i64, rebuilt: u64) -> bool
+    ensures { result ≡ lies_above position rebuilt }
+{
+    match u64::try_from(position) {
+        Ok(position) => rebuilt < position,
+        Err(_) => false,
+    }
+}
+
+/// A law: an image is newly taken for lost only where its turn's cycle rebuilt nothing more, and something is lacking.
+pub fn lacks_where_lost()
+    ensures { LacksWhereLost }
+{}
+
+impl Session {
+    /// Where its consumer stands, in bytes of the stream: 0 without an image.
+    pub fn place(&self) -> u64
+        ensures { (r : Receiver) → RepresentsSubscriber self.now.follower.subscriber r → StandsAt r.image result }
+    {
+        match self.follower.subscriber.positions() {
+            None => 0,
+            Some(positions) => positions.least,
+        }
+    }
+
+    /// How far its image is rebuilt without a gap, in bytes of the stream: 0 without an image.
+    pub fn rebuilt(&self) -> u64
+        ensures { (r : Receiver) → RepresentsSubscriber self.now.follower.subscriber r → IsRebuiltTo r.image result }
+    {
+        match self.follower.subscriber.positions() {
+            None => 0,
+            Some(positions) => positions.rebuilt,
+        }
+    }
+
+    /// Where it stands.
+    pub(crate) fn stand(&self) -> Stand
+        ensures { Stands self.now.follower.subscriber self.now.follower.end result }
+    {
+        let end = self.follower.end;
+        Stand {
+            place: self.place(),
+            rebuilt: self.rebuilt(),
+            end,
+        }
+    }
+
+    /// Whether an image of its run was lost.
+    pub fn has_lost(&self) -> bool
+        ensures { result ≡ has_lost self.now.lost self.now.images }
+    {
+        self.lost || self.images.missing > 0
+    }
+
+    /// Its peer.
+    pub(crate) fn peer(&self) -> SocketAddr
+        ensures { result ≡ self.now.duty.device.inner.inner.inner.peer }
+    {
+        self.duty.device().tied().peer()
+    }
+
+    /// Makes this the peer.
+    pub(crate) fn tie_again(&mut self, from: SocketAddr)
+        ensures { IsTiedTo from self.old self.new }
+    {
+        let device = self.duty.device_mut();
+        device.tie(from);
+    }
+
+    /// Notes that a frame of the session came, where the device has counted another number than before.
+    pub(crate) fn note_heard(&self, watch: &mut Watch, before: u64)
+        ensures heard { NotesHeard before self.now.duty.device.notes.frames watch.old watch.new }
+        ensures moment { watch.new.moment ≡ watch.old.moment }
+        ensures turn { IsWithinTurn watch.old watch.new }
+    {
+        if self.duty.device().notes().frames != before {
+            watch.hear();
+        }
+    }
+
+    /// How many calls of the socket have worked.
+    pub(crate) fn calls_worked(&self) -> u64
+        ensures { result ≡ self.now.duty.device.inner.inner.worked }
+    {
+        self.duty.device().inner().inner().worked()
+    }
+
+    /// Notes whether a call of the socket worked since so many had. The fault comes where none has for 5 seconds.
+    pub(crate) fn check_works(&self, watch: &mut Watch, before: u64) -> Result<(), DeviceError>
+        ensures noted { NotesWork before self.now.duty.device.inner.inner.worked watch.old watch.new }
+        ensures moment { watch.new.moment ≡ watch.old.moment }
+        ensures turn { IsWithinTurn watch.old watch.new }
+        ensures works { OnOk result (¬ IsBroken watch.new) }
+        ensures broken { IfErr result (λ fault. (fault ≡ Device) × IsBroken watch.new) }
+    {
+        if self.calls_worked() != before {
+            watch.work();
+        }
+        watch.check_works()
+    }
+
+    /// Notes whether nothing is lacking, or something that was lacking came: the image was rebuilt up to here before.
+    pub fn note_kept(&self, watch: &mut Watch, before: u64)
+        ensures notes { NotesKept before self.now watch.old watch.new }
+        ensures noted { IsTrue watch.new.noted }
+        ensures moment { watch.new.moment ≡ watch.old.moment }
+        ensures turn { IsWithinTurn watch.old watch.new }
+    {
+        let rebuilt = self.rebuilt();
+        watch.note(rebuilt != before || !self.lacks(rebuilt));
+    }
+
+    /// Whether the last frame that was heard of its session begins above this position, up to which its image is rebuilt.
+    pub fn lacks(&self, rebuilt: u64) -> bool
+        ensures { result ≡ lacks self.now.opening.geometry self.now.duty.device.notes.last rebuilt }
+    {
+        let Some(frame) = self.duty.device().notes().last else {
+            return false;
+        };
+        let header = frame.header();
+        let offset = header.term_offset.cast_signed();
+        lies_above(
+            self.opening.geometry.position(header.term_id, offset),
+            rebuilt,
+        )
+    }
+
+    /// Judges, behind `note_kept`, whether the image is lost. The answer is whether that is new.
+    pub fn judge(&mut self, watch: &mut Watch) -> bool
+        ensures noted { NotesLoss watch.old self.old self.new }
+        ensures is_new { IsTrue result ↔ (self.new.lost ≢ self.old.lost) }
+        ensures same { self.new ≡ record self.old { lost = self.new.lost } }
+        ensures counted { watch.new ≡ judging watch.old }
+    {
+        watch.judge();
+        if self.lost || self.ended || !watch.is_behind() {
+            return false;
+        }
+        self.lost = true;
+        true
+    }
+
+    /// Judges whether the image is lost, and tells that once. That is the judgement of this turn.
+    pub(crate) fn tell_loss<E: Write>(
+        &mut self,
+        errors: &mut E,
+        watch: &mut Watch,
+    ) -> io::Result<()>
+        ensures noted { NotesLoss watch.old self.old self.new }
+        ensures judged { watch.new ≡ judging watch.old }
+        ensures same { self.new ≡ record self.old { lost = self.new.lost } }
+        ensures told { self.new.lost ≢ self.old.lost → (place : ℕ) × StandsHere self.old.follower.subscriber place × OnOk result (Appends (E.contents errors.old) (E.contents errors.new) (lost_line self.old.opening.session place)) }
+        ensures quiet { self.new.lost ≡ self.old.lost → OnOk result (E.contents errors.new ≡ E.contents errors.old) }
+    {
+        if !self.judge(watch) {
+            return Ok(());
+        }
+        tell(
+            errors,
+            Line::Lost(SessionId(self.opening.session), self.place()),
+        )
+    }
+
+    /// Tells once that the session is silent, and once that it goes on; of a stream that has ended neither.
+    pub(crate) fn tell_silence<E: Write>(&mut self, errors: &mut E, watch: &Watch) -> io::Result<()>
+        ensures noted { NotesSilence watch.now self.old self.new }
+        ensures same { self.new ≡ record self.old { silent = self.new.silent } }
+        ensures told { self.new.silent ≢ self.old.silent → (place : ℕ) × StandsHere self.old.follower.subscriber place × OnOk result (Appends (E.contents errors.old) (E.contents errors.new) (silence_line self.new.silent self.old.opening.session place)) }
+        ensures quiet { self.new.silent ≡ self.old.silent → OnOk result (E.contents errors.new ≡ E.contents errors.old) }
+    {
+        let silent = watch.is_silent();
+        if self.ended || silent == self.silent {
+            return Ok(());
+        }
+        self.silent = silent;
+        tell_change(errors, silent, self.opening.session, self.place())
+    }
+
+    /// A cycle without polls at a moment that is ahead by 200 ms, so that a status message is due. Whether it was busy.
+    fn tell_place(&mut self, watch: &Watch) -> Result<bool, SubscribeFault>
+        requires { self.old.duty.mtu ≡ REPLY }
+        ensures size { self.new.duty.mtu ≡ self.old.duty.mtu }
+        ensures same { self.new ≡ record self.old { follower = self.new.follower; duty = self.new.duty } }
+        ensures unpolled { LivesUnpolled self.old.follower.subscriber self.new.follower.subscriber }
+        ensures listens { OnOk result (ListensOn self.old.follower self.new.follower) }
+        ensures told { OnOk result (TellsPlace watch.now.moment self.old.follower.subscriber self.new.follower.subscriber) }
+    {
+        let ahead = watch.moment().saturating_add(STATUS_INTERVAL);
+        Ok(self.duty.cycle(&mut self.follower, ahead)?)
+    }
+
+    /// Notes whether all of the stream is written, and tells it where that is new.
+    fn note_all<E: Write>(&mut self, stand: &Stand, errors: &mut E) -> io::Result<()>
+        ensures noted { IsTrue self.new.ended ↔ HasAll stand.now }
+        ensures same { self.new ≡ record self.old { ended = self.new.ended } }
+        ensures told { IsTrue self.new.ended → (¬ IsTrue self.old.ended) → OnOk result (Appends (E.contents errors.old) (E.contents errors.new) (ended_line self.old.opening.session stand.now.place)) }
+        ensures quiet { (IsTrue self.new.ended → IsTrue self.old.ended) → OnOk result (E.contents errors.new ≡ E.contents errors.old) }
+    {
+        let before = self.ended;
+        self.ended = stand.has_all();
+        if before || !self.ended {
+            return Ok(());
+        }
+        let id = SessionId(self.opening.session);
+        tell(errors, Line::Ended(id, stand.place))
+    }
+
+    /// Where all of the stream is newly written up to its told end, that is told, and to the publisher, too, at once.
+    pub(crate) fn answer_end<E: Write>(
+        &mut self,
+        errors: &mut E,
+        watch: &mut Watch,
+    ) -> Result<Stand, SubscribeFault>
+        requires { self.old.duty.mtu ≡ REPLY }
+        ensures size { self.new.duty.mtu ≡ self.old.duty.mtu }
+        ensures images { self.new.images ≡ self.old.images }
+        ensures same { self.new ≡ record self.old { follower = self.new.follower; duty = self.new.duty; ended = self.new.ended } }
+        ensures unpolled { LivesUnpolled self.old.follower.subscriber self.new.follower.subscriber }
+        ensures listens { OnOk result (ListensOn self.old.follower self.new.follower) }
+        ensures answers { IfOk result (AnswersEnd watch.old.moment self.old self.new) }
+        ensures heard { OnOk result (NotesHeard self.old.duty.device.notes.frames self.new.duty.device.notes.frames watch.old watch.new) }
+        ensures turn { IsWithinTurn watch.old watch.new }
+    {
+        let stand = self.stand();
+        let before = self.ended;
+        let _ = self.note_all(&stand, errors);
+        if before || !self.ended {
+            return Ok(stand);
+        }
+        let frames = self.duty.device().notes().frames;
+        self.tell_place(watch)?;
+        self.note_heard(watch, frames);
+        Ok(self.stand())
+    }
+
+    /// Tells once that another than the peer sent a SETUP of the session, and once of each of up to 16 other sessions.
+    pub(crate) fn warn<E: Write>(&mut self, meeting: &SetupOffer, errors: &mut E) -> io::Result<()>
+        ensures warns { Warns meeting.now self.old self.new }
+        ensures told { self.new.warned ≢ self.old.warned → OnOk result (Appends (E.contents errors.old) (E.contents errors.new) (another_line meeting.now.opening.session meeting.now.from)) }
+        ensures named { self.new.unheard ≢ self.old.unheard → OnOk result (Appends (E.contents errors.old) (E.contents errors.new) (unheard_line meeting.now.opening.session meeting.now.from self.old.opening.session)) }
+        ensures quiet { self.new ≡ self.old → OnOk result (E.contents errors.new ≡ E.contents errors.old) }
+    {
+        let session = meeting.opening.session;
+        if meeting.is_unheard(self) {
+            self.unheard.name(session);
+            let own = SessionId(self.opening.session);
+            return tell(errors, Line::Unheard(SessionId(session), meeting.from, own));
+        }
+        if self.warned || !meeting.is_another(self) {
+            return Ok(());
+        }
+        self.warned = true;
+        tell(errors, Line::Another(SessionId(session), meeting.from))
+    }
+
+    /// How many datagrams of strangers there were in all.
+    pub(crate) fn strangers(&self, watch: &Watch) -> u64
+        ensures { result ≡ min (watch.now.strangers + self.now.duty.device.inner.inner.inner.strangers) (2 ^ 64 - 1) }
+    {
+        let strangers = self.duty.device().tied().strangers();
+        watch.strangers().saturating_add(strangers)
+    }
+
+    /// What the counters show behind so many messages, of which so many came since they were told last.
+    fn counts(&self, watch: &Watch, written: u64, since: u64) -> Counts
+        ensures { AreCounts self.now watch.now written since result }
+    {
+        let device = self.duty.device();
+        let lost = device.inner().inner().lost();
+        Counts {
+            messages: written,
+            since,
+            naks: device.naks(),
+            lost: watch.lost().saturating_add(lost),
+            strangers: self.strangers(watch),
+            refused: self.follower.subscriber.refused(),
+        }
+    }
+
+    /// Tells the counters behind so many messages, of which so many came since they were told last; without an image nothing.
+    pub(crate) fn tell_counters<E: Write>(
+        &self,
+        errors: &mut E,
+        watch: &Watch,
+        written: u64,
+        since: u64,
+    ) -> io::Result<()>
+        ensures { TellsNow self.now watch.now written since (λ p c. OnOk result (TellsLine p self.now.opening.session c (E.contents errors.old) (E.contents errors.new))) }
+    {
+        let counts = self.counts(watch, written, since);
+        match self.follower.subscriber.positions() {
+            None => Ok(()),
+            Some(positions) => {
+                let id = SessionId(self.opening.session);
+                tell(errors, Line::Counters(id, Counted(positions, counts)))
+            }
+        }
+    }
+
+    /// Its peer, where it stands, and the end that was told.
+    pub(crate) fn unfinished(&self) -> Unfinished
+        ensures { IsUnfinished self.now result }
+    {
+        Unfinished {
+            from: self.peer(),
+            session: self.opening.session,
+            position: self.place(),
+            end: self.follower.end,
+        }
+    }
+
+    /// What it has done, in so many messages, since the first image was opened at a moment.
+    pub(crate) fn totals(&self, watch: &Watch, messages: u64, opened: u64) -> Totals
+        ensures { AreTotals self.now watch.now messages opened result }
+    {
+        Totals {
+            pace: Pace {
+                count: messages,
+                nanoseconds: watch.moment().saturating_sub(opened),
+            },
+            session: self.opening.session,
+            bytes: self.place().saturating_sub(self.opening.position),
+            naks: self.duty.device().naks(),
+        }
+    }
+
+    /// Tells for a second where the subscriber stands, at once and each 200 ms, and polls nothing more.
+    pub(crate) fn bid_farewell<R: Wait + Clock>(
+        &mut self,
+        rt: &R,
+        watch: &mut Watch,
+    ) -> Result<(), SubscribeFault>
+        requires { self.old.duty.mtu ≡ REPLY }
+        ensures unpolled { LivesUnpolled self.old.follower.subscriber self.new.follower.subscriber }
+        ensures still { StandsStill self.old.follower.subscriber self.new.follower.subscriber }
+        ensures images { self.new.images ≡ self.old.images }
+        ensures farewell { OnOk result (BidsFarewell self.old.follower.subscriber watch.old.moment self.new.follower.subscriber watch.new.moment) }
+    {
+        watch.see(rt)?;
+        let ended = watch.moment();
+        let mut idle = IdleStrategy::new();
+        for _ in rt.forever() {
+            let busy = self.tell_place(watch)?;
+            watch.see(rt)?;
+            if watch.moment().saturating_sub(ended) >= FAREWELL {
+                return Ok(());
+            }
+            idle.after(rt, busy);
+        }
+        unreachable!()
+    }
+}
+
+/// Tells that the session is silent, or that it goes on.
+fn tell_change<E: Write>(errors: &mut E, silent: bool, session: i32, place: u64) -> io::Result<()>
+    ensures { OnOk result (Appends (E.contents errors.old) (E.contents errors.new) (silence_line silent session place)) }
+{
+    let id = SessionId(session);
+    if silent {
+        tell(errors, Line::Silent(id, place))
+    } else {
+        tell(errors, Line::Again(id, place))
+    }
+}

@@ -1,0 +1,224 @@
+//! A subscriber without an image.
+
+ghost use Rattle.std.specs.Prelude.{◌≡◌, None, IfNone, IfOk, IfSome, OnOk};
+ghost use Rattle.std.specs.Io.KnownBytes.{Appends};
+ghost use Rattle.theory.specs.Control.{asking_at};
+ghost use Rattle.theory.specs.Wire.{IsHeader, SM};
+ghost use Rattle.loss_injector.specs.Losing.{begun};
+ghost use Rattle.peer.specs.Patience.{patient};
+ghost use Rattle.peer.specs.Ties.{tied_to};
+ghost use Rattle.subscriber.specs.Hearings.{following};
+ghost use Rattle.frames.specs.Frames.{header_of, setup_of, status_of};
+ghost use Rattle.subscriber.specs.Calls.{Heeds, IsCall, IsCallWith, IsJoined, IsJoinedBy};
+ghost use Rattle.subscriber.specs.Meetings.{Opens, id_of};
+ghost use Rattle.subscriber.specs.Texts.{waiting_counts, waiting_line};
+ghost use Rattle.subscriber.specs.Watches.{IsQuiet, TellsWhereDue, after_call};
+
+pub(crate) mod setup_offer;
+pub(crate) mod window;
+
+use crate::images::Images;
+use crate::images::follower::Follower;
+use crate::images::session::Session;
+use crate::images::session_device::{SessionDevice, SubscriberDevice};
+use crate::images::unheard::Unheard;
+use crate::listening::setup_offer::{
+    SetupOffer, header_in, id_of, meeting_of, opened, takes_session,
+};
+use crate::reporting::{Counted, Counts, Line, NOWHERE, tell as tell_line};
+use crate::watch::Watch;
+use agents::{Duty, IdleStrategy, REPLY};
+use endpoint::{DeviceError, DeviceFailed};
+use frames::{FaultCounts, Header, Status};
+use loss_injector::Lossy;
+use options::SubscribePlan;
+use peer::{Listener, PatientDevice, TiedDevice, setup_in};
+use receiver::asking;
+use std::alloc::{AllocError, Global};
+use std::io;
+use std::io::Write;
+use std::net::SocketAddr;
+use std::sync::Wait;
+use std::time::Clock;
+
+/// What a datagram is to a subscriber without an image.
+#[derive(Clone, Copy)]
+pub(crate) enum Call {
+    /// A SETUP that opens an image.
+    Opens(SetupOffer),
+    /// A frame of a stream that the plan takes, by its header: a SETUP is asked for.
+    Asks(Header),
+    /// Anything else.
+    Stranger,
+}
+
+/// What a frame of a stream is, by its header.
+fn frame_call(plan: &SubscribePlan, from: SocketAddr, datagram: &[u8]) -> Call
+    ensures { IsCallWith plan.now from datagram.now None result }
+{
+    match header_in(datagram) {
+        Some(header) if header.stream == plan.end.stream && takes_session(plan, header.session) => {
+            Call::Asks(header)
+        }
+        _ => Call::Stranger,
+    }
+}
+
+/// What a datagram is that this one sent.
+fn call_of(plan: &SubscribePlan, from: SocketAddr, datagram: &[u8]) -> Call
+    ensures { IsCall plan.now from datagram.now result }
+{
+    match setup_in(datagram) {
+        None => frame_call(plan, from, datagram),
+        Some(setup) => match meeting_of(plan, from, &setup) {
+            None => Call::Stranger,
+            Some(meeting) => Call::Opens(meeting),
+        },
+    }
+}
+
+/// Notes whether a call of the socket worked.
+fn note_call(answer: Result<(), DeviceFailed>, watch: &mut Watch)
+    ensures { watch.new ≡ after_call answer watch.old }
+{
+    match answer {
+        Ok(()) => watch.work(),
+        Err(_) => watch.lose(),
+    }
+}
+
+/// The message by which the first image's receiver asks for a SETUP, with the place of a frame.
+fn first_asking(plan: &SubscribePlan, header: &Header) -> Status
+    requires { IsHeader (header_of header.now) }
+    ensures { SM 128 (status_of result) ≡ asking_at (header_of header.now) (id_of plan.now 0) }
+{
+    asking(header, id_of(plan, 0))
+}
+
+/// Heeds what came. The answer is the SETUP that opens an image, if it was one. The sender of a frame is asked for a SETUP.
+fn heed(plan: &SubscribePlan, listener: &mut Listener, watch: &mut Watch) -> Option<SetupOffer>
+    ensures heeds { Heeds plan.now listener.old.came (record { socket = listener.old; seen = watch.old }) result (record { socket = listener.new; seen = watch.new }) }
+    ensures opens { IfSome result (λ m. Opens plan.now (setup_of m.setup) m.opening) }
+    ensures moment { watch.new.moment ≡ watch.old.moment }
+{
+    let (from, datagram) = listener.last()?;
+    match call_of(plan, from, datagram) {
+        Call::Opens(meeting) => {
+            watch.hear();
+            Some(meeting)
+        }
+        Call::Asks(header) => {
+            watch.call();
+            listener.ask(from, first_asking(plan, &header));
+            None
+        }
+        Call::Stranger => {
+            watch.count_stranger();
+            None
+        }
+    }
+}
+
+/// A device that is tied to the one who sent the SETUP.
+fn tied_duty(
+    alloc: Global,
+    plan: &SubscribePlan,
+    listener: Listener,
+    meeting: &SetupOffer,
+) -> Result<Duty<SubscriberDevice>, AllocError>
+    ensures { IfOk result (λ d. d ≡ record { device = following (begun (patient (tied_to listener meeting.now.from)) plan.now.end.rates plan.now.end.seed) meeting.now.opening.session plan.now.end.stream; mtu = 40 }) }
+{
+    let tied = PatientDevice::new(TiedDevice::new(listener, meeting.from));
+    let lossy = Lossy::new(alloc, tied, plan.end.rates, plan.end.seed);
+    let device = SessionDevice::new(lossy, meeting.opening.session, plan.end.stream);
+    match Duty::new(alloc, device, REPLY) {
+        Ok(duty) => Ok(duty),
+        Err(_) => Err(AllocError),
+    }
+}
+
+/// Opens the first image, and ties the device to the one who sent the SETUP.
+fn join(
+    alloc: Global,
+    plan: &SubscribePlan,
+    listener: Listener,
+    meeting: &SetupOffer,
+    now: u64,
+) -> Result<Session, DeviceError>
+    ensures { IfOk result (IsJoinedBy plan.now now meeting.now listener) }
+{
+    let Ok(subscriber) = opened(alloc, plan, 0, &meeting.setup, now) else {
+        return Err(DeviceError::Memory);
+    };
+    let Ok(duty) = tied_duty(alloc, plan, listener, meeting) else {
+        return Err(DeviceError::Memory);
+    };
+    Ok(Session {
+        opening: meeting.opening,
+        images: Images::first(),
+        follower: Follower {
+            subscriber,
+            session: meeting.opening.session,
+            stream: plan.end.stream,
+            end: None,
+        },
+        duty,
+        lost: false,
+        silent: false,
+        warned: false,
+        ended: false,
+        unheard: Unheard::new(),
+    })
+}
+
+/// Tells the counters, once a second.
+fn tell<E: Write>(plan: &SubscribePlan, errors: &mut E, watch: &mut Watch) -> io::Result<()>
+    ensures same { watch.new ≡ record watch.old { told = watch.new.told; written = watch.new.written } }
+    ensures tells { TellsWhereDue plan.now 0 watch.old watch.new (OnOk result (Appends (E.contents errors.old) (E.contents errors.new) (waiting_line (waiting_counts watch.old)))) (OnOk result (E.contents errors.new ≡ E.contents errors.old)) }
+{
+    let counts = Counts {
+        messages: 0,
+        since: 0,
+        naks: 0,
+        lost: watch.lost(),
+        strangers: watch.strangers(),
+        refused: FaultCounts::new(),
+    };
+    match watch.tells(plan, 0) {
+        None => Ok(()),
+        Some(_) => tell_line(errors, Line::Waiting(Counted(NOWHERE, counts))),
+    }
+}
+
+/// Listens until a SETUP opens an image for the plan. There is none where no datagram came that the plan takes for as long as
+/// it says. The fault is that memory was refused, the clock can't be read, or every call of the socket failed for 5 seconds.
+pub fn listen<R: Wait + Clock, E: Write>(
+    rt: &R,
+    alloc: Global,
+    plan: &SubscribePlan,
+    mut listener: Listener,
+    errors: &mut E,
+    watch: &mut Watch,
+) -> Result<Option<Session>, DeviceError>
+    ensures joined { IfOk result (λ found. IfSome found (IsJoined plan.now watch.new)) }
+    ensures quiet { IfOk result (λ found. IfNone found (IsQuiet plan.now watch.new)) }
+    // For each datagram that calls for a SETUP its sender was asked.
+    ensures asks { listener.asks ≡ watch.old.calls → IfOk result (λ found. IfSome found (λ j. j.duty.device.inner.inner.inner.socket.asks ≡ watch.new.calls)) }
+{
+    let mut idle = IdleStrategy::new();
+    for _ in rt.forever() {
+        watch.see(rt)?;
+        note_call(listener.hear(), watch);
+        let came = listener.last().is_some();
+        if let Some(meeting) = heed(plan, &mut listener, watch) {
+            return Ok(Some(join(alloc, plan, listener, &meeting, watch.moment())?));
+        }
+        let _ = tell(plan, errors, watch);
+        watch.check_works()?;
+        if watch.is_quiet(plan) {
+            return Ok(None);
+        }
+        idle.after(rt, came);
+    }
+    unreachable!()
+}

@@ -1,0 +1,266 @@
+//! A SETUP that would open an image, and the subscriber that it opens.
+
+ghost use Rattle.std.specs.Prelude.{◌≡◌, ◌↔◌, None, option_map, IfNone, IfOk, IfSome, IsTrue};
+ghost use Rattle.frames.specs.Frames.{header_of, setup_of, wire};
+ghost use Rattle.receiver.specs.Representing.{Represents};
+ghost use Rattle.subscriber.specs.Calls.{IsMeeting};
+ghost use Rattle.subscriber.specs.Meetings.{Admits, HasMet, IsOngoing, Opens, OpensNothing, TakesSession, TellsHeader, bytes_of, header_told, id_of, invited, window_in};
+ghost use Rattle.subscriber.specs.Turning.{GivesWay, GoesOn, IsAgain, IsAhead, IsAnother, IsLoss, IsNext, IsUnheard};
+ghost use Rattle.theory.specs.Wire.{IsFrame, IsHeader, SETUP, spelling};
+
+use crate::images::session::Session;
+use crate::images::{Loss, loss_between};
+use crate::listening::window::window_of;
+use crate::watch::Watch;
+use frames::{Frame, Header, Setup, read_frame, write_frame};
+use options::SubscribePlan;
+use peer::end_told;
+use position::Geometry;
+use receiver::{ReceiverCore, Subscriber, judge};
+use std::alloc::{AllocError, Global};
+use std::net::SocketAddr;
+
+/// The greatest message that any stream has, in bytes.
+pub const GREATEST_MESSAGE: usize = 2_097_152;
+
+/// The bytes of a SETUP.
+const SETUP_BYTES: usize = 40;
+
+/// An image that a SETUP opens: its session, its shape, and the position at which it is joined.
+#[derive(Clone, Copy, Debug, PartialEq, Eq)]
+pub struct ImageParams {
+    pub session: i32,
+    pub geometry: Geometry,
+    pub position: u64,
+}
+
+impl ImageParams {
+    /// Whether a SETUP that would open this one is the session's own, so that an image goes on that is rebuilt up to here.
+    fn goes_on(&self, was: &ImageParams, rebuilt: u64) -> bool
+        ensures { IsTrue result ↔ GoesOn was.now rebuilt self.now }
+    {
+        self.session == was.session && self.geometry == was.geometry && self.position >= rebuilt
+    }
+}
+
+/// A SETUP, who sent it, and the image that it would open.
+#[derive(Clone, Copy)]
+pub struct SetupOffer {
+    pub from: SocketAddr,
+    pub setup: Setup,
+    pub opening: ImageParams,
+}
+
+/// What would open by a SETUP that came from somebody.
+pub fn meeting_of(plan: &SubscribePlan, from: SocketAddr, setup: &Setup) -> Option<SetupOffer>
+    ensures found { IfSome result (IsMeeting plan.now from setup.now) }
+    ensures none { IfNone result (OpensNothing plan.now (setup_of setup.now)) }
+{
+    let opening = opening_of(plan, setup)?;
+    Some(SetupOffer {
+        from,
+        setup: *setup,
+        opening,
+    })
+}
+
+impl SetupOffer {
+    /// Whether it is of the image's session, and another sent it than its peer.
+    pub(crate) fn is_another(&self, session: &Session) -> bool
+        ensures { IsTrue result ↔ IsAnother self.now session.now }
+    {
+        self.opening.session == session.opening.session && self.from != session.peer()
+    }
+
+    /// Whether it is of another session, which is to be told as not heard.
+    pub(crate) fn is_unheard(&self, session: &Session) -> bool
+        ensures { IsTrue result ↔ IsUnheard self.now session.now }
+    {
+        self.opening.session != session.opening.session
+            && session.unheard.is_unnamed(self.opening.session)
+    }
+
+    /// Whether it is the next publisher's: of another session, or another sent it than the peer.
+    fn is_next(&self, session: &Session) -> bool
+        ensures { IsTrue result ↔ IsNext self.now session.now }
+    {
+        self.opening.session != session.opening.session || self.from != session.peer()
+    }
+
+    /// Whether it is the image's own, from its peer, and lies above what is rebuilt.
+    fn is_ahead(&self, session: &Session, rebuilt: u64) -> bool
+        ensures { IsTrue result ↔ IsAhead self.now rebuilt session.now }
+    {
+        !self.is_next(session)
+            && self.opening.goes_on(&session.opening, rebuilt)
+            && rebuilt < self.opening.position
+    }
+
+    /// Whether an image gives way to it: to the next publisher's where it has ended, else where it is silent or lost.
+    pub(crate) fn takes_the_place(&self, session: &Session, watch: &Watch, rebuilt: u64) -> bool
+        ensures { IsTrue result ↔ GivesWay watch.now self.now rebuilt session.now }
+    {
+        if session.ended {
+            return self.is_next(session);
+        }
+        watch.is_silent() || (watch.is_behind() && self.is_ahead(session, rebuilt))
+    }
+
+    /// Whether it is the session's own again, which was silent and hasn't ended, where the image is rebuilt up to here.
+    pub(crate) fn is_again(&self, session: &Session, watch: &Watch, rebuilt: u64) -> bool
+        ensures { IsTrue result ↔ IsAgain watch.now self.now rebuilt session.now }
+    {
+        !session.ended && watch.is_silent() && self.opening.goes_on(&session.opening, rebuilt)
+    }
+
+    /// What is missing behind an image that gives way to it: where what it lacks didn't come, all between its consumer and this.
+    pub(crate) fn loss_behind(&self, session: &Session, watch: &Watch) -> Option<Loss>
+        ensures { IsLoss watch.now self.now session.now result }
+    {
+        if session.ended || !watch.is_behind() {
+            return None;
+        }
+        loss_between(session.place(), self.opening.position)
+    }
+}
+
+/// The header of a DATA frame, a padding or a heartbeat.
+fn header_told(frame: &Frame<'_>) -> Option<Header>
+    ensures told { option_map header_of result ≡ header_told (wire frame.now) }
+    ensures legal { IsFrame (wire frame.now) → IfSome result (λ h. IsHeader (header_of h)) }
+{
+    match *frame {
+        Frame::Data { header, .. } | Frame::Pad { header, .. } | Frame::Heartbeat { header } => {
+            Some(header)
+        }
+        _ => None,
+    }
+}
+
+/// The header of the frame at a datagram's front, where that is a DATA frame, a padding or a heartbeat.
+pub fn header_in(datagram: &[u8]) -> Option<Header>
+    ensures told { TellsHeader datagram.now (option_map header_of result) }
+    ensures legal { IfSome result (λ h. IsHeader (header_of h)) }
+{
+    match read_frame(datagram) {
+        Ok((frame, _)) => header_told(&frame),
+        Err(_) => None,
+    }
+}
+
+/// Whether the plan takes a session.
+pub fn takes_session(plan: &SubscribePlan, session: i32) -> bool
+    ensures { IsTrue result ↔ TakesSession plan.now.session session }
+{
+    match plan.session {
+        None => true,
+        Some(named) => session == named,
+    }
+}
+
+/// A number of bytes, 0 for a negative one.
+fn bytes_of(number: i32) -> u32
+    ensures { result ≡ bytes_of number }
+{
+    u32::try_from(number).unwrap_or(0)
+}
+
+/// Whether a SETUP is of a stream that goes on: it tells no end.
+fn is_ongoing(setup: &Setup) -> bool
+    ensures { IsTrue result ↔ IsOngoing (setup_of setup.now) }
+{
+    match end_told(&Frame::Setup(*setup), setup.session, setup.stream) {
+        None => true,
+        Some(_) => false,
+    }
+}
+
+/// Whether the plan takes a SETUP.
+fn admits(plan: &SubscribePlan, setup: &Setup) -> bool
+    ensures { IsTrue result ↔ Admits plan.now (setup_of setup.now) }
+{
+    if !takes_session(plan, setup.session) {
+        return false;
+    }
+    if setup.stream != plan.end.stream {
+        return false;
+    }
+    if bytes_of(setup.term_length) > plan.greatest_term {
+        return false;
+    }
+    is_ongoing(setup)
+}
+
+/// The window of an image that a SETUP opens.
+fn window_in(setup: &Setup) -> u32
+    ensures { result ≡ window_in (setup_of setup.now) }
+{
+    window_of(bytes_of(setup.term_length), bytes_of(setup.mtu))
+}
+
+/// The image that a SETUP opens for the plan, if it opens one.
+pub fn opening_of(plan: &SubscribePlan, setup: &Setup) -> Option<ImageParams>
+    ensures found { IfSome result (Opens plan.now (setup_of setup.now)) }
+    ensures none { IfNone result (OpensNothing plan.now (setup_of setup.now)) }
+{
+    if !admits(plan, setup) {
+        return None;
+    }
+    match judge(setup, window_in(setup)) {
+        Ok((geometry, position)) => Some(ImageParams {
+            session: setup.session,
+            geometry,
+            position,
+        }),
+        Err(_) => None,
+    }
+}
+
+/// The receiver id of the image with this number.
+pub fn id_of(plan: &SubscribePlan, number: u64) -> i64
+    ensures { result ≡ id_of plan.now number }
+{
+    plan.receiver.wrapping_add_unsigned(number)
+}
+
+/// The datagram that a SETUP is.
+fn datagram_of(setup: Setup) -> [u8; SETUP_BYTES]
+    ensures { result ≡ spelling (SETUP (setup_of setup)) }
+{
+    let mut datagram = [0; SETUP_BYTES];
+    write_frame(&Frame::Setup(setup), &mut datagram);
+    datagram
+}
+
+/// The receiver that a SETUP invites to the image with this number, which has met nothing.
+fn invited(alloc: Global, plan: &SubscribePlan, number: u64, setup: &Setup) -> ReceiverCore
+    ensures shown { Represents result (invited plan.now number (setup_of setup.now)) }
+    ensures image { result.image ≡ None }
+    ensures consumers { result.consumers ≡ 1 }
+{
+    ReceiverCore::new(
+        alloc,
+        setup.session,
+        setup.stream,
+        window_in(setup),
+        id_of(plan, number),
+        1,
+    )
+}
+
+/// The subscriber to the image with this number that a SETUP opens at a moment, in nanoseconds.
+pub fn opened(
+    alloc: Global,
+    plan: &SubscribePlan,
+    number: u64,
+    setup: &Setup,
+    now: u64,
+) -> Result<Subscriber, AllocError>
+    ensures { IfOk result (HasMet plan.now number (setup_of setup.now) now) }
+{
+    let core = invited(alloc, plan, number, setup);
+    let mut subscriber = Subscriber::new(alloc, core, GREATEST_MESSAGE);
+    let datagram = datagram_of(*setup);
+    subscriber.on_datagram(&datagram, now)?;
+    Ok(subscriber)
+}
