@@ -21,6 +21,12 @@ returns-in-Version g c =
       short = λ three. absurd (no_version c.shown.result c.shown.ensures three);
     }
 
+pub returns-in-PublishHelp-clause-status : goal.returns-in-PublishHelp-clause-status
+returns-in-PublishHelp-clause-status g c =
+    let words = map (λ s. s.now) c.args.words.now in
+    let behind = texts_behind c.args.words.now c.line_words-line.result.now c.line_words-line.ensures in
+    by_reader words _ c.publish_command.result (c.in-PublishHelp.ensures ∙ ap reader_of behind) c.publish_command.ensures.status
+
 pub returns-in-PublishHelp-clause-refused : goal.returns-in-PublishHelp-clause-refused
 returns-in-PublishHelp-clause-refused g c =
     let words = map (λ s. s.now) c.args.words.now in
