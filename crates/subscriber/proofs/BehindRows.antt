@@ -1,5 +1,5 @@
 -- Rows: when a subscriber is behind, in which turns that is judged, what is lacking, and what is missing between images.
-use Rattle.std.proofs.Common.{◌≡◌, ◌≤◌, ◌<◌, ◌-◌, ℕ, ℤ, pos, negsuc, true, false, Option, None, Some, refl, arith}
+use Rattle.std.proofs.Common.{◌≡◌, pos, negsuc, true, false, refl, arith}
 use Rattle.subscriber.specs.Images.{first_image, has_lost, loss_between, next_images}
 use Rattle.subscriber.specs.Standing.{lies_above}
 use Rattle.subscriber.specs.Watches.{IsBehind, IsSilent, JudgesEach, Seen, attending, beginning, begun, hearing, judging, keeping, looking, noting}

@@ -1,10 +1,10 @@
 -- Rows: when a subscriber has all of its stream, has enough, and how one ends that is quiet.
-use Rattle.std.proofs.Common.{◌≡◌, ◌≤◌, ◌-◌, ◌^◌, ℕ, Bool, IsTrue, subst, Option, None, Some, true, false, inl, inr, refl, arith, lit≤}
+use Rattle.std.proofs.Common.{◌≡◌, ◌-◌, ◌^◌, ℕ, subst, Option, None, Some, true, false, inl, inr, refl, arith, lit≤}
 use Rattle.options.specs.declared.ends.plans.SubscribePlan.{SubscribePlan}
 use Rattle.subscriber.specs.Answering.{ahead_of}
 use Rattle.subscriber.specs.Watches.{Seen}
 use Rattle.subscriber.specs.Leavings.{HasEnough, IsEnding, IsQuietEnding}
-use Rattle.subscriber.specs.Standing.{HasAll, HasAllUpTo}
+use Rattle.subscriber.specs.Standing.{HasAllUpTo}
 use Rattle.subscriber.specs.declared.ending.Ending.TheVariants.{Whole, Short, Lost}
 use Rattle.subscriber.specs.declared.images.session.Stand.{Stand}
 

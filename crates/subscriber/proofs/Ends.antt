@@ -9,7 +9,7 @@ use Rattle.theory.specs.Setup.{NamesGeometry}
 use Rattle.theory.specs.Wire.{Setup, Wire}
 use Rattle.frames.specs.Fronts.{FrontSpells}
 use Rattle.peer.specs.Farewells.{EndsAt}
-use Rattle.subscriber.specs.Followers.{IsGreatestEnd, NotesDatagramsEnd, NotesEnd, NotesEndIn, NotesEnds, TellsEnd, with_end}
+use Rattle.subscriber.specs.Followers.{IsGreatestEnd, NotesDatagramsEnd, NotesEnds, TellsEnd, with_end}
 use Rattle.peer.specs.Setups.{TellsSetup, setup_told}
 
 same_pos : (a b : ℕ) → pos a ≡ pos b → a ≡ b

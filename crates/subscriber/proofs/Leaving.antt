@@ -1,5 +1,5 @@
 -- What a subscriber lives through where it polls nothing more.
-use Rattle.std.proofs.Common.{◌≡◌, ◌⊎◌, ◌∙◌, ◌+◌, ◌≤◌, ℕ, ℤ, pos, negsuc, Bool, None, Some, List, [], ◌∷◌, ◌++◌, map, length, Option, Result, Ok, Err, IfOk, inl, inr, refl, sym, ap, append-nil, subst, arith, true, false, if◌then◌else◌}
+use Rattle.std.proofs.Common.{◌≡◌, ◌⊎◌, ◌∙◌, ℕ, ℤ, pos, negsuc, Bool, None, Some, List, [], ◌∷◌, ◌++◌, map, length, Option, Result, Ok, Err, IfOk, inl, inr, refl, sym, ap, append-nil, subst, arith, true, false, if◌then◌else◌}
 use Rattle.std.specs.Io.KnownBytes.{Appends}
 use Rattle.std.proofs.KnownBytes.{Appends-nil}
 use Rattle.theory.specs.Image.{Image, after_heartbeat, after_insert, is_accepted}

@@ -21,7 +21,7 @@ use Rattle.subscriber.specs.Endings.{EndsSo}
 use Rattle.subscriber.specs.declared.ending.Ending.{Ending}
 use Rattle.subscriber.specs.declared.ending.Ending.TheVariants.{Lost, Short, Whole}
 use Rattle.subscriber.specs.Deliveries.{Delivers, PollsAll, PollsNone, WritesAndNotes, WritesFirst}
-use Rattle.subscriber.specs.Living.{AreLives, AreUnlost, Follows, IsLossFrom, IsLossTo, IsNumbered, Life, LosesNothing, LivesOn, WritesActs, WritesLife, WritesLives, given_through, missing_through}
+use Rattle.subscriber.specs.Living.{AreUnlost, Follows, IsLossFrom, IsLossTo, IsNumbered, Life, LosesNothing, LivesOn, WritesActs, WritesLife, WritesLives, given_through, missing_through}
 use Rattle.subscriber.specs.Turning.{Attends, Considers, ConsidersOffer, IsLoss, Passes, Renews, Replaces, Resumes}
 use Rattle.subscriber.specs.Offers.{SubscriberDevice, setup_taken}
 use Rattle.subscriber.specs.Losing.{with_device}

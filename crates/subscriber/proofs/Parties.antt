@@ -1,5 +1,5 @@
 -- A follower's cycle is its subscriber's, and it notes the ends that it hears.
-use Rattle.std.proofs.Common.{◌≡◌, ◌⊎◌, ◌∙◌, ℕ, ℤ, Bool, List, [], ◌∷◌, Option, inl, inr, refl, sym, ap, subst}
+use Rattle.std.proofs.Common.{◌≡◌, ◌⊎◌, ◌∙◌, ℕ, ℤ, Bool, List, [], ◌∷◌, Option, inl, inr, sym, ap, subst}
 use Rattle.agents.specs.Cycles.{Cycle, Fault, HearsAll, TicksBehind}
 use Rattle.agents.specs.Parties.{ReceiverHears, ReceiverTicks}
 use Rattle.endpoint.specs.Devices.{Device}

@@ -1,6 +1,6 @@
 -- Rows: when an image gives way to a SETUP.
-use Rattle.std.proofs.Common.{◌≡◌, ◌⊎◌, ◌≤◌, ◌-◌, ℕ, IsTrue, inl, inr, refl, arith}
-use Rattle.subscriber.specs.Watches.{IsBehind, IsSilent, Seen}
+use Rattle.std.proofs.Common.{◌≡◌, ℕ, IsTrue, inl, inr, arith}
+use Rattle.subscriber.specs.Watches.{IsBehind, Seen}
 use Rattle.subscriber.specs.declared.images.session.Session.{Session}
 use Rattle.subscriber.specs.declared.listening.setup_offer.SetupOffer.{SetupOffer}
 use Rattle.subscriber.specs.Turning.{GivesWay, IsAgain, IsAhead, IsNext}

@@ -1,5 +1,5 @@
 -- When a subscriber has heard its session, why it ends, what it lives through then, and why it can't begin.
-use Rattle.std.specs.Prelude.{◌≡◌, ◌⊎◌, ◌≤◌, ◌+◌, ⊤, ℕ, List, [], ◌∷◌, Bool, true, false, IsTrue, Option, None, Some, if◌then◌else◌}
+use Rattle.std.specs.Prelude.{◌≡◌, ◌⊎◌, ◌≤◌, ⊤, ℕ, List, [], ◌∷◌, Bool, true, false, IsTrue, Option, None, Some, if◌then◌else◌}
 use Rattle.peer.specs.declared.fault.BindError.{BindError}
 use Rattle.peer.specs.declared.fault.BindError.TheVariants as binds
 use Rattle.options.specs.declared.ends.plans.SubscribePlan.{SubscribePlan}

@@ -1,5 +1,5 @@
 -- What a datagram is to a subscriber, and the subscriber that meets a SETUP.
-use Rattle.std.specs.Prelude.{◌≡◌, ◌≤◌, ⊤, ℕ, ℤ, pos, negsuc, List, length, Option, None, Some}
+use Rattle.std.specs.Prelude.{◌≡◌, ◌≤◌, ⊤, ℕ, ℤ, pos, negsuc, List, Option, None, Some}
 use Rattle.std.specs.Int.{w64, cast_signed, cast_unsigned}
 use Rattle.std.specs.Prelude.{◌+◌, ◌%◌, ◌^◌}
 use Rattle.theory.specs.Setup.{OpensAt}

@@ -3,8 +3,7 @@
 /// How a subscriber ends.
 #[derive(Clone, Copy, Debug, PartialEq, Eq)]
 pub enum Ending {
-    /// As many messages were written as were wanted; or all up to the end that the publisher told, where the subscriber was
-    /// to end with the stream; or it was quiet, where it wasn't.
+    /// As many messages were written as were wanted, or all up to the stream's told end; or it wasn't to end with that, and was quiet.
     Whole,
     /// It was to end with the stream, and was quiet before it heard of the end or had all up to it.
     Short,

@@ -18,14 +18,10 @@
 //! - `watch`: the time that was seen: what is silent, quiet, behind or broken.
 //!
 //! Where `subscribe` ends without a fault, a writer that tells what it holds has grown by whole messages, at most as many as
-//! were wanted: those that the polls of its images gave, image by image, each of which a SETUP opened and which lived through
-//! datagrams, moments and polls since (`WritesLives`). It ends whole or short only as `HasEnded` says, by where its consumer
-//! stands and the greatest end that the datagrams told which its newest image was handed, and whole only where no image was
-//! lost. Behind a fault the output has grown by the same, but for the last message at most, of which a part may be written; all
-//! of which a status message may have told is written whole (`BreaksLives`).
-//!
-//! Which datagrams came isn't said, since a device tells nothing of them; nor that anything comes, when an output fails, or that
-//! a flush carries bytes on. That the second thread gets its turns in time, `tools/channels` shows.
+//! were wanted: those that the polls of its images gave, image by image (`WritesLives`). How it ends, `HasEnded` says. Behind a
+//! fault a part of the last message may be written; all of which a status message may have told is written whole
+//! (`BreaksLives`). Which datagrams came isn't said, since a device tells nothing of them; nor that anything comes, when an output
+//! fails, or that a flush carries bytes on. That the second thread gets its turns in time, `tools/channels` shows.
 #![tactic(auto)]
 
 mod ending;

@@ -15,13 +15,11 @@ ghost use Rattle.subscriber.specs.Texts.{waiting_counts, waiting_line};
 ghost use Rattle.subscriber.specs.Watches.{IsQuiet, TellsWhereDue, after_call};
 
 pub(crate) mod setup_offer;
-pub(crate) mod window;
 
-use crate::images::Images;
 use crate::images::follower::Follower;
 use crate::images::session::Session;
 use crate::images::session_device::{SessionDevice, SubscriberDevice};
-use crate::images::unheard::Unheard;
+use crate::images::{Images, Unheard};
 use crate::listening::setup_offer::{
     SetupOffer, header_in, id_of, meeting_of, opened, takes_session,
 };

@@ -24,11 +24,10 @@ ghost use Rattle.subscriber.specs.declared.images.session.Stand.{Stand as Standi
 
 use crate::ending::{Ending, Subscribed};
 use crate::fault::SubscribeFault;
-use crate::images::Loss;
 use crate::images::delivery::{CYCLE_MESSAGES, cycle};
 use crate::images::follower::Follower;
 use crate::images::session::{Session, Stand};
-use crate::images::unheard::Unheard;
+use crate::images::{Loss, Unheard};
 use crate::listening::listen;
 use crate::listening::setup_offer::{SetupOffer, id_of, meeting_of, opened};
 use crate::repeating::repeater::StatusRepeater;
@@ -156,8 +155,7 @@ impl Subscription<'_> {
         Ok((all, (done.messages > 0) | moved | stirred))
     }
 
-    /// A turn up to where it is judged whether the image is lost. The answer is how many messages were written in all, whether
-    /// there was work, and where the subscriber stands.
+    /// A turn up to where a loss is judged: how many messages were written in all, whether there was work, and where it stands.
     fn look<W: Write, E: Write>(
         &self,
         session: &mut Session,
@@ -349,7 +347,7 @@ impl Subscription<'_> {
             return Ok(());
         }
         if meeting.is_again(session, watch, rebuilt) {
-            session.tie_again(meeting.from);
+            session.duty.device_mut().tie(meeting.from);
             return Ok(());
         }
         self.replace(session, meeting, errors, watch)?;

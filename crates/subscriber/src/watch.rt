@@ -10,8 +10,7 @@ use options::SubscribePlan;
 use std::marker::Model;
 use std::time::{Clock, Instant};
 
-/// Nanoseconds from one line of counters to the next. A longer time in which the clock wasn't looked at is no silence, and
-/// none in which the socket's calls failed.
+/// Nanoseconds from one line of counters to the next. A longer time in which nobody looked at the clock is no silence.
 const SECOND: u64 = 1_000_000_000;
 
 /// Nanoseconds after which a session is silent, and after which an image that lacks something is lost.
@@ -253,8 +252,7 @@ impl Watch {
         written.saturating_sub(self.written)
     }
 
-    /// Where the counters are to be told at the moment, behind so many messages: how many of these came since they were told
-    /// last. Then the next second begins.
+    /// Where the counters are due at the moment, behind so many messages: how many of these came since the last time.
     pub fn tells(&mut self, plan: &SubscribePlan, written: u64) -> Option<u64>
         ensures due { IsSome result ↔ IsDue plan.now self.old }
         ensures since { IfSome result (λ n. n ≡ written - self.old.written) }

@@ -12,14 +12,13 @@ ghost use Rattle.subscriber.specs.Losing.{LacksWhereLost, NotesKept, NotesLoss};
 ghost use Rattle.subscriber.specs.Standing.{HasAll, IsRebuiltTo, Stands, StandsAt, StandsHere, lacks, lies_above};
 ghost use Rattle.subscriber.specs.Telling.{AreCounts, AreTotals, IsUnfinished, TellsLine, TellsNow};
 ghost use Rattle.subscriber.specs.Texts.{another_line, ended_line, lost_line, silence_line, unheard_line};
-ghost use Rattle.subscriber.specs.Turning.{IsTiedTo, Warns};
+ghost use Rattle.subscriber.specs.Turning.{Warns};
 ghost use Rattle.subscriber.specs.Watches.{IsBroken, IsWithinTurn, judging};
 
 use crate::fault::SubscribeFault;
-use crate::images::Images;
 use crate::images::follower::Follower;
 use crate::images::session_device::SubscriberDevice;
-use crate::images::unheard::Unheard;
+use crate::images::{Images, Unheard};
 use crate::listening::setup_offer::{ImageParams, SetupOffer};
 use crate::reporting::{Counted, Counts, Line, SessionId, Totals, Unfinished, tell};
 use crate::watch::Watch;
@@ -139,14 +138,6 @@ impl Session {
         ensures { result ≡ self.now.duty.device.inner.inner.inner.peer }
     {
         self.duty.device().tied().peer()
-    }
-
-    /// Makes this the peer.
-    pub(crate) fn tie_again(&mut self, from: SocketAddr)
-        ensures { IsTiedTo from self.old self.new }
-    {
-        let device = self.duty.device_mut();
-        device.tie(from);
     }
 
     /// Notes that a frame of the session came, where the device has counted another number than before.

@@ -68,8 +68,7 @@ pub struct Notes {
     pub setup: Option<Setup>,
 }
 
-/// A status message that a subscriber's device was given to send, and the peer that it was for. Nothing else makes one
-/// (`SessionDevice::take_news`): it tells of nothing but what is written and flushed.
+/// A status message that a device was given to send, and its peer. Only `SessionDevice::take_news` makes one.
 #[derive(Clone, Copy)]
 pub struct SentStatus {
     to: SocketAddr,
@@ -125,8 +124,7 @@ pub enum PendingStatus {
     Cleared,
 }
 
-/// A device that notes what it hears of a session, counts the negative acknowledgements that it is given to send, and notes
-/// the last status message that it is given, whether the device behind it takes that or not.
+/// A device that notes what it hears of a session, and what it is given to send, whether the one behind it takes that or not.
 #[derive(Drop)]
 pub struct SessionDevice<D> {
     inner: D,
@@ -314,8 +312,7 @@ impl SubscriberDevice {
         tied.take_offer()
     }
 
-    /// Takes what is new of its status messages since this was called last: the last one that it was given, with its peer,
-    /// or that those before are of no use any more.
+    /// Takes what is new of its status messages since this was called last.
     pub fn take_news(&mut self) -> Option<StatusNews>
         ensures taken { result ≡ news_of self.old.inner.inner.inner.peer self.old.noted }
         ensures left { self.new ≡ news_taken self.old }

@@ -1,16 +1,18 @@
 //! A SETUP that would open an image, and the subscriber that it opens.
 
-ghost use Rattle.std.specs.Prelude.{◌≡◌, ◌↔◌, None, option_map, IfNone, IfOk, IfSome, IsTrue};
+ghost use Rattle.std.specs.Prelude.{◌≡◌, ◌≤◌, ◌↔◌, None, option_map, IfNone, IfOk, IfSome, IsTrue};
 ghost use Rattle.frames.specs.Frames.{header_of, setup_of, wire};
 ghost use Rattle.receiver.specs.Representing.{Represents};
 ghost use Rattle.subscriber.specs.Calls.{IsMeeting};
 ghost use Rattle.subscriber.specs.Meetings.{Admits, HasMet, IsOngoing, Opens, OpensNothing, TakesSession, TellsHeader, bytes_of, header_told, id_of, invited, window_in};
 ghost use Rattle.subscriber.specs.Turning.{GivesWay, GoesOn, IsAgain, IsAhead, IsAnother, IsLoss, IsNext, IsUnheard};
+ghost use Rattle.subscriber.specs.Windows.{datagrams_of, room_of, window_of};
+ghost use Rattle.theory.specs.Image.{IsWindow};
+ghost use Rattle.theory.specs.Position.{IsMtu, IsTermLength};
 ghost use Rattle.theory.specs.Wire.{IsFrame, IsHeader, SETUP, spelling};
 
 use crate::images::session::Session;
 use crate::images::{Loss, loss_between};
-use crate::listening::window::window_of;
 use crate::watch::Watch;
 use frames::{Frame, Header, Setup, read_frame, write_frame};
 use options::SubscribePlan;
@@ -25,6 +27,9 @@ pub const GREATEST_MESSAGE: usize = 2_097_152;
 
 /// The bytes of a SETUP.
 const SETUP_BYTES: usize = 40;
+
+/// The bytes of a receive buffer that a window may take: of the system's 212,992 three quarters, less an eighth of these.
+const SURE_ROOM: u64 = 139_776;
 
 /// An image that a SETUP opens: its session, its shape, and the position at which it is joined.
 #[derive(Clone, Copy, Debug, PartialEq, Eq)]
@@ -189,6 +194,39 @@ fn admits(plan: &SubscribePlan, setup: &Setup) -> bool
         return false;
     }
     is_ongoing(setup)
+}
+
+/// What a datagram of at most so many bytes takes of the buffer.
+fn room_of(mtu: u32) -> u64
+    ensures value { result ≡ room_of mtu }
+    ensures least { 1280 ≤ result }
+{
+    match mtu {
+        0..=512 => 1_280,
+        513..=1_536 => 2_304,
+        1_537..=3_584 => 4_352,
+        3_585..=7_680 => 8_448,
+        7_681..=15_872 => 16_640,
+        _ => 2 * u64::from(mtu) + 1_280,
+    }
+}
+
+/// How many datagrams of at most so many bytes find room in it.
+fn datagrams_of(mtu: u32) -> u64
+    ensures value { result ≡ datagrams_of mtu }
+    ensures few { result ≤ 109 }
+{
+    SURE_ROOM / room_of(mtu)
+}
+
+/// An image's window in bytes: half a term, or as much as its socket's buffer is sure to hold, but a datagram at the least.
+pub fn window_of(term_length: u32, mtu: u32) -> u32
+    ensures value { result ≡ window_of term_length mtu }
+    ensures allowed { IsTermLength term_length → IsMtu term_length mtu → IsWindow term_length mtu result }
+{
+    let room = datagrams_of(mtu) * u64::from(mtu);
+    let half = u64::from(term_length / 2).min(room) as u32;
+    half.max(mtu)
 }
 
 /// The window of an image that a SETUP opens.

@@ -7,8 +7,7 @@ use crate::images::session_device::{SentStatus, StatusNews};
 use peer::StatusSocket;
 use std::marker::Model;
 
-/// Nanoseconds after which a status message is sent again: one and a half of the intervals in which a subscriber that isn't
-/// held up sends one.
+/// Nanoseconds after which a status message is sent again: one and a half of the intervals in which a subscriber sends one.
 const REPEAT_AFTER: u64 = 300_000_000;
 
 /// A status message, and the moment at which it was noted or was repeated last.

@@ -1,4 +1,6 @@
 use Rattle.std.proofs.Common.{◌∙◌, ap, inl, inr, refl}
+use Rattle.subscriber.specs.Losing.{with_device}
+use Rattle.subscriber.specs.Offers.{SubscriberDevice, tied_anew}
 use Rattle.subscriber.specs.Watches.{keeping}
 use Rattle.subscriber.proofs.subscription.Subscription.turns.Goals as goal
 
@@ -20,7 +22,7 @@ returns-then-is_again-clause-turns g c = (
   inr (inl (record {
     way = c.takes_the_place.ensures.0 (let so = c.if-not-takes_the_place.false in cc);
     again = c.is_again.ensures.0 (let so = c.if-is_again.true in cc);
-    tied = c.tie_again.ensures;
+    tied = ap (λ (d : SubscriberDevice). with_device c.args.session.now d) (c.tie.ensures ∙ ap (λ (d : SubscriberDevice). tied_anew d c.args.meeting.now.from) c.device_mut.ensures.value);
     seen = refl;
   })),
 )

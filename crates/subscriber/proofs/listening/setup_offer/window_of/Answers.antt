@@ -2,7 +2,7 @@ use Rattle.std.proofs.Common.{◌≡◌, ℕ, rules, subst, sym}
 use Rattle.theory.specs.Image.{IsWindow}
 use Rattle.subscriber.proofs.Windows.{allowed}
 use Rattle.subscriber.specs.Windows.{window_of}
-use Rattle.subscriber.proofs.listening.window.window_of.Goals as goal
+use Rattle.subscriber.proofs.listening.setup_offer.window_of.Goals as goal
 
 pub returns-clause-allowed : goal.returns-clause-allowed
 returns-clause-allowed c =
