@@ -151,7 +151,7 @@ pub fn duty_over<D: Drop>(alloc: Global, device: D, mtu: u32) -> Result<Duty<D>,
 }
 
 /// A device of one way, along this one.
-pub fn along<D>(alloc: Global, device: D) -> Result<Fan<D>, AllocError> {
+pub fn along<D: Drop>(alloc: Global, device: D) -> Result<Fan<D>, AllocError> {
     let mut ways = Vec::new(alloc);
     ways.push(device)?;
     Ok(Fan::new(ways))
