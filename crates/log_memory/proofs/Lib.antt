@@ -20,3 +20,4 @@ pub mod Seating
 pub mod Rounds
 pub mod Parts
 pub mod Kept
+mod HeadPlaces

@@ -3,5 +3,6 @@ pub mod Rule
 pub mod Steps
 pub mod Opening
 pub mod Seats
+pub mod Kinds
 pub mod Rights
 pub mod Law

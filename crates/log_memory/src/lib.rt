@@ -17,18 +17,38 @@
 //! A seat carries slots in a row. `gather` makes one run of the memory of the units in it, and `deal_parts` puts the parts of a
 //! frame there; `collect_parts` takes them back as one right, and `deal_room` makes units of a run of zeros. None moves a byte.
 //!
+//! Each kind of step is a call on the table with a seat, which tells of its pass what `log_rule`'s like tells, and what slots
+//! came or went: a publisher's (`load_limit` to `commit`), a reader's (`look` to `consume`), the keeper's (`see` to `raise`), and
+//! those by which seats are dealt and joined, and told of themselves (`deal_publisher` to `weigh`).
+//!
 //! So each byte is written by one seat alone, or read by as many as have a part of it, in any schedule. A commit is many
 //! events of the stream at once: a store of each word of the frame, and that of its first. So is the load by which the
 //! keeper knows how far all is zero (`clean_to`): a store of zero over each word up to there. Every other kind of step is
 //! one event or a look, as it is without memory.
 #![tactic(auto)]
 
+mod keeper;
 mod law;
+mod publisher;
+mod reader;
 mod rights;
 mod rule;
+mod seat_moves;
+mod seats;
+mod steps;
 mod view;
 
+pub use keeper::{begin, clean_to, end, give_room, raise, see, take_back};
 pub use law::{seats_keep, steps_keep};
+pub use publisher::{
+    add, commit, exchange_count, exchange_next, load_count, load_limit, load_next, load_tail,
+};
+pub use reader::{consume, give, look, reread};
 pub use rights::{LogSeat, LogTable, collect_parts, deal_parts, deal_room, gather};
 pub use rule::LogMemoryRule;
+pub use seat_moves::{
+    deal_keeper, deal_knowledge, deal_news, deal_publisher, deal_reader, hand_over, meet,
+    part_again, renumber, settle, show, take_consumer, take_seat, tell, weigh,
+};
+pub use steps::Picked;
 pub use view::{LogView, Part, Room, Site};
