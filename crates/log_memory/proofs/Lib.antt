@@ -21,3 +21,4 @@ pub mod Rounds
 pub mod Parts
 pub mod Kept
 mod HeadPlaces
+mod Openings

@@ -1,8 +1,8 @@
 pub mod Places
 pub mod Rule
 pub mod Steps
-pub mod Opening
 pub mod Seats
 pub mod Kinds
+pub mod Opening
 pub mod Rights
 pub mod Law

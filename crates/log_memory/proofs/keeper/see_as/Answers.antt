@@ -1,6 +1,5 @@
-use Rattle.std.proofs.Common.{◌≡◌, ℕ, ◌+◌, ◌*◌, ◌<◌, sym, ap, ◌∙◌, subst, arith}
+use Rattle.std.proofs.Common.{◌≡◌, ℕ, ◌+◌, ◌*◌, sym, subst, arith}
 use Rattle.atomic_table.specs.Table.{Allows}
-use Rattle.log_rule.specs.Kept.{IsThere}
 use Rattle.log_rule.specs.Claims.Packs.{consumer_place}
 use Rattle.log_memory.specs.declared.view.Site.{Site}
 use Rattle.log_memory.specs.Kinds.{LoadsPosition}

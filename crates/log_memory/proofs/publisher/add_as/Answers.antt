@@ -1,7 +1,5 @@
-use Rattle.std.proofs.Common.{ℕ, ◌+◌, ◌%◌, ◌^◌, ◌≤◌, ap, sym, ◌∙◌, subst, arith}
+use Rattle.std.proofs.Common.{ℕ, ◌+◌, ◌%◌, ◌^◌, ap, sym, ◌∙◌, subst, arith}
 use Rattle.atomic_table.specs.Table.{Allows}
-use Rattle.theory.specs.Position.{framed_length, max_message}
-use Rattle.publication.specs.Steps.{geometry_of}
 use Rattle.log_rule.specs.Claims.Packs.{tail_place}
 use Rattle.log_memory.specs.declared.view.Site.{Site}
 use Rattle.log_memory.specs.Steps.{Adds, Mine}

@@ -1,7 +1,6 @@
-use Rattle.std.proofs.Common.{ℕ, List, ap, sym, ◌∙◌, subst, arith}
+use Rattle.std.proofs.Common.{ℕ, List, sym, subst}
 use Rattle.atomic_table.specs.Table.{Allows}
 use Rattle.log_memory.specs.declared.view.Site.{Site}
-use Rattle.log_memory.specs.Places.{head_place}
 use Rattle.log_memory.specs.Steps.{Commits, Mine}
 use Rattle.log_memory.specs.Rule.{LogMemoryRuled, ring}
 use Rattle.log_memory.proofs.HeadPlaces.{head_low}

@@ -1,4 +1,4 @@
-use Rattle.std.proofs.Common.{ℕ, ◌+◌, ap, sym, ◌∙◌, subst, arith}
+use Rattle.std.proofs.Common.{ℕ, ◌+◌, ap, sym, ◌∙◌, arith}
 use Rattle.log_memory.specs.Steps.{Mine}
 use Rattle.log_memory.proofs.Kept.{steps_keep}
 use Rattle.log_memory.proofs.publisher.exchange_count.Goals as goal

@@ -7,7 +7,7 @@ use Rattle.theory.specs.Words.{id_before, tail_word}
 use Rattle.publication.specs.Steps.{geometry_of}
 use Rattle.log_rule.specs.Claims.Packs.{tail_place}
 use Rattle.log_memory.specs.Kinds.{ExchangesNext}
-use Rattle.log_memory.specs.Rule.{LogMemoryRuled, ring}
+use Rattle.log_memory.specs.Rule.{LogMemoryRuled}
 use Rattle.log_memory.specs.Steps.{Mine}
 use Rattle.log_memory.proofs.Kept.{steps_keep}
 use Rattle.log_memory.proofs.publisher.exchange_next_as.Goals as goal

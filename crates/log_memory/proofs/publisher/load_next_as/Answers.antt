@@ -2,7 +2,7 @@ use Rattle.std.proofs.Common.{ℕ, suc, ◌+◌, ap, sym, ◌∙◌, subst, arit
 use Rattle.atomic_table.specs.Table.{Allows}
 use Rattle.log_rule.specs.Claims.Packs.{tail_place}
 use Rattle.log_memory.specs.Kinds.{LoadsNext}
-use Rattle.log_memory.specs.Rule.{LogMemoryRuled, ring}
+use Rattle.log_memory.specs.Rule.{LogMemoryRuled}
 use Rattle.log_memory.specs.Steps.{Mine}
 use Rattle.log_memory.proofs.Kept.{steps_keep}
 use Rattle.log_memory.proofs.publisher.load_next_as.Goals as goal

@@ -2,7 +2,7 @@ use Rattle.std.proofs.Common.{ℕ, ap, sym, ◌∙◌, subst, arith}
 use Rattle.atomic_table.specs.Table.{Allows}
 use Rattle.log_rule.specs.Claims.Packs.{tail_place}
 use Rattle.log_memory.specs.Kinds.{LoadsTail}
-use Rattle.log_memory.specs.Rule.{LogMemoryRuled, ring}
+use Rattle.log_memory.specs.Rule.{LogMemoryRuled}
 use Rattle.log_memory.specs.Steps.{Mine}
 use Rattle.log_memory.proofs.Kept.{steps_keep}
 use Rattle.log_memory.proofs.publisher.load_tail.Goals as goal

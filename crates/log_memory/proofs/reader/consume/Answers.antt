@@ -1,4 +1,4 @@
-use Rattle.std.proofs.Common.{◌≡◌, ℕ, ◌+◌, ◌*◌, ◌<◌, sym, subst, arith}
+use Rattle.std.proofs.Common.{◌≡◌, ℕ, ◌+◌, ◌*◌, ◌<◌, subst, arith}
 use Rattle.atomic_table.specs.Table.{Allows}
 use Rattle.log_rule.specs.Readings.{Consumes, reading}
 use Rattle.log_rule.specs.Claims.Packs.{consumer_place}

@@ -1,4 +1,3 @@
-use Rattle.std.proofs.Common.{◌∙◌}
 use Rattle.log_memory.proofs.Kept.{steps_keep}
 use Rattle.log_memory.proofs.reader.give.Goals as goal
 
