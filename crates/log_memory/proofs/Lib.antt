@@ -22,3 +22,4 @@ pub mod Parts
 pub mod Kept
 mod HeadPlaces
 mod Openings
+mod Turns

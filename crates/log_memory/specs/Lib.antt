@@ -3,6 +3,7 @@ pub mod Rule
 pub mod Steps
 pub mod Seats
 pub mod Kinds
+pub mod Order
 pub mod Opening
 pub mod Rights
 pub mod Law
