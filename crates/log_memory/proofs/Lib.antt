@@ -23,3 +23,4 @@ pub mod Kept
 mod HeadPlaces
 mod Openings
 mod Turns
+mod UnitPlaces

@@ -200,3 +200,7 @@ words_begun t legal unit below count words is =
 
 pub some_bytes : (g : Geometry) → IsGeometry g → 0 < 32 * units g
 some_bytes g legal = let p = some_units g legal.term.least in let n : ℕ = units g in omega arith
+
+pub three_terms : (g : Geometry) (p : ℕ) → 32 * p ≡ g.term_length → units g ≡ 3 * p
+unfolding units
+three_terms g p e = let t : ℕ = g.term_length in let e' : 32 * p ≡ t = e in omega arith

@@ -1,7 +1,6 @@
 -- The words and slots of a log that opens.
 use Rattle.std.specs.Prelude.{◌≡◌, ◌≢◌, ℕ, ◌+◌, ◌-◌, ◌*◌, ◌/◌, ◌%◌, ◌<◌, ◌≤◌, List, [], length, replicate, slice_index, slice_set, take}
 use mathlib.Core.Option.{some}
-use denote.RawPtr.{Ptr}
 use Rattle.atomic_table.specs.Seated.{TableId}
 use lib.ListN.{get_elem?}
 use Rattle.theory.specs.Bytes.{Identity}
@@ -70,11 +69,8 @@ pub record StandAt (position : ℕ) (words : List ℕ) (count : ℕ) (after : Li
 abbrev pub IsFirstWords : Key → ℕ → List ℕ → Type 0
 IsFirstWords key n words = StandAt key.start (control_words key.identity key.start n) key.consumers words
 
--- a log's table with its first seat, which has all, and the region where its frames lie
-pub record IsOpened (key : Key) (table : TableId) (site : Site) (seat : TableId) (m : Mine) (region : regions.Identity) (start : Ptr) : Type 0 where
+-- a log's table with its first seat, which has all
+pub record IsOpened (key : Key) (site : Site) (table seat : TableId) (m : Mine) : Type 0 where
   pub site_is : site.key ≡ key
-  pub region_is : site.region.identity ≡ region
-  pub start_is : start ≡ regions.start_address region
   pub of : IsSeatOf site table seat
-  pub slots : table.slots ≡ 8 * ring site
   pub first : m ≡ (whole_seat site, [])

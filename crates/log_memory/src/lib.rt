@@ -29,6 +29,7 @@
 
 mod keeper;
 mod law;
+mod memory;
 mod opening;
 mod order;
 mod publisher;
@@ -42,7 +43,8 @@ mod view;
 
 pub use keeper::{begin, clean_to, end, give_room, raise, see, take_back};
 pub use law::{seats_keep, steps_keep};
-pub use opening::{OpenLog, OwnTable, open, units_of};
+pub use memory::{LogMemory, OwnTable};
+pub use opening::{open, units_of};
 pub use order::pass_chosen;
 pub use publisher::{
     add, commit, exchange_count, exchange_next, load_count, load_limit, load_next, load_tail,

@@ -3,31 +3,18 @@
 ghost use Rattle.std.specs.Prelude.{◌≡◌, ◌+◌, ◌*◌, ◌%◌, ◌^◌, ◌<◌, ◌≤◌, IfOk, length, replicate};
 ghost use Rattle.theory.specs.Position.{IsGeometry, max_position};
 ghost use Rattle.position.specs.Openings.{IsConsumerCount};
-ghost use Rattle.region.specs.Identity.{start_address};
 ghost use Rattle.log_memory.specs.Opening.{AreRooms, IsFirstWords, IsLeft, IsOpened, IsUnitOf, StandAt, control_words};
 ghost use Rattle.log_memory.specs.Places.{units};
 
+use crate::memory::{LogMemory, shift_of};
 use crate::rights::LogSeat;
-use crate::rule::LogMemoryRule;
-use crate::view::{LogView, Site};
+use crate::view::Site;
 use atomic_table::Table;
 use log_rule::{CONSUMERS, COUNT, DATA, Key, LINE, packed, place_of};
 use position::Geometry;
-use region::{Access, Region, RegionStart, WriteAccess};
+use region::{Access, Region, WriteAccess};
 use std::alloc::{AllocError, Global};
 use std::sync::Arc;
-
-/// A log's table, with its memory.
-pub type OwnTable = Table<Access, LogView, Site, LogMemoryRule, Global>;
-
-/// A log that was just opened: its table, the one seat, which has all, the region where its frames lie, and where that begins.
-#[derive(Drop)]
-pub struct OpenLog {
-    pub table: OwnTable,
-    pub seat: LogSeat,
-    pub region: Arc<Region>,
-    pub start: RegionStart,
-}
 
 /// The units of three terms.
 pub fn units_of(geometry: &Geometry) -> usize
@@ -118,16 +105,17 @@ fn rooms(alloc: Global, memory: WriteAccess, units: usize) -> Result<Vec<Access>
     Ok(slots)
 }
 
-/// A log that opens, unconnected, its limit and its consumers at the start: all its memory is zero, and room.
-pub fn open(alloc: Global, key: &Key) -> Result<OpenLog, AllocError>
+/// A log that opens, unconnected, its limit and its consumers at the start: all its memory is zero, and room. The seat has all.
+pub fn open(alloc: Global, key: &Key) -> Result<(LogMemory, LogSeat), AllocError>
     requires geometry { IsGeometry key.now.identity.geometry }
     requires unit { key.now.start % 32 ≡ 0 }
     requires below { key.now.start < max_position key.now.identity.geometry }
     requires count { IsConsumerCount key.now.consumers }
-    ensures { IfOk result (λ o. IsOpened key.now o.table.shared.table_id o.table.shared.key
-        o.seat.table_id o.seat.me o.region.value.identity o.start.address) }
+    ensures { IfOk result (λ o. IsOpened key.now o.0.table.shared.key o.0.table.shared.table_id
+        o.1.table_id o.1.me) }
 {
-    let units = units_of(&key.identity.geometry());
+    let geometry = key.identity.geometry();
+    let units = units_of(&geometry);
     let words = first_words(alloc, key, units)?;
     let bytes = vec![in alloc; 0u8; 32 * units]?;
     let (start, region, memory) = Region::from_vec(bytes);
@@ -144,10 +132,12 @@ pub fn open(alloc: Global, key: &Key) -> Result<OpenLog, AllocError>
     let Ok(region) = Arc::new(alloc, region) else {
         return Err(AllocError);
     };
-    Ok(OpenLog {
+    let memory = LogMemory {
         table,
-        seat,
         region,
         start,
-    })
+        units: units as u64,
+        shift: shift_of(&geometry),
+    };
+    Ok((memory, seat))
 }
