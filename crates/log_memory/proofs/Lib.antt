@@ -24,3 +24,4 @@ mod HeadPlaces
 mod Openings
 mod Turns
 mod UnitPlaces
+mod Frees

@@ -6,4 +6,5 @@ pub mod Kinds
 pub mod Order
 pub mod Opening
 pub mod Rights
+pub mod Frames
 pub mod Law

@@ -27,6 +27,7 @@
 //! one event or a look, as it is without memory.
 #![tactic(auto)]
 
+mod frames;
 mod keeper;
 mod law;
 mod memory;
@@ -41,6 +42,7 @@ mod seats;
 mod steps;
 mod view;
 
+pub use frames::{copy_part, free_frame};
 pub use keeper::{begin, clean_to, end, give_room, raise, see, take_back};
 pub use law::{seats_keep, steps_keep};
 pub use memory::{LogMemory, OwnTable};
