@@ -52,7 +52,7 @@ pub use publisher::{
     add, commit, exchange_count, exchange_next, load_count, load_limit, load_next, load_tail,
 };
 pub use reader::{consume, give, look, reread};
-pub use rights::{LogSeat, LogTable, collect_parts, deal_parts, deal_room, gather};
+pub use rights::{LogSeat, LogTable, Rowed, collect_parts, deal_parts, deal_room, gather};
 pub use rule::LogMemoryRule;
 pub use seat_moves::{
     deal_keeper, deal_knowledge, deal_news, deal_publisher, deal_reader, hand_over, meet,
