@@ -25,3 +25,4 @@ mod Openings
 mod Turns
 mod UnitPlaces
 mod Frees
+mod Drafted

@@ -7,4 +7,5 @@ pub mod Order
 pub mod Opening
 pub mod Rights
 pub mod Frames
+pub mod Drafts
 pub mod Law

@@ -27,6 +27,7 @@
 //! one event or a look, as it is without memory.
 #![tactic(auto)]
 
+mod drafts;
 mod frames;
 mod keeper;
 mod law;
@@ -42,6 +43,7 @@ mod seats;
 mod steps;
 mod view;
 
+pub use drafts::{Draft, store_frame};
 pub use frames::{copy_part, free_frame};
 pub use keeper::{begin, clean_to, end, give_room, raise, see, take_back};
 pub use law::{seats_keep, steps_keep};
