@@ -3,12 +3,17 @@
 ghost use Rattle.std.specs.Prelude.{◌≡◌, ◌+◌, ◌*◌, ◌/◌, ◌^◌, ◌<◌, ◌≤◌, ◌∷◌, ◌++◌, [], drop, length};
 ghost use Rattle.frame_words.specs.Contents.{bytes_in};
 ghost use Rattle.region.specs.Identity.{start_address};
-ghost use Rattle.log_memory.specs.Drafts.{IsDraft, IsParted};
+ghost use Rattle.publication.specs.Steps.{frame};
+ghost use Rattle.log_memory.specs.Drafts.{IsDraft, IsParted, MayStore, StoresFrame, behind_of, words_of};
+ghost use Rattle.log_memory.specs.Kinds.{IsSeatOf};
 ghost use Rattle.log_memory.specs.Steps.{CarriesRange, IsRoomAt};
 
 use crate::memory::LogMemory;
+use crate::publisher::commit;
 use crate::rights::{LogSeat, Rowed, deal_parts, gather};
+use crate::steps::Picked;
 use region::{Region, RegionStart, WriteAccess};
+use std::marker::Brand;
 use std::sync::Arc;
 
 /// A frame that is stored: where it begins, how many bytes it covers, the three words of its header that aren't zero, and its
@@ -88,5 +93,47 @@ pub fn store_frame<N: Rowed>(
     let (home, run) = write_parts(run, home, memory.start, at, &header, draft.payload);
     let whole = run.begin_reading(&home);
     deal_parts::<N>(table, seat, whole, first, units);
+    home
+}
+
+fn commit_as<N: Picked>(memory: &LogMemory, seat: &mut LogSeat, draft: &Draft<'_>)
+    requires seat { IsSeatOf memory.now.table.shared.key memory.now.table.shared.table_id
+        seat.old.table_id }
+    requires draft { IsDraft draft.now }
+    requires may { MayStore memory.now.table.shared.key draft.now seat.old.me }
+    requires row { IsParted memory.now.table.shared.key draft.now (behind_of draft.now seat.old.me.1)
+        seat.old.me.1 }
+    requires chosen { (N.site ≡ memory.now.table.shared.key)
+        × (N.frame ≡ frame draft.now.start 0 (words_of draft.now)) }
+    ensures seat { (seat.new.table_id ≡ seat.old.table_id) × (seat.new.id ≡ seat.old.id) }
+    ensures stores { StoresFrame draft.now (behind_of draft.now seat.old.me.1) seat.old.me
+        seat.new.me }
+{
+    let table = &memory.table.shared;
+    commit::<N>(table, seat, memory.head(draft.start), draft.first);
+}
+
+/// Commits an open frame of the seat's pass whose room it carries in front, over the chosen slots: its bytes are written plainly,
+/// then its first word is stored, by one step, which gives its parts to those who read it.
+pub fn commit_frame<N: Rowed>(
+    memory: &LogMemory,
+    seat: &mut LogSeat,
+    home: Arc<Region>,
+    draft: &Draft<'_>,
+) -> Arc<Region>
+    requires seat { IsSeatOf memory.now.table.shared.key memory.now.table.shared.table_id
+        seat.old.table_id }
+    requires home { home.value.identity ≡ memory.now.table.shared.key.region.identity }
+    requires draft { IsDraft draft.now }
+    requires may { MayStore memory.now.table.shared.key draft.now seat.old.me }
+    requires row { CarriesRange memory.now.table.shared.key (IsRoomAt memory.now.table.shared.key)
+        draft.now.start draft.now.bytes N.behind seat.old.me.1 }
+    ensures home { result.value.identity ≡ home.value.identity }
+    ensures seat { (seat.new.table_id ≡ seat.old.table_id) × (seat.new.id ≡ seat.old.id) }
+    ensures stores { StoresFrame draft.now N.behind seat.old.me seat.new.me }
+{
+    let _ = &memory.table;
+    let home = store_frame::<N>(memory, seat, home, draft);
+    commit_as::<Brand>(memory, seat, draft);
     home
 }

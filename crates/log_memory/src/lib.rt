@@ -43,7 +43,7 @@ mod seats;
 mod steps;
 mod view;
 
-pub use drafts::{Draft, store_frame};
+pub use drafts::{Draft, commit_frame, store_frame};
 pub use frames::{copy_part, free_frame};
 pub use keeper::{begin, clean_to, end, give_room, raise, see, take_back};
 pub use law::{seats_keep, steps_keep};

@@ -1,15 +1,12 @@
-use Rattle.std.proofs.Common.{◌≡◌, ℕ, suc, ◌+◌, ◌-◌, ◌*◌, ◌/◌, ◌%◌, ◌^◌, ◌<◌, ◌≤◌, List, [], ◌∷◌, ◌++◌, drop, length, replicate, sym, ap, ◌∙◌, subst, arith}
+use Rattle.std.proofs.Common.{◌≡◌, ℕ, suc, ◌-◌, ◌*◌, ◌/◌, ◌%◌, ◌^◌, ◌<◌, ◌++◌, drop, length, sym, ap, ◌∙◌, subst, arith}
 use Rattle.frame_words.specs.Contents.{bytes_in}
-use Rattle.region.specs.declared.access.Access.{Access}
 use Rattle.region.specs.declared.access.ReadAccess.{ReadAccess}
 use Rattle.region.specs.declared.access.WriteAccess.{WriteAccess}
 use Rattle.region.specs.declared.region.Region.{Region}
 use Rattle.log_memory.specs.declared.drafts.Draft.{Draft}
 use Rattle.log_memory.specs.declared.view.Site.{Site}
 use Rattle.log_memory.specs.Drafts.{words_of}
-use Rattle.log_memory.specs.Places.{slot_of}
 use Rattle.log_memory.specs.Rights.{IsEighthAt}
-use Rattle.log_memory.specs.Rule.{ring}
 use Rattle.log_memory.specs.Steps.{Carries, IsPartAt}
 use Rattle.frame_words.proofs.Wordings.{words_length}
 use Rattle.log_memory.proofs.Drafted.{carries_as, eighths_are_parts, written_items}
