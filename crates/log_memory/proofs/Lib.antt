@@ -26,3 +26,4 @@ mod Turns
 mod UnitPlaces
 mod Frees
 mod Drafted
+mod OpenRooms

@@ -10,7 +10,7 @@ use Rattle.log_memory.specs.Order.{rotated}
 use Rattle.log_memory.specs.Steps.{Carries}
 
 -- what is behind a row may be more
-carries_more : (is : ℕ → Access → Type 0) (k count : ℕ) (before mine more : List (ℕ × Access)) → Carries is k count before mine → Carries is k count (before ++ more) (mine ++ more)
+pub carries_more : (is : ℕ → Access → Type 0) (k count : ℕ) (before mine more : List (ℕ × Access)) → Carries is k count before mine → Carries is k count (before ++ more) (mine ++ more)
 carries_more is k zero before mine more c = ap (λ (l : List (ℕ × Access)). l ++ more) c
 carries_more is k (suc count) before mine more c = (c.0, c.1 ++ more, ap (λ (l : List (ℕ × Access)). l ++ more) c.2, c.3, carries_more is (suc k) count before c.1 more c.4)
 

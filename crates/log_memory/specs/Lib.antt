@@ -8,4 +8,5 @@ pub mod Opening
 pub mod Rights
 pub mod Frames
 pub mod Drafts
+pub mod Open
 pub mod Law

@@ -1,0 +1,103 @@
+//! One of a pass's open frames is committed, whichever, and the room of the others stays in its row.
+
+ghost use Rattle.std.specs.Prelude.{◌≡◌, ◌/◌, ℕ, List};
+ghost use Rattle.publication.specs.declared.pass.FrameWords as frames;
+ghost use Rattle.region.specs.declared.access.Access as accesses;
+ghost use Rattle.log_memory.specs.Drafts.{IsDraft};
+ghost use Rattle.log_memory.specs.Kinds.{IsSeatOf};
+ghost use Rattle.log_memory.specs.Open.{HoldsOpen, IsOpenDraft, StoresOpen};
+
+use crate::drafts::{Draft, commit_frame};
+use crate::memory::LogMemory;
+use crate::order::pass_chosen;
+use crate::rights::{LogSeat, Rowed};
+use crate::view::LogView;
+use log_rule::Chosen;
+use region::{Access, Region};
+use std::marker::{Brand, PhantomData};
+use std::sync::Arc;
+
+/// What a call picks where it commits an open frame: those before it and those behind it, the row of slots, and how many the
+/// frame has.
+pub trait Opened {
+    ghost front: { List frames.FrameWords };
+
+    ghost others: { List frames.FrameWords };
+
+    ghost carried: { List (ℕ × accesses.Access) };
+
+    ghost slots: { ℕ };
+}
+
+impl Opened for Brand {
+    ghost use Rattle.std.specs.Prelude.{[]};
+
+    ghost front = { [] };
+
+    ghost others = { [] };
+
+    ghost carried = { [] };
+
+    ghost slots = { 0 };
+}
+
+/// The slots of those before it.
+struct Ahead<N> {
+    opened: PhantomData<N>,
+}
+
+impl<N: Opened> Chosen for Ahead<N> {
+    ghost use Rattle.log_memory.specs.Open.{slots_in};
+
+    ghost number = { slots_in N.front };
+}
+
+/// The slots of those behind it.
+struct After<N> {
+    opened: PhantomData<N>,
+}
+
+impl<N: Opened> Chosen for After<N> {
+    ghost use Rattle.log_memory.specs.Open.{slots_in};
+
+    ghost number = { slots_in N.others };
+}
+
+/// What stands behind it once it is in front.
+struct Rest<N> {
+    opened: PhantomData<N>,
+}
+
+impl<N: Opened> Rowed for Rest<N> {
+    ghost use Rattle.std.specs.Prelude.{drop};
+    ghost use Rattle.log_memory.specs.Open.{slots_in};
+    ghost use Rattle.log_memory.specs.Order.{rotated};
+
+    ghost behind = { drop N.slots (rotated (slots_in N.front) N.carried) };
+}
+
+/// Commits one of the open frames of the seat's pass, between the chosen ones: its bytes are written plainly, then its first word
+/// is stored, by one step. The room of the others stays in the seat's row.
+pub fn commit_open<N: Opened>(
+    memory: &LogMemory,
+    seat: &mut LogSeat,
+    home: Arc<Region>,
+    draft: &Draft<'_>,
+) -> Arc<Region>
+    requires seat { IsSeatOf memory.now.table.shared.key memory.now.table.shared.table_id
+        seat.old.table_id }
+    requires home { home.value.identity ≡ memory.now.table.shared.key.region.identity }
+    requires draft { IsDraft draft.now }
+    requires open { IsOpenDraft memory.now.table.shared.key draft.now N.front N.others seat.old.me }
+    requires holds { HoldsOpen memory.now.table.shared.key seat.old.me }
+    requires chosen { (N.carried ≡ seat.old.me.1) × (N.slots ≡ draft.now.bytes / 4) }
+    ensures home { result.value.identity ≡ home.value.identity }
+    ensures seat { (seat.new.table_id ≡ seat.old.table_id) × (seat.new.id ≡ seat.old.id) }
+    ensures stores { StoresOpen memory.now.table.shared.key draft.now seat.old.me seat.new.me }
+{
+    let _ = &memory.table;
+    pass_chosen::<Access, LogView, Ahead<N>>(seat);
+    let home = commit_frame::<Rest<N>>(memory, seat, home, draft);
+    pass_chosen::<Access, LogView, After<N>>(seat);
+    home
+}
