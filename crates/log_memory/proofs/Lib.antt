@@ -27,3 +27,4 @@ mod UnitPlaces
 mod Frees
 mod Drafted
 mod OpenRooms
+pub mod ClaimRooms

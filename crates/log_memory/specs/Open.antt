@@ -1,15 +1,17 @@
 -- The room of a pass's open frames, in the row of slots that its seat carries: one after the other, in the order of the frames.
-use Rattle.std.specs.Prelude.{◌≡◌, ℕ, ◌+◌, ◌*◌, ◌/◌, ◌<◌, List, [], ◌∷◌, ◌++◌, length, suc}
+use Rattle.std.specs.Prelude.{◌≡◌, ℕ, ◌+◌, ◌*◌, ◌/◌, ◌^◌, ◌<◌, List, [], ◌∷◌, ◌++◌, length, suc}
 use Rattle.theory.specs.Position.{aligned}
 use Rattle.publication.specs.declared.pass.FrameWords.{FrameWords}
-use Rattle.publication.specs.Steps.{blank, frame, with_work}
+use Rattle.publication.specs.Steps.{Adds, addition, blank, frame, with_work}
 use Rattle.region.specs.declared.access.Access.{Access}
 use Rattle.log_rule.specs.Claims.Memory.{IsCommittedFrame}
+use Rattle.log_rule.specs.Claims.Plays.{playing}
 use Rattle.log_rule.specs.Claims.Sure.{LearnsControls}
+use Rattle.log_rule.specs.Shares.{claimed_bytes}
 use Rattle.log_memory.specs.declared.drafts.Draft.{Draft}
 use Rattle.log_memory.specs.declared.view.Site.{Site}
 use Rattle.log_memory.specs.Drafts.{words_of}
-use Rattle.log_memory.specs.Steps.{CarriesRange, IsIdle, IsRoomAt, Mine}
+use Rattle.log_memory.specs.Steps.{CarriesRange, IsIdle, IsRoomAt, Mine, any_step, as_view}
 
 -- how many slots the memory of such frames has
 abbrev pub slots_in : List FrameWords → ℕ
@@ -42,3 +44,10 @@ pub record StoresOpen (t : Site) (d : Draft) (m m' : Mine) : Type 0 where
   pub steps : m'.0.view.steps ≡ suc m.0.view.steps
   pub learns : LearnsControls [] m.0.view m'.0.view
   pub fills : (front : List FrameWords) (cut : ℕ) (others : List FrameWords) → 0 < cut → m.0.view.pass.work.drafts ≡ front ++ blank d.start cut ∷ others → m'.0.view.pass ≡ with_work (m.0.view.pass.work.frames ++ frame d.start cut (words_of d) ∷ []) (front ++ others) m.0.view.pass
+
+-- an addition, which tells of the pass what it does where words are all that there is
+pub record AddsOpen (size : ℕ) (m : Mine) (n : ℕ) (m' : Mine) : Type 0 where
+  pub part : m'.0.part ≡ m.0.part
+  pub room : m'.0.room ≡ m.0.room
+  pub told : playing (λ v k w. Adds v size k w) (λ v k. addition v size k ∷ []) any_step (as_view m.0) n (as_view m'.0)
+  pub low : claimed_bytes m'.0.view.pass < 2 ^ 63

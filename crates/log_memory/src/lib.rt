@@ -49,7 +49,7 @@ pub use frames::{copy_part, free_frame};
 pub use keeper::{begin, clean_to, end, give_room, raise, see, take_back};
 pub use law::{seats_keep, steps_keep};
 pub use memory::{LogMemory, OwnTable};
-pub use open_frames::{Opened, commit_open};
+pub use open_frames::{Opened, add_open, commit_open};
 pub use opening::{open, units_of};
 pub use order::pass_chosen;
 pub use publisher::{

@@ -1,18 +1,26 @@
-//! One of a pass's open frames is committed, whichever, and the room of the others stays in its row.
+//! A pass's open frames: an addition opens more, and any of them is committed, while the room of the others stays in its row.
 
-ghost use Rattle.std.specs.Prelude.{◌≡◌, ◌/◌, ℕ, List};
+ghost use Rattle.std.specs.Prelude.{◌≡◌, ◌-◌, ◌/◌, ◌≤◌, min, ℕ, List};
+ghost use Rattle.theory.specs.Position.{IsGeometry, framed_length, max_message};
+ghost use Rattle.theory.specs.Words.{offset_in};
+ghost use Rattle.publication.specs.Steps.{geometry_of};
 ghost use Rattle.publication.specs.declared.pass.FrameWords as frames;
 ghost use Rattle.region.specs.declared.access.Access as accesses;
 ghost use Rattle.log_memory.specs.Drafts.{IsDraft};
 ghost use Rattle.log_memory.specs.Kinds.{IsSeatOf};
-ghost use Rattle.log_memory.specs.Open.{HoldsOpen, IsOpenDraft, StoresOpen};
+ghost use Rattle.log_memory.specs.Order.{rotated};
+ghost use Rattle.log_memory.specs.Steps.{IsIdle};
+ghost use Rattle.log_memory.specs.Open.{AddsOpen, HoldsOpen, IsOpenDraft, StoresOpen};
 
 use crate::drafts::{Draft, commit_frame};
 use crate::memory::LogMemory;
 use crate::order::pass_chosen;
+use crate::publisher::add;
 use crate::rights::{LogSeat, Rowed};
 use crate::view::LogView;
 use log_rule::Chosen;
+use position::Geometry;
+use publication::taken;
 use region::{Access, Region};
 use std::marker::{Brand, PhantomData};
 use std::sync::Arc;
@@ -100,4 +108,48 @@ pub fn commit_open<N: Opened>(
     let home = commit_frame::<Rest<N>>(memory, seat, home, draft);
     pass_chosen::<Access, LogView, After<N>>(seat);
     home
+}
+
+/// So many slots go behind the others.
+fn pass_as<N: Chosen>(seat: &mut LogSeat, count: usize)
+    requires { N.number ≡ count }
+    ensures { (seat.new.table_id ≡ seat.old.table_id) × (seat.new.id ≡ seat.old.id)
+        × (seat.new.me ≡ (seat.old.me.0, rotated count seat.old.me.1)) }
+{
+    let _ = count;
+    pass_chosen::<Access, LogView, N>(seat);
+}
+
+/// Adds what a message of `size` bytes covers to the tail for which the publisher is armed. The room of what it claims is in the
+/// seat's row then, behind that of the frames that were open before. The answers are the word that was there, and how many bytes
+/// it took.
+pub fn add_open(
+    memory: &LogMemory,
+    seat: &mut LogSeat,
+    geometry: &Geometry,
+    count: u32,
+    size: u32,
+) -> (u64, u32)
+    requires seat { IsSeatOf memory.now.table.shared.key memory.now.table.shared.table_id
+        seat.old.table_id }
+    requires idle { IsIdle seat.old.me.0 }
+    requires parts { 120 ≤ seat.old.me.0.view.pass.right.parts }
+    requires armed { seat.old.me.0.view.pass.right.armed ≡ 1 }
+    requires count { seat.old.me.0.view.pass.seen.term ≡ count }
+    requires short { size ≤ max_message geometry.now }
+    requires geometry { (geometry_of seat.old.me.0.view.pass ≡ geometry.now)
+        × (memory.now.table.shared.key.key.identity.geometry ≡ geometry.now) }
+    requires legal { IsGeometry geometry.now }
+    requires holds { HoldsOpen memory.now.table.shared.key seat.old.me }
+    ensures seat { (seat.new.table_id ≡ seat.old.table_id) × (seat.new.id ≡ seat.old.id) }
+    ensures told { AddsOpen size seat.old.me result.0 seat.new.me }
+    ensures taken { result.1 ≡ min (framed_length geometry.now size) (geometry.now.term_length
+        - offset_in result.0) }
+    ensures holds { HoldsOpen memory.now.table.shared.key seat.new.me }
+{
+    let covered = geometry.framed_length(size);
+    let word = add(&memory.table.shared, seat, count, size, u64::from(covered));
+    let bytes = taken(geometry, word, covered);
+    pass_as::<Brand>(seat, bytes as usize / 4);
+    (word, bytes)
 }
