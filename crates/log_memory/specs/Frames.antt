@@ -1,12 +1,14 @@
 -- Frames in memory: read by one who has a part, or taken back.
-use Rattle.std.specs.Prelude.{◌≡◌, ℕ, suc, ◌+◌, ◌*◌, ◌/◌, ◌%◌, ◌^◌, ◌<◌, ◌≤◌, List, [], ◌∷◌, length}
+use Rattle.std.specs.Prelude.{◌≡◌, ℕ, suc, max, ◌-◌, ◌+◌, ◌*◌, ◌/◌, ◌%◌, ◌^◌, ◌<◌, ◌≤◌, List, [], ◌∷◌, length}
 use Rattle.atomic_table.specs.Table.{rest}
 use Rattle.publication.specs.declared.pass.FrameWords.{FrameWords}
 use Rattle.frame_words.specs.Contents.{bytes_in}
 use Rattle.region.specs.declared.access.Access.{Access}
 use Rattle.region.specs.declared.access.ReadAccess.{ReadAccess}
 use Rattle.region.specs.declared.access.WriteAccess.{WriteAccess}
+use Rattle.publication.specs.Steps.{term_of}
 use Rattle.log_rule.specs.Claims.Memory.{IsCommittedFrame}
+use Rattle.log_rule.specs.Keepings.{least_there}
 use Rattle.log_memory.specs.declared.view.Site.{Site}
 use Rattle.log_memory.specs.Places.{slot_of}
 use Rattle.log_memory.specs.Rule.{IsPart, ring}
@@ -66,7 +68,24 @@ pub record FreesFrame (t : Site) (m : Mine) (bytes : ℕ) (m' : Mine) : Type 0 w
   pub here : frame.start ≡ m.0.room.freed
   pub done : IsCommittedFrame t.key.identity frame
   pub long : bytes ≡ 8 * length frame.words
+  pub some : 32 ≤ bytes
+  pub low : bytes ≤ 2 ^ 32
   pub carried : m'.1 ≡ []
   pub part : m'.0.part ≡ m.0.part
   pub room : m'.0.room ≡ record { freed = m.0.room.freed + bytes; out = 0 }
   pub rests : m'.0.view ≡ record m.0.view { steps = suc (suc m.0.view.steps) }
+
+-- the keeper may take all back that begins below a position, which is a term or more below each consumer that is there
+pub record MayFreeTo (end : ℕ) (m : Mine) : Type 0 where
+  pub keeper : m.0.view.pass.keeping.right ≡ 1
+  pub idle : m.0.room.out ≡ 0
+  pub below : end ≤ max m.0.view.pass.start (least_there m.0.view.pass.keeping.there m.0.view.pass.keeping.positions - term_of m.0.view.pass)
+  pub empty : m.1 ≡ []
+
+-- what begins below a position is room, as far as that; beside that, and its steps, the keeper is as it was
+pub record FreesTo (end freed : ℕ) (m m' : Mine) : Type 0 where
+  pub reached : end ≤ freed
+  pub carried : m'.1 ≡ []
+  pub part : m'.0.part ≡ m.0.part
+  pub room : m'.0.room ≡ record { freed = freed; out = 0 }
+  pub rests : m'.0.view ≡ record m.0.view { steps = m'.0.view.steps }

@@ -1,9 +1,9 @@
 //! Frames in memory: a reader copies one of which it has a part, and the keeper makes the memory of one room again.
 
-ghost use Rattle.std.specs.Prelude.{◌≡◌, ◌+◌, ◌*◌, ◌/◌, ◌<◌, ◌≤◌, [], drop, length, take};
+ghost use Rattle.std.specs.Prelude.{◌≡◌, ◌+◌, ◌*◌, ◌/◌, ◌^◌, ◌<◌, ◌≤◌, [], drop, length, take};
 ghost use Rattle.frame_words.specs.Contents.{bytes_in};
 ghost use Rattle.theory.specs.Position.{IsGeometry};
-ghost use Rattle.log_memory.specs.Frames.{FreesFrame, GivesFrame, HasPart, IsOutAt, IsPartOf, TakesFrame};
+ghost use Rattle.log_memory.specs.Frames.{FreesFrame, FreesTo, GivesFrame, HasPart, IsOutAt, IsPartOf, MayFreeTo, TakesFrame};
 ghost use Rattle.log_memory.specs.Kinds.{IsSeatOf};
 ghost use Rattle.log_memory.specs.Places.{slot_of};
 ghost use Rattle.log_memory.specs.Rights.{IsAnything, IsRun};
@@ -128,4 +128,35 @@ pub fn free_frame(
     let (home, run) = run.clear(home, memory.start, memory.byte(freed), bytes as usize);
     give_frame(memory, seat, run, freed, bytes);
     (home, u64::from(bytes))
+}
+
+/// Makes all memory room again that begins from `freed` on, below a position that is a term or more below each consumer that is
+/// there. The answer is where that ends: there, or behind the frame in which that lies.
+pub fn free_to(
+    memory: &LogMemory,
+    seat: &mut LogSeat,
+    home: Arc<Region>,
+    freed: u64,
+    end: u64,
+) -> (Arc<Region>, u64)
+    requires seat { IsSeatOf memory.now.table.shared.key memory.now.table.shared.table_id
+        seat.old.table_id }
+    requires home { home.value.identity ≡ memory.now.table.shared.key.region.identity }
+    requires geometry { IsGeometry memory.now.table.shared.key.key.identity.geometry }
+    requires freed { freed ≡ seat.old.me.0.room.freed }
+    requires may { MayFreeTo end seat.old.me }
+    requires low { end ≤ 2 ^ 56 }
+    ensures home { result.0.value.identity ≡ home.value.identity }
+    ensures seat { (seat.new.table_id ≡ seat.old.table_id) × (seat.new.id ≡ seat.old.id) }
+    ensures frees { FreesTo end result.1 seat.old.me seat.new.me }
+{
+    let _ = &memory.table;
+    let mut home = home;
+    let mut at = freed;
+    while at < end {
+        let (back, bytes) = free_frame(memory, seat, home, at);
+        home = back;
+        at += bytes;
+    }
+    (home, at)
 }
