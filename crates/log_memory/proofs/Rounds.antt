@@ -5,7 +5,7 @@ use Rattle.atomic_table.specs.Table.{rest, turned}
 use Rattle.region.specs.declared.access.Access.{Access}
 use Rattle.region.specs.declared.access.WriteAccess.{WriteAccess}
 use Rattle.log_memory.specs.declared.view.Site.{Site}
-use Rattle.log_memory.specs.Rights.{IsHalfway, IsRun, turned_by}
+use Rattle.log_memory.specs.Rights.{IsHalfway, IsRun}
 use Rattle.log_memory.specs.Order.{rotated}
 use Rattle.log_memory.specs.Steps.{Carries}
 
@@ -99,8 +99,8 @@ module _ (t : Site) (k m : ℕ) (w : WriteAccess) (run : IsRun t k (32 * m) w) (
   }
 
 -- those that are left go behind the others, as they are
-pub turn_rest : (now later : ℕ → Access → Type 0) (k count i n : ℕ) (before mine : List (ℕ × Access)) → IsHalfway now later k count i before mine → i + n ≤ count → ((j : ℕ) (g : Access) → k + i ≤ j → now j g → later j g) → IsHalfway now later k count (i + n) before (turned_by n mine)
+pub turn_rest : (now later : ℕ → Access → Type 0) (k count i n : ℕ) (before mine : List (ℕ × Access)) → IsHalfway now later k count i before mine → i + n ≤ count → ((j : ℕ) (g : Access) → k + i ≤ j → now j g → later j g) → IsHalfway now later k count (i + n) before (rotated n mine)
 turn_rest now later k count i zero before mine h le go = subst (λ (x : ℕ). IsHalfway now later k count x before mine) (let e : i ≡ i + 0 = omega arith in e) h
 turn_rest now later k count i (suc n) before mine h le go =
-    subst (λ (x : ℕ). IsHalfway now later k count x before (turned_by n (turned mine))) (let e : i + 1 + n ≡ i + suc n = omega arith in e)
+    subst (λ (x : ℕ). IsHalfway now later k count x before (rotated n (turned mine))) (let e : i + 1 + n ≡ i + suc n = omega arith in e)
     (turn_rest now later k count (i + 1) n before (turned mine) (turn_left now later k count i before mine h (omega arith) (λ g a. go (k + i) g (omega arith) a)) (omega arith) (λ j g le' a. go j g (omega arith) a))

@@ -1,6 +1,5 @@
 -- Slots that a seat carries, on their way round.
-use Rattle.std.specs.Prelude.{◌≡◌, ℕ, zero, suc, ◌+◌, ◌-◌, ◌*◌, ◌^◌, ◌<◌, ◌≤◌, List, [], ◌++◌, replicate}
-use Rattle.atomic_table.specs.Table.{turned}
+use Rattle.std.specs.Prelude.{◌≡◌, ℕ, ◌+◌, ◌-◌, ◌*◌, ◌^◌, ◌<◌, ◌≤◌, List, [], ◌++◌, replicate}
 use Rattle.region.specs.declared.access.Access.{Access}
 use Rattle.region.specs.declared.access.ReadAccess.{ReadAccess}
 use Rattle.region.specs.declared.access.WriteAccess.{WriteAccess}
@@ -24,11 +23,6 @@ pub record IsRun (t : Site) (k bytes : ℕ) (w : WriteAccess) : Type 0 where
   pub identity : w.identity ≡ t.region.identity
   pub at : w.at ≡ 4 * k
   pub zeros : w.items ≡ replicate bytes 0
-
--- so many go behind the others, one after the other
-abbrev pub turned_by : ℕ → List (ℕ × Access) → List (ℕ × Access)
-turned_by zero mine = mine
-turned_by (suc n) mine = turned_by n (turned mine)
 
 -- the first eight slots, from the number k on, have an eighth each of a right to read
 abbrev pub IsEighthAt : ℕ → ReadAccess → ℕ → Access → Type 0

@@ -8,13 +8,12 @@ ghost use Rattle.publication.specs.declared.pass.FrameWords as frames;
 ghost use Rattle.region.specs.declared.access.Access as accesses;
 ghost use Rattle.log_memory.specs.Drafts.{IsDraft};
 ghost use Rattle.log_memory.specs.Kinds.{IsSeatOf};
-ghost use Rattle.log_memory.specs.Order.{rotated};
 ghost use Rattle.log_memory.specs.Steps.{IsIdle};
 ghost use Rattle.log_memory.specs.Open.{AddsOpen, HoldsOpen, IsOpenDraft, StoresOpen};
 
 use crate::drafts::{Draft, commit_frame};
 use crate::memory::LogMemory;
-use crate::order::pass_chosen;
+use crate::order::{pass_chosen, pass_slots};
 use crate::publisher::add;
 use crate::rights::{LogSeat, Rowed};
 use crate::view::LogView;
@@ -110,16 +109,6 @@ pub fn commit_open<N: Opened>(
     home
 }
 
-/// So many slots go behind the others.
-fn pass_as<N: Chosen>(seat: &mut LogSeat, count: usize)
-    requires { N.number ≡ count }
-    ensures { (seat.new.table_id ≡ seat.old.table_id) × (seat.new.id ≡ seat.old.id)
-        × (seat.new.me ≡ (seat.old.me.0, rotated count seat.old.me.1)) }
-{
-    let _ = count;
-    pass_chosen::<Access, LogView, N>(seat);
-}
-
 /// Adds what a message of `size` bytes covers to the tail for which the publisher is armed. The room of what it claims is in the
 /// seat's row then, behind that of the frames that were open before. The answers are the word that was there, and how many bytes
 /// it took.
@@ -150,6 +139,6 @@ pub fn add_open(
     let covered = geometry.framed_length(size);
     let word = add(&memory.table.shared, seat, count, size, u64::from(covered));
     let bytes = taken(geometry, word, covered);
-    pass_as::<Brand>(seat, bytes as usize / 4);
+    pass_slots(seat, bytes as usize / 4);
     (word, bytes)
 }

@@ -4,10 +4,10 @@
 ghost use Rattle.std.specs.Prelude.{◌≡◌, ◌∷◌, ◌++◌, List, ℕ, ◌+◌, ◌*◌, ◌%◌, ◌^◌, ◌<◌, ◌≤◌, []};
 ghost use Rattle.atomic_table.specs.Table.{rest, turned};
 ghost use Rattle.region.specs.declared.access.Access.{Access as Kept};
-ghost use Rattle.log_memory.specs.Rights.{HaveParts, IsAnything, IsEighthAt, IsHalfway, IsRun, IsWholeOf, turned_by};
+ghost use Rattle.log_memory.specs.Rights.{HaveParts, IsAnything, IsEighthAt, IsHalfway, IsRun, IsWholeOf};
 ghost use Rattle.log_memory.specs.Steps.{Carries, IsPartAt, IsRoomAt};
 
-use crate::order::pass_chosen;
+use crate::order::{pass_chosen, pass_slots};
 use crate::rule::LogMemoryRule;
 use crate::view::{LogView, Site};
 use atomic_table::{Seat, Shared};
@@ -29,13 +29,7 @@ fn pass_seven(seat: &mut LogSeat)
           (turned seat.old.me.1)))))),
     ) }
 {
-    seat.turn();
-    seat.turn();
-    seat.turn();
-    seat.turn();
-    seat.turn();
-    seat.turn();
-    seat.turn();
+    pass_slots(seat, 7);
 }
 
 /// What a call picks of the slots that a seat carries: those behind the ones that it is about.
@@ -109,18 +103,6 @@ pub fn gather<N: Rowed>(
     }
     pass_chosen::<Access, LogView, Behind<N>>(seat);
     run
-}
-
-/// So many slots go behind the others.
-fn pass_slots(seat: &mut LogSeat, count: usize)
-    ensures same { (seat.new.table_id ≡ seat.old.table_id) × (seat.new.id ≡ seat.old.id) }
-    ensures turned { seat.new.me ≡ (seat.old.me.0, turned_by count seat.old.me.1) }
-{
-    let mut left = count;
-    while left > 0 {
-        seat.turn();
-        left -= 1;
-    }
 }
 
 /// A right to read all bytes of a frame is parted among its first unit's eight slots, of so many units that the seat carries over

@@ -1,5 +1,4 @@
 use Rattle.std.proofs.Common.{◌≡◌, ◌-◌, []}
-use Rattle.log_memory.specs.declared.view.LogView.{LogView}
 use Rattle.log_memory.proofs.frames.free_to.Given as goal
 
 -- all below is room, and beside that the keeper is as it was

@@ -11,5 +11,5 @@ pub returns-clause-holds : goal.returns-clause-holds
 returns-clause-holds c =
     let t : Site = c.args.memory.now.table.shared.key in let m : Mine = c.args.seat.now.me in let m' : Mine = c.add-word.new.seat.me in let told = c.add-word.ensures.told in
     let bytes : c.taken-bytes.result ≡ min (framed_length c.args.geometry.now c.args.size) (c.args.geometry.now.term_length - offset_in c.add-word.result) = c.taken-bytes.ensures ∙ ap (λ (n : ℕ). min n (c.args.geometry.now.term_length - offset_in c.add-word.result)) c.framed_length-covered.ensures in
-    subst (HoldsOpen t) (sym c.pass_as.ensures.2)
+    subst (HoldsOpen t) (sym c.pass_slots.ensures.turned)
     (adds_hold t c.args.size c.add-word.result c.taken-bytes.result m m' c.args.geometry.now c.requires.legal c.requires.geometry.0 c.requires.geometry.1 c.requires.seat.some bytes told.told.4 told.takes c.requires.holds)
