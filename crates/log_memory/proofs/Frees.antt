@@ -9,13 +9,15 @@ use Rattle.frame_words.specs.Contents.{bytes_in, head_by}
 use Rattle.frame_words.specs.Words.{IsLegal}
 use Rattle.frame_words.proofs.Contents.{head_said}
 use Rattle.publication.specs.declared.pass.FrameWords.{FrameWords}
+use Rattle.atomic_table.specs.Table.{rest}
 use Rattle.region.specs.declared.access.Access.{Access}
 use Rattle.log_rule.specs.Claims.Memory.{IsCommittedFrame}
 use Rattle.log_rule.proofs.InTerm.{words_cover}
 use Rattle.log_memory.specs.declared.view.Site.{Site}
 use Rattle.log_memory.specs.Places.{slot_of}
 use Rattle.log_memory.specs.Rights.{HaveParts}
-use Rattle.log_memory.specs.Rule.{ring}
+use Rattle.log_memory.specs.Frames.{HasPart}
+use Rattle.log_memory.specs.Rule.{IsPart, ring}
 use Rattle.log_memory.specs.Steps.{Carries, CarriesRange, IsPartAt, IsRoomAt, Mine, TakesBack}
 use Rattle.log_memory.proofs.Facts.{head_length}
 
@@ -98,3 +100,8 @@ first_value k a b xs ys e = ap (front a) e
     front : {A : Type 0} → A → List (ℕ × A) → A
     front d [] = d
     front d (x ∷ xs) = x.1
+
+-- what was found in the slot is the part
+pub part_is : (t : Site) (f : FrameWords) (number slot : ℕ) (mine : List (ℕ × Access)) (g : Access) → slot ≡ slot_of (ring t) f.start number → mine ≡ (slot, g) ∷ rest mine → (h : HasPart t f number mine) → IsPart t (slot_of (ring t) f.start 0) f.words h.round h.book g
+part_is t f number slot mine g k had h =
+    subst (IsPart t (slot_of (ring t) f.start 0) f.words h.round h.book) (first_value (slot_of (ring t) f.start number) h.access g (rest mine) (rest mine) (sym h.there ∙ had ∙ ap (λ (n : ℕ). (n, g) ∷ rest mine) k)) h.is

@@ -1,10 +1,10 @@
 -- Frames in memory: read by one who has a part, or taken back.
-use Rattle.std.specs.Prelude.{◌≡◌, ℕ, suc, max, ◌-◌, ◌+◌, ◌*◌, ◌/◌, ◌%◌, ◌^◌, ◌<◌, ◌≤◌, List, [], ◌∷◌, length}
+use Rattle.std.specs.Prelude.{◌≡◌, ℕ, suc, max, ◌-◌, ◌+◌, ◌*◌, ◌/◌, ◌%◌, ◌^◌, ◌≤◌, List, [], ◌∷◌, drop, length, take}
 use Rattle.atomic_table.specs.Table.{rest}
 use Rattle.publication.specs.declared.pass.FrameWords.{FrameWords}
+use Rattle.publication.specs.declared.pass.Reading.{Reading}
 use Rattle.frame_words.specs.Contents.{bytes_in}
 use Rattle.region.specs.declared.access.Access.{Access}
-use Rattle.region.specs.declared.access.ReadAccess.{ReadAccess}
 use Rattle.region.specs.declared.access.WriteAccess.{WriteAccess}
 use Rattle.publication.specs.Steps.{term_of}
 use Rattle.log_rule.specs.Claims.Memory.{IsCommittedFrame}
@@ -13,14 +13,7 @@ use Rattle.log_memory.specs.declared.view.Site.{Site}
 use Rattle.log_memory.specs.Places.{slot_of}
 use Rattle.log_memory.specs.Rule.{IsPart, ring}
 use Rattle.log_memory.specs.Rights.{IsAnything}
-use Rattle.log_memory.specs.Steps.{Carries, Mine}
-
--- some right to read a frame, all its bytes
-pub record IsPartOf (t : Site) (f : FrameWords) (r : ReadAccess) : Type 0 where
-  pub identity : r.identity ≡ t.region.identity
-  pub at : r.at ≡ 4 * slot_of (ring t) f.start 0
-  pub some : 0 < r.count
-  pub items : r.items ≡ bytes_in f.words
+use Rattle.log_memory.specs.Steps.{Carries, MayGive, Mine}
 
 -- the first slot that a seat carries is a consumer's, with its part of a frame
 pub record HasPart (t : Site) (f : FrameWords) (number : ℕ) (mine : List (ℕ × Access)) : Type 0 where
@@ -29,6 +22,23 @@ pub record HasPart (t : Site) (f : FrameWords) (number : ℕ) (mine : List (ℕ 
   pub book : ℕ
   pub is : IsPart t (slot_of (ring t) f.start 0) f.words round book access
   pub there : mine ≡ (slot_of (ring t) f.start number, access) ∷ rest mine
+
+-- it is a part of the frame that begins at a position, with so many bytes behind its header
+pub record HasPartAt (t : Site) (start number count : ℕ) (mine : List (ℕ × Access)) : Type 0 where
+  pub frame : FrameWords
+  pub here : frame.start ≡ start
+  pub part : HasPart t frame number mine
+  pub inside : 32 + count ≤ 8 * length frame.words
+
+-- so many bytes behind the header of whichever frame it is a part of
+abbrev pub CopiesPart : Site → ℕ → ℕ → ℕ → List (ℕ × Access) → List ℕ → Type 0
+CopiesPart t start number count mine bytes = (f : FrameWords) → f.start ≡ start → HasPart t f number mine → bytes ≡ take count (drop 32 (bytes_in f.words))
+
+-- the part of a frame that one of the seat's consumers has
+pub record MayGiveBack (t : Site) (m : Mine) : Type 0 where
+  pub reading : Reading
+  pub frame : FrameWords
+  pub may : MayGive t reading frame m
 
 -- the keeper took the committed frame that begins where memory was taken back: its slots, and the right to write its bytes
 pub record TakesFrame (t : Site) (m : Mine) (bytes : ℕ) (run : WriteAccess) (m' : Mine) : Type 0 where

@@ -1,19 +1,18 @@
 //! Frames in memory: a reader copies one of which it has a part, and the keeper makes the memory of one room again.
 
 ghost use Rattle.std.specs.Prelude.{◌≡◌, ◌+◌, ◌*◌, ◌/◌, ◌^◌, ◌<◌, ◌≤◌, [], drop, length, take};
-ghost use Rattle.frame_words.specs.Contents.{bytes_in};
 ghost use Rattle.theory.specs.Position.{IsGeometry};
-ghost use Rattle.log_memory.specs.Frames.{FreesFrame, FreesTo, GivesFrame, HasPart, IsOutAt, IsPartOf, MayFreeTo, TakesFrame};
+ghost use Rattle.log_memory.specs.Frames.{CopiesPart, FreesFrame, FreesTo, GivesFrame, HasPartAt, IsOutAt, MayFreeTo, MayGiveBack, TakesFrame};
 ghost use Rattle.log_memory.specs.Kinds.{IsSeatOf};
 ghost use Rattle.log_memory.specs.Places.{slot_of};
 ghost use Rattle.log_memory.specs.Rights.{IsAnything, IsRun};
 ghost use Rattle.log_memory.specs.Rule.{ring};
-ghost use Rattle.log_memory.specs.Steps.{Carries, MayTakeBack};
+ghost use Rattle.log_memory.specs.Steps.{Carries, Gives, MayTakeBack};
 
 use crate::keeper::{give_room, take_back};
 use crate::memory::LogMemory;
+use crate::reader::give;
 use crate::rights::{LogSeat, collect_parts, deal_room};
-use crate::steps::Picked;
 use frame_words::head_in;
 use position::align32;
 use region::{Access, ReadAccess, Region, WriteAccess};
@@ -27,13 +26,14 @@ fn copy_behind(into: &mut [u8], bytes: &[u8])
     into.copy_from_slice(&bytes[32..]);
 }
 
-/// Copies the bytes behind the header of the chosen frame, which begins at `start` and of which a part shows all, as many as
-/// there are places.
-fn show_part<N: Picked>(memory: &LogMemory, part: &ReadAccess, start: u64, into: &mut [u8])
-    requires start { start ≡ N.frame.start }
-    requires part { IsPartOf memory.now.table.shared.key N.frame part.now }
-    requires inside { 32 + length into.old ≤ 8 * length N.frame.words }
-    ensures { into.new ≡ take (length into.old) (drop 32 (bytes_in N.frame.words)) }
+/// Copies the bytes behind the header of the frame that begins at `start` and of which a part shows all, as many as there are
+/// places.
+fn show_part(memory: &LogMemory, part: &ReadAccess, start: u64, into: &mut [u8])
+    requires part { (part.now.identity ≡ memory.now.table.shared.key.region.identity)
+        × (0 < part.now.count) }
+    requires place { part.now.at ≡ 4 * slot_of (ring memory.now.table.shared.key) start 0 }
+    requires inside { 32 + length into.old ≤ length part.now.items }
+    ensures { into.new ≡ take (length into.old) (drop 32 part.now.items) }
 {
     let _ = &memory.table;
     let at = memory.byte(start);
@@ -43,29 +43,34 @@ fn show_part<N: Picked>(memory: &LogMemory, part: &ReadAccess, start: u64, into:
     );
 }
 
-/// Copies the bytes behind the header of the chosen frame, which begins at `start`, as many as there are places: the first slot
-/// that the seat carries has the part of the consumer with this number.
-pub fn copy_part<N: Picked>(
-    memory: &LogMemory,
-    seat: &mut LogSeat,
-    start: u64,
-    number: u64,
-    into: &mut [u8],
-)
+/// Copies the bytes behind the header of the frame that begins at `start`, as many as there are places: the first slot that the
+/// seat carries has the part of the consumer with this number.
+pub fn copy_part(memory: &LogMemory, seat: &mut LogSeat, start: u64, number: u64, into: &mut [u8])
     requires seat { seat.old.table_id ≡ memory.now.table.shared.table_id }
     requires low { number < 8 }
-    requires start { start ≡ N.frame.start }
-    requires part { HasPart memory.now.table.shared.key N.frame number seat.old.me.1 }
-    requires inside { 32 + length into.old ≤ 8 * length N.frame.words }
+    requires part { HasPartAt memory.now.table.shared.key start number (length into.old)
+        seat.old.me.1 }
     ensures seat { (seat.new.table_id ≡ seat.old.table_id) × (seat.new.id ≡ seat.old.id)
         × (seat.new.me ≡ seat.old.me) }
-    ensures copied { into.new ≡ take (length into.old) (drop 32 (bytes_in N.frame.words)) }
+    ensures copied { CopiesPart memory.now.table.shared.key start number (length into.old)
+        seat.old.me.1 into.new }
 {
     let table = &memory.table.shared;
     let slot = memory.slot(start) + number as usize;
     let Access { write, read } = table.exchange(seat, slot, Access::none());
-    show_part::<N>(memory, &read, start, into);
+    show_part(memory, &read, start, into);
     let _none = table.exchange(seat, slot, Access { write, read });
+}
+
+/// A consumer of the seat gives its part of a frame back, at a load of the word of the unit at a position.
+pub fn give_back(memory: &LogMemory, seat: &mut LogSeat, position: u64)
+    requires seat { IsSeatOf memory.now.table.shared.key memory.now.table.shared.table_id
+        seat.old.table_id }
+    requires may { MayGiveBack memory.now.table.shared.key seat.old.me }
+    ensures seat { (seat.new.table_id ≡ seat.old.table_id) × (seat.new.id ≡ seat.old.id) }
+    ensures told { Gives seat.old.me seat.new.me }
+{
+    give(&memory.table.shared, seat, memory.head(position));
 }
 
 /// Takes the memory of the frame that begins where memory was taken back, at `freed`, and that all consumers left a term ago.

@@ -2,10 +2,11 @@
 
 ghost use Rattle.std.specs.Prelude.{◌≡◌, ◌+◌, ◌*◌, ◌<◌};
 ghost use Rattle.log_rule.specs.Readings.{IsConsumer, MayPass};
+ghost use Rattle.log_memory.specs.Frames.{MayGiveBack};
 ghost use Rattle.log_memory.specs.Kinds.{HasNumber, IsSeatOf, LooksHere, StoresPosition};
 ghost use Rattle.log_memory.specs.Places.{head_place};
 ghost use Rattle.log_memory.specs.Rule.{ring};
-ghost use Rattle.log_memory.specs.Steps.{Gives, IsIdle, MayGive, MayReread, Rereads};
+ghost use Rattle.log_memory.specs.Steps.{Gives, IsIdle, MayReread, Rereads};
 
 use crate::rights::{LogSeat, LogTable};
 use crate::steps::{Consume, Give, LookHere, Picked, Reread};
@@ -40,11 +41,11 @@ pub fn reread<N: Picked>(table: &LogTable, seat: &mut LogSeat, place: usize) -> 
     table.load::<Reread<N>>(seat, place)
 }
 
-/// The chosen consumer gives its part of the chosen frame back, at a load.
+/// A consumer of the seat gives its part of a frame back, at a load.
 #[inline(always)]
-pub fn give<N: Picked>(table: &LogTable, seat: &mut LogSeat, place: usize)
+pub fn give(table: &LogTable, seat: &mut LogSeat, place: usize)
     requires seat { IsSeatOf table.now.key table.now.table_id seat.old.table_id }
-    requires may { MayGive table.now.key N.reading N.frame seat.old.me }
+    requires may { MayGiveBack table.now.key seat.old.me }
     requires place { place < table.now.table_id.words }
     ensures seat { (seat.new.table_id ≡ seat.old.table_id) × (seat.new.id ≡ seat.old.id) }
     ensures told { Gives seat.old.me seat.new.me }
