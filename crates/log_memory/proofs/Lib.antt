@@ -28,3 +28,4 @@ mod Frees
 mod Drafted
 mod OpenRooms
 pub mod ClaimRooms
+pub mod Looked

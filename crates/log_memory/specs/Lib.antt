@@ -7,6 +7,7 @@ pub mod Order
 pub mod Opening
 pub mod Rights
 pub mod Frames
+pub mod Found
 pub mod Drafts
 pub mod Open
 pub mod Law

@@ -47,7 +47,7 @@ mod view;
 pub use drafts::{Draft, commit_frame, store_frame};
 pub use frames::{copy_part, free_frame, free_to, give_back};
 pub use keeper::{begin, clean_to, end, give_room, raise, see, take_back};
-pub use law::{seats_keep, steps_keep};
+pub use law::{parts_are_found, seats_keep, steps_keep};
 pub use memory::{LogMemory, OwnTable};
 pub use open_frames::{Opened, add_open, commit_open};
 pub use opening::{open, units_of};
