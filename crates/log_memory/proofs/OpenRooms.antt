@@ -1,10 +1,12 @@
 -- The room of open frames in a row of slots.
-use Rattle.std.proofs.Common.{◌≡◌, ℕ, zero, suc, ◌+◌, ◌*◌, ◌/◌, List, [], ◌∷◌, ◌++◌, length, length-append, sym, refl, ap, ◌∙◌, subst}
+use Rattle.std.proofs.Common.{◌≡◌, ◌==◌, ℕ, zero, suc, Bool, true, false, cond, inl, inr, ◌+◌, ◌*◌, ◌/◌, List, [], ◌∷◌, ◌++◌, length, length-append, sym, refl, ap, ◌∙◌, subst}
+use Rattle.std.proofs.lemmas.Bool.{eqb-false, ne_eqb, true_from_ne_false}
 use Rattle.std.proofs.lemmas.List.{append_assoc}
+use Rattle.theory.specs.Placed.{Among}
 use Rattle.publication.specs.declared.pass.FrameWords.{FrameWords}
 use Rattle.region.specs.declared.access.Access.{Access}
 use Rattle.log_memory.specs.declared.view.Site.{Site}
-use Rattle.log_memory.specs.Open.{HoldsRooms, slots_in}
+use Rattle.log_memory.specs.Open.{AreApart, HoldsRooms, front_of, others_of, slots_in}
 use Rattle.log_memory.specs.Order.{rotated}
 use Rattle.log_memory.specs.Places.{slot_of}
 use Rattle.log_memory.specs.Rule.{ring}
@@ -44,3 +46,22 @@ holds_turned t fs gs mine h =
     let c = holds_cut t fs gs [] mine h in let a = holds_apart t fs c.0 mine c.1 in
     let is : rotated (slots_in fs) mine ≡ c.0 ++ a.0 = ap (λ (n : ℕ). rotated n mine) (sym a.2) ∙ ap (rotated (length a.0)) a.1 ∙ rotated_all a.0 c.0 in
     subst (HoldsRooms t (gs ++ fs) []) (sym is) (holds_both t gs fs [] a.0 (c.0 ++ a.0) (holds_more t gs [] c.0 a.0 c.2) a.3)
+
+-- ---- which frame begins at a position
+
+among_mid : (front : List FrameWords) (f : FrameWords) (others : List FrameWords) → Among f (front ++ f ∷ others)
+among_mid [] f others = inl refl
+among_mid (g ∷ front) f others = inr (among_mid front f others)
+
+picked_of : (front : List FrameWords) (f : FrameWords) (others : List FrameWords) → AreApart (front ++ f ∷ others) → (front_of f.start (front ++ f ∷ others) ≡ front) × (others_of f.start (front ++ f ∷ others) ≡ others)
+picked_of [] f others apart =
+    (ap (λ (b : Bool). cond b [] (f ∷ front_of f.start others)) (same f.start), ap (λ (b : Bool). cond b others (others_of f.start others)) (same f.start))
+  where
+    same : (n : ℕ) → (n == n) ≡ true
+    same n = true_from_ne_false (n == n) (λ e. eqb-false n n e refl)
+picked_of (g ∷ front) f others apart =
+    let r = picked_of front f others apart.1 in let no : (g.start == f.start) ≡ false = ne_eqb g.start f.start (λ e. apart.0 f (among_mid front f others) (sym e)) in
+    (ap (λ (b : Bool). cond b [] (g ∷ front_of f.start (front ++ f ∷ others))) no ∙ ap (λ (l : List FrameWords). g ∷ l) r.0, ap (λ (b : Bool). cond b (front ++ f ∷ others) (others_of f.start (front ++ f ∷ others))) no ∙ r.1)
+
+pub picked : (fs front : List FrameWords) (f : FrameWords) (others : List FrameWords) → AreApart fs → fs ≡ front ++ f ∷ others → (front_of f.start fs ≡ front) × (others_of f.start fs ≡ others)
+picked fs front f others apart e = subst (λ (l : List FrameWords). (front_of f.start l ≡ front) × (others_of f.start l ≡ others)) (sym e) (picked_of front f others (subst AreApart e apart))

@@ -1,5 +1,6 @@
 -- The room of a pass's open frames, in the row of slots that its seat carries: one after the other, in the order of the frames.
-use Rattle.std.specs.Prelude.{◌≡◌, ℕ, ◌+◌, ◌*◌, ◌/◌, ◌^◌, ◌<◌, List, [], ◌∷◌, ◌++◌, length, suc}
+use Rattle.std.specs.Prelude.{◌≡◌, ◌≢◌, ◌==◌, if◌then◌else◌, ℕ, ◌+◌, ◌*◌, ◌/◌, ◌^◌, ◌<◌, List, [], ◌∷◌, ◌++◌, length, suc}
+use Rattle.theory.specs.Placed.{Among}
 use Rattle.theory.specs.Position.{aligned}
 use Rattle.publication.specs.declared.pass.FrameWords.{FrameWords}
 use Rattle.publication.specs.Steps.{Adds, addition, blank, frame, with_work}
@@ -51,3 +52,26 @@ pub record AddsOpen (size : ℕ) (m : Mine) (n : ℕ) (m' : Mine) : Type 0 where
   pub room : m'.0.room ≡ m.0.room
   pub told : playing (λ v k w. Adds v size k w) (λ v k. addition v size k ∷ []) any_step (as_view m.0) n (as_view m'.0)
   pub low : claimed_bytes m'.0.view.pass < 2 ^ 63
+
+-- ---- which of them it is
+
+-- those before the first that begins at a position, and those behind it
+abbrev pub front_of : ℕ → List FrameWords → List FrameWords
+front_of p [] = []
+front_of p (f ∷ fs) = if f.start == p then [] else f ∷ front_of p fs
+
+abbrev pub others_of : ℕ → List FrameWords → List FrameWords
+others_of p [] = []
+others_of p (f ∷ fs) = if f.start == p then fs else others_of p fs
+
+-- no two begin at one position
+abbrev pub AreApart : List FrameWords → Type 0
+AreApart [] = Unit {0}
+AreApart (f ∷ fs) = ((g : FrameWords) → Among g fs → g.start ≢ f.start) × AreApart fs
+
+-- the draft is one of the pass's open frames, of which none begins where another does
+pub record IsOneOpen (t : Site) (d : Draft) (m : Mine) : Type 0 where
+  pub front : List FrameWords
+  pub others : List FrameWords
+  pub is : IsOpenDraft t d front others m
+  pub apart : AreApart m.0.view.pass.work.drafts

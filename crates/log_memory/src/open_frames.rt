@@ -9,7 +9,7 @@ ghost use Rattle.region.specs.declared.access.Access as accesses;
 ghost use Rattle.log_memory.specs.Drafts.{IsDraft};
 ghost use Rattle.log_memory.specs.Kinds.{IsSeatOf};
 ghost use Rattle.log_memory.specs.Steps.{IsIdle};
-ghost use Rattle.log_memory.specs.Open.{AddsOpen, HoldsOpen, IsOpenDraft, StoresOpen};
+ghost use Rattle.log_memory.specs.Open.{AddsOpen, HoldsOpen, IsOneOpen, IsOpenDraft, StoresOpen};
 
 use crate::drafts::{Draft, commit_frame};
 use crate::memory::LogMemory;
@@ -26,7 +26,7 @@ use std::sync::Arc;
 
 /// What a call picks where it commits an open frame: those before it and those behind it, the row of slots, and how many the
 /// frame has.
-pub trait Opened {
+trait Opened {
     ghost front: { List frames.FrameWords };
 
     ghost others: { List frames.FrameWords };
@@ -85,7 +85,7 @@ impl<N: Opened> Rowed for Rest<N> {
 
 /// Commits one of the open frames of the seat's pass, between the chosen ones: its bytes are written plainly, then its first word
 /// is stored, by one step. The room of the others stays in the seat's row.
-pub fn commit_open<N: Opened>(
+fn commit_as<N: Opened>(
     memory: &LogMemory,
     seat: &mut LogSeat,
     home: Arc<Region>,
@@ -107,6 +107,27 @@ pub fn commit_open<N: Opened>(
     let home = commit_frame::<Rest<N>>(memory, seat, home, draft);
     pass_chosen::<Access, LogView, After<N>>(seat);
     home
+}
+
+/// Commits one of the open frames of the seat's pass, whichever: its bytes are written plainly, then its first word is stored, by one
+/// step. The room of the others stays in the seat's row.
+pub fn commit_open(
+    memory: &LogMemory,
+    seat: &mut LogSeat,
+    home: Arc<Region>,
+    draft: &Draft<'_>,
+) -> Arc<Region>
+    requires seat { IsSeatOf memory.now.table.shared.key memory.now.table.shared.table_id
+        seat.old.table_id }
+    requires home { home.value.identity ≡ memory.now.table.shared.key.region.identity }
+    requires draft { IsDraft draft.now }
+    requires open { IsOneOpen memory.now.table.shared.key draft.now seat.old.me }
+    requires holds { HoldsOpen memory.now.table.shared.key seat.old.me }
+    ensures home { result.value.identity ≡ home.value.identity }
+    ensures seat { (seat.new.table_id ≡ seat.old.table_id) × (seat.new.id ≡ seat.old.id) }
+    ensures stores { StoresOpen memory.now.table.shared.key draft.now seat.old.me seat.new.me }
+{
+    commit_as::<Brand>(memory, seat, home, draft)
 }
 
 /// Adds what a message of `size` bytes covers to the tail for which the publisher is armed. The room of what it claims is in the
