@@ -36,7 +36,7 @@ head_start : (p : ℕ) (f : Frame) → (head_of p f).start ≡ p
 head_start p (Data flags payload) = refl
 head_start p (Pad n) = refl
 
-head_length : (p : ℕ) (f : Frame) → (head_of p f).frame_length ≡ frame_length f
+pub head_length : (p : ℕ) (f : Frame) → (head_of p f).frame_length ≡ frame_length f
 head_length p (Data flags payload) = refl
 head_length p (Pad n) = refl
 

@@ -20,3 +20,12 @@ pub mod Seating
 pub mod Rounds
 pub mod Parts
 pub mod Kept
+mod HeadPlaces
+mod Openings
+mod Turns
+mod UnitPlaces
+mod Frees
+mod Drafted
+mod OpenRooms
+pub mod ClaimRooms
+pub mod Looked

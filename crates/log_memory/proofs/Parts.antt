@@ -15,17 +15,17 @@ first_or g [] = g
 first_or g (x ∷ xs) = x.1
 
 -- the next slot is taken from a row of which so many were
-module _ (t : Site) (k count : ℕ) (ws : List ℕ) (life book d : ℕ) (mine : List (ℕ × Access)) (h : IsHalfway (IsPartAt t k ws life book) IsAnything k count d mine) (lt : d < count) where
+module _ (t : Site) (k count : ℕ) (ws : List ℕ) (life book d : ℕ) (mine : List (ℕ × Access)) (h : IsHalfway (IsPartAt t k ws life book) IsAnything k count d [] mine) (lt : d < count) where
   pub here : (g : Access) × (mine ≡ (k + d, g) ∷ rest mine)
-  here = let f = front (IsPartAt t k ws life book) IsAnything k count d mine h lt in (f.0, f.1)
+  here = let f = front (IsPartAt t k ws life book) IsAnything k count d [] mine h lt in (f.0, f.1)
 
   module _ (g : Access) (had : mine ≡ (k + d, g) ∷ rest mine) where
     pub part : d < 8 → IsPart t k ws life book g
     unfolding first_or
-    part low = let f = front (IsPartAt t k ws life book) IsAnything k count d mine h lt in subst (IsPart t k ws life book) (ap (first_or g) (sym f.1 ∙ had)) (f.2 (omega arith))
+    part low = let f = front (IsPartAt t k ws life book) IsAnything k count d [] mine h lt in subst (IsPart t k ws life book) (ap (first_or g) (sym f.1 ∙ had)) (f.2 (omega arith))
 
-  pub row : (mine' : List (ℕ × Access)) → (g : Access) × (mine' ≡ rest mine ++ (k + d, g) ∷ []) → IsHalfway (IsPartAt t k ws life book) IsAnything k count (d + 1) mine'
-  row mine' e = subst (IsHalfway (IsPartAt t k ws life book) IsAnything k count (d + 1)) (sym e.1) (turn_with (IsPartAt t k ws life book) IsAnything k count d mine h lt e.0 tt)
+  pub row : (mine' : List (ℕ × Access)) → (g : Access) × (mine' ≡ rest mine ++ (k + d, g) ∷ []) → IsHalfway (IsPartAt t k ws life book) IsAnything k count (d + 1) [] mine'
+  row mine' e = subst (IsHalfway (IsPartAt t k ws life book) IsAnything k count (d + 1) []) (sym e.1) (turn_with (IsPartAt t k ws life book) IsAnything k count d [] mine h lt e.0 tt)
 
 -- one part alone
 pub one_part : (t : Site) (k : ℕ) (ws : List ℕ) (life book : ℕ) (g : Access) → IsPart t k ws life book g → IsWholeOf t k ws (2 ^ 60) life book g.read

@@ -46,7 +46,7 @@ in_ring t p m some low =
 pub place_is : (n p : ℕ) → 0 < n → p % 32 ≡ 0 → (p / 32 % n) * 32 ≡ p % (n * 32)
 place_is n p some unit = let e : p % (n * 32) ≡ (p / 32 % n) * 32 + p % 32 = mod-mul p some (omega arith) in let x : ℕ = p / 32 % n in omega arith
 
-add_small : (n a x : ℕ) → a % n + x < n → (a + x) % n ≡ a % n + x
+pub add_small : (n a x : ℕ) → a % n + x < n → (a + x) % n ≡ a % n + x
 add_small n a x low =
     let parts : n * (a / n) + a % n ≡ a = div-add-mod a n in let y : ℕ = n * (a / n) in let r : ℕ = a % n in let parts' : y + r ≡ a = parts in
     let sum : a + x ≡ (r + x) + y = omega arith in

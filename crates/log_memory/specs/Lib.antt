@@ -1,7 +1,13 @@
 pub mod Places
 pub mod Rule
 pub mod Steps
-pub mod Opening
 pub mod Seats
+pub mod Kinds
+pub mod Order
+pub mod Opening
 pub mod Rights
+pub mod Frames
+pub mod Found
+pub mod Drafts
+pub mod Open
 pub mod Law

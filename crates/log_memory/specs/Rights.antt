@@ -1,6 +1,5 @@
 -- Slots that a seat carries, on their way round.
-use Rattle.std.specs.Prelude.{◌≡◌, ℕ, zero, suc, ◌+◌, ◌-◌, ◌*◌, ◌^◌, ◌<◌, ◌≤◌, List, [], replicate}
-use Rattle.atomic_table.specs.Table.{turned}
+use Rattle.std.specs.Prelude.{◌≡◌, ℕ, ◌+◌, ◌-◌, ◌*◌, ◌^◌, ◌<◌, ◌≤◌, List, [], ◌++◌, replicate}
 use Rattle.region.specs.declared.access.Access.{Access}
 use Rattle.region.specs.declared.access.ReadAccess.{ReadAccess}
 use Rattle.region.specs.declared.access.WriteAccess.{WriteAccess}
@@ -12,23 +11,18 @@ use Rattle.log_memory.specs.Steps.{Carries, IsPartAt}
 abbrev pub IsAnything : ℕ → Access → Type 0
 IsAnything k g = Unit {0}
 
--- of so many slots from the number k on, the first i were seen to, and went behind the others
-pub record IsHalfway (now later : ℕ → Access → Type 0) (k count i : ℕ) (mine : List (ℕ × Access)) : Type 0 where
+-- of so many slots from the number k on, which are carried over others, the first i were seen to, and went behind these
+pub record IsHalfway (now later : ℕ → Access → Type 0) (k count i : ℕ) (before mine : List (ℕ × Access)) : Type 0 where
   pub low : i ≤ count
   pub behind : List (ℕ × Access)
   pub done : Carries later k i [] behind
-  pub left : Carries now (k + i) (count - i) behind mine
+  pub left : Carries now (k + i) (count - i) (before ++ behind) mine
 
 -- the right to write so many bytes, from those of the slot k on, which are zero
 pub record IsRun (t : Site) (k bytes : ℕ) (w : WriteAccess) : Type 0 where
   pub identity : w.identity ≡ t.region.identity
   pub at : w.at ≡ 4 * k
   pub zeros : w.items ≡ replicate bytes 0
-
--- so many go behind the others, one after the other
-abbrev pub turned_by : ℕ → List (ℕ × Access) → List (ℕ × Access)
-turned_by zero mine = mine
-turned_by (suc n) mine = turned_by n (turned mine)
 
 -- the first eight slots, from the number k on, have an eighth each of a right to read
 abbrev pub IsEighthAt : ℕ → ReadAccess → ℕ → Access → Type 0

@@ -22,6 +22,7 @@ use Rattle.log_rule.specs.Keepings.{least_there, with_keeping}
 use Rattle.log_rule.specs.Kept.{IsThere}
 use Rattle.log_rule.specs.Readings as readings
 use Rattle.log_rule.specs.Readings.{IsConsumer, reading}
+use Rattle.log_rule.specs.Shares.{claimed_bytes}
 use Rattle.log_memory.specs.declared.view.LogView.{LogView}
 use Rattle.log_memory.specs.declared.view.Site.{Site}
 use Rattle.log_memory.specs.Places.{slot_of}
@@ -76,6 +77,8 @@ pub record Adds (t : Site) (size : ℕ) (m : Mine) (n : ℕ) (m' : Mine) : Type 
   pub room : m'.0.room ≡ m.0.room
   pub told : playing (λ v k w. steps.Adds v size k w) (λ v k. addition v size k ∷ []) any_step (as_view m.0) n (as_view m'.0)
   pub takes : TakesRoom t size n m m'
+  -- and what the pass has claimed by then can be counted
+  pub low : claimed_bytes m'.0.view.pass < 2 ^ 63
 
 -- ---- a frame is committed
 

@@ -14,8 +14,22 @@
 //! consumers, and has all its slots then (`take_back`); it makes the bytes zero, and the store of zero over the word gives
 //! the units back as room (`give_room`).
 //!
+//! A log opens with its table, its region and the one seat that has all (`open`, `LogMemory`): 208 control words and one for each
+//! unit, all bytes zero, and all of them room.
+//!
+//! Each kind of step is a call on the table with a seat, which tells of its pass what `log_rule`'s like tells, and what slots
+//! came or went: a publisher's (`load_limit` to `commit`), a reader's (`look` to `consume`), the keeper's (`see` to `raise`), and
+//! those by which seats are dealt and joined, and told of themselves (`deal_publisher` to `weigh`).
+//!
 //! A seat carries slots in a row. `gather` makes one run of the memory of the units in it, and `deal_parts` puts the parts of a
 //! frame there; `collect_parts` takes them back as one right, and `deal_room` makes units of a run of zeros. None moves a byte.
+//! Several claims may be open in one pass: their room stays in the row, in the order of the open frames (`HoldsOpen`), and which
+//! of it comes to the front is known to the proof alone (`pass_chosen`).
+//!
+//! Over these stand the calls that do a thing whole. An addition keeps the room of what it claims (`add_open`). One of the open
+//! frames, whichever, is written plainly and committed by one store (`commit_open`). A reader copies what lies behind the header of
+//! a frame that it found, and gives its part back (`copy_part`, `give_back`). The keeper makes the memory of all frames below a
+//! position zero and room, by two steps a frame (`free_to`).
 //!
 //! So each byte is written by one seat alone, or read by as many as have a part of it, in any schedule. A commit is many
 //! events of the stream at once: a store of each word of the frame, and that of its first. So is the load by which the
@@ -23,12 +37,40 @@
 //! one event or a look, as it is without memory.
 #![tactic(auto)]
 
+mod drafts;
+mod frames;
+mod keeper;
 mod law;
+mod memory;
+mod open_frames;
+mod opening;
+mod order;
+mod publisher;
+mod reader;
 mod rights;
 mod rule;
+mod seat_moves;
+mod seats;
+mod steps;
 mod view;
 
-pub use law::{seats_keep, steps_keep};
-pub use rights::{LogSeat, LogTable, collect_parts, deal_parts, deal_room, gather};
+pub use drafts::{Draft, commit_frame, store_frame};
+pub use frames::{copy_part, free_frame, free_to, give_back};
+pub use keeper::{begin, clean_to, end, give_room, raise, see, take_back};
+pub use law::{parts_are_found, seats_keep, steps_keep};
+pub use memory::{LogMemory, OwnTable};
+pub use open_frames::{add_open, commit_open};
+pub use opening::{open, units_of};
+pub use order::pass_chosen;
+pub use publisher::{
+    add, commit, exchange_count, exchange_next, load_count, load_limit, load_next, load_tail,
+};
+pub use reader::{consume, give, look, reread};
+pub use rights::{LogSeat, LogTable, Rowed, collect_parts, deal_parts, deal_room, gather};
 pub use rule::LogMemoryRule;
+pub use seat_moves::{
+    deal_keeper, deal_knowledge, deal_news, deal_publisher, deal_reader, hand_over, meet,
+    part_again, renumber, settle, show, take_consumer, take_seat, tell, weigh,
+};
+pub use steps::Picked;
 pub use view::{LogView, Part, Room, Site};

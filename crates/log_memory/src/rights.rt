@@ -4,13 +4,16 @@
 ghost use Rattle.std.specs.Prelude.{◌≡◌, ◌∷◌, ◌++◌, List, ℕ, ◌+◌, ◌*◌, ◌%◌, ◌^◌, ◌<◌, ◌≤◌, []};
 ghost use Rattle.atomic_table.specs.Table.{rest, turned};
 ghost use Rattle.region.specs.declared.access.Access.{Access as Kept};
-ghost use Rattle.log_memory.specs.Rights.{HaveParts, IsAnything, IsEighthAt, IsHalfway, IsRun, IsWholeOf, turned_by};
+ghost use Rattle.log_memory.specs.Rights.{HaveParts, IsAnything, IsEighthAt, IsHalfway, IsRun, IsWholeOf};
 ghost use Rattle.log_memory.specs.Steps.{Carries, IsPartAt, IsRoomAt};
 
+use crate::order::{pass_chosen, pass_slots};
 use crate::rule::LogMemoryRule;
 use crate::view::{LogView, Site};
 use atomic_table::{Seat, Shared};
+use log_rule::Chosen;
 use region::{Access, EIGHTH, ReadAccess, WriteAccess};
+use std::marker::{Brand, PhantomData};
 
 /// A log's table, and a seat of it.
 pub type LogTable = Shared<Access, LogView, Site, LogMemoryRule>;
@@ -26,18 +29,34 @@ fn pass_seven(seat: &mut LogSeat)
           (turned seat.old.me.1)))))),
     ) }
 {
-    seat.turn();
-    seat.turn();
-    seat.turn();
-    seat.turn();
-    seat.turn();
-    seat.turn();
-    seat.turn();
+    pass_slots(seat, 7);
+}
+
+/// What a call picks of the slots that a seat carries: those behind the ones that it is about.
+pub trait Rowed {
+    ghost behind: { List (ℕ × Kept) };
+}
+
+impl Rowed for Brand {
+    ghost use Rattle.std.specs.Prelude.{[]};
+
+    ghost behind = { [] };
+}
+
+/// As many as these.
+struct Behind<N> {
+    row: PhantomData<N>,
+}
+
+impl<N: Rowed> Chosen for Behind<N> {
+    ghost use Rattle.std.specs.Prelude.{length};
+
+    ghost number = { length N.behind };
 }
 
 /// The right to write the next of so many units, of which the first `done` slots were emptied.
 #[tactic(auto, using(crate::proofs::Rounds::next_unit))]
-fn take_unit(
+fn take_unit<N: Rowed>(
     table: &LogTable,
     seat: &mut LogSeat,
     first: usize,
@@ -47,10 +66,12 @@ fn take_unit(
     requires seat { seat.old.table_id ≡ table.now.table_id }
     requires place { (first % 8 ≡ 0) × (done % 8 ≡ 0) × (done + 8 ≤ 8 * units)
         × (first + 8 * units < 2 ^ 60) }
-    requires row { IsHalfway (IsRoomAt table.now.key) IsAnything first (8 * units) done seat.old.me.1 }
+    requires row { IsHalfway (IsRoomAt table.now.key) IsAnything first (8 * units) done N.behind
+        seat.old.me.1 }
     ensures seat { (seat.new.table_id ≡ seat.old.table_id) × (seat.new.id ≡ seat.old.id)
         × (seat.new.me.0 ≡ seat.old.me.0) }
-    ensures row { IsHalfway (IsRoomAt table.now.key) IsAnything first (8 * units) (done + 8) seat.new.me.1 }
+    ensures row { IsHalfway (IsRoomAt table.now.key) IsAnything first (8 * units) (done + 8) N.behind
+        seat.new.me.1 }
     ensures run { IsRun table.now.key (first + done) 32 result }
 {
     let Access { write, read: _ } = table.exchange(seat, first + done, Access::none());
@@ -59,39 +80,34 @@ fn take_unit(
     write
 }
 
-/// The right to write all bytes of so many units, whose slots the seat carries, from the slot `first` on.
-pub fn gather(table: &LogTable, seat: &mut LogSeat, first: usize, units: usize) -> WriteAccess
+/// The right to write all bytes of so many units, whose slots the seat carries over others, from the slot `first` on.
+pub fn gather<N: Rowed>(
+    table: &LogTable,
+    seat: &mut LogSeat,
+    first: usize,
+    units: usize,
+) -> WriteAccess
     requires seat { seat.old.table_id ≡ table.now.table_id }
     requires place { (first % 8 ≡ 0) × (0 < units) × (first + 8 * units < 2 ^ 60) }
-    requires row { Carries (IsRoomAt table.now.key) first (8 * units) [] seat.old.me.1 }
+    requires row { Carries (IsRoomAt table.now.key) first (8 * units) N.behind seat.old.me.1 }
     ensures seat { (seat.new.table_id ≡ seat.old.table_id) × (seat.new.id ≡ seat.old.id)
         × (seat.new.me.0 ≡ seat.old.me.0) }
-    ensures row { Carries IsAnything first (8 * units) [] seat.new.me.1 }
+    ensures row { Carries IsAnything first (8 * units) N.behind seat.new.me.1 }
     ensures run { IsRun table.now.key first (32 * units) result }
 {
-    let mut run = take_unit(table, seat, first, units, 0);
+    let mut run = take_unit::<N>(table, seat, first, units, 0);
     let mut taken = 1;
     while taken < units {
-        run = run.append(take_unit(table, seat, first, units, 8 * taken));
+        run = run.append(take_unit::<N>(table, seat, first, units, 8 * taken));
         taken += 1;
     }
+    pass_chosen::<Access, LogView, Behind<N>>(seat);
     run
 }
 
-/// So many slots go behind the others.
-fn pass_slots(seat: &mut LogSeat, count: usize)
-    ensures same { (seat.new.table_id ≡ seat.old.table_id) × (seat.new.id ≡ seat.old.id) }
-    ensures turned { seat.new.me ≡ (seat.old.me.0, turned_by count seat.old.me.1) }
-{
-    let mut left = count;
-    while left > 0 {
-        seat.turn();
-        left -= 1;
-    }
-}
-
-/// A right to read all bytes of a frame is parted among its first unit's eight slots, of so many units that the seat carries.
-pub fn deal_parts(
+/// A right to read all bytes of a frame is parted among its first unit's eight slots, of so many units that the seat carries over
+/// others.
+pub fn deal_parts<N: Rowed>(
     table: &LogTable,
     seat: &mut LogSeat,
     whole: ReadAccess,
@@ -101,10 +117,11 @@ pub fn deal_parts(
     requires seat { seat.old.table_id ≡ table.now.table_id }
     requires whole { whole.count ≡ 2 ^ 63 }
     requires place { (0 < units) × (first + 8 * units < 2 ^ 60) }
-    requires row { Carries IsAnything first (8 * units) [] seat.old.me.1 }
+    requires row { Carries IsAnything first (8 * units) N.behind seat.old.me.1 }
     ensures seat { (seat.new.table_id ≡ seat.old.table_id) × (seat.new.id ≡ seat.old.id)
         × (seat.new.me.0 ≡ seat.old.me.0) }
-    ensures row { Carries (IsEighthAt first whole) first (8 * units) [] seat.new.me.1 }
+    ensures row { Carries (IsEighthAt first whole) first (8 * units) N.behind
+        seat.new.me.1 }
 {
     let mut rest = whole;
     let mut dealt = 0;
@@ -116,6 +133,7 @@ pub fn deal_parts(
         dealt += 1;
     }
     pass_slots(seat, 8 * units - 8);
+    pass_chosen::<Access, LogView, Behind<N>>(seat);
 }
 
 /// What the slot that the seat took last has. It goes behind the others, empty.

@@ -1,5 +1,5 @@
-//! Bytes copied in and out.
-ghost use Rattle.std.specs.Prelude.{◌≡◌, ◌≤◌, ◌<◌, ◌++◌, length, take, drop};
+//! Bytes copied in and out, and made zero.
+ghost use Rattle.std.specs.Prelude.{◌≡◌, ◌^◌, ◌≤◌, ◌<◌, ◌++◌, length, take, drop, replicate};
 ghost use Rattle.region.specs.Identity.{start_address};
 
 use crate::access::{ReadAccess, WriteAccess};
@@ -32,6 +32,29 @@ impl WriteAccess {
         let (region, front) = loan.end(room);
         (region, front.append(back))
     }
+
+    /// Makes all bytes of the run zero, which lies `at` bytes behind the region's start.
+    pub fn clear(
+        self,
+        region: Arc<Region>,
+        start: RegionStart,
+        at: usize,
+        len: usize,
+    ) -> (Arc<Region>, WriteAccess)
+        requires region { self.identity ≡ region.value.identity }
+        requires place { (start.address ≡ start_address self.identity) × (at ≡ self.at)
+            × (len ≡ length self.items) }
+        requires short { len < 2 ^ 63 }
+        ensures region { result.0.value.identity ≡ region.value.identity }
+        ensures cleared { result.1 ≡ record self { items = replicate (length self.items) 0 } }
+    {
+        if len == 0 {
+            return (region, self);
+        }
+        let (mut bytes, loan) = self.lend(region, start, at, len);
+        make_zero(&mut bytes);
+        loan.end(bytes)
+    }
 }
 
 impl ReadAccess {
@@ -53,4 +76,11 @@ fn copy(into: &mut [u8], bytes: &[u8])
     ensures { into.new ≡ bytes.now }
 {
     into.copy_from_slice(bytes);
+}
+
+/// Makes all bytes zero.
+fn make_zero(bytes: &mut [u8])
+    ensures { bytes.new ≡ replicate (length bytes.old) 0 }
+{
+    bytes.fill(0);
 }

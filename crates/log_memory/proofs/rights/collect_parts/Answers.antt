@@ -10,7 +10,7 @@ use Rattle.log_memory.proofs.rights.collect_parts.Goals as goal
 pub take_slot-whole-requires-clause-here : goal.take_slot-whole-requires-clause-here
 take_slot-whole-requires-clause-here c =
     let q = c.requires.row in let p = c.requires.place in let k = c.args.first in let n : ℕ = 8 * c.args.units in let t = c.args.table.now.key in let m = c.args.seat.now.me.1 in
-    let f = here t k n q.words q.life q.book 0 m (none_yet (IsPartAt t k q.words q.life q.book) IsAnything k n m q.row) (omega arith) in
+    let f = here t k n q.words q.life q.book 0 m (none_yet (IsPartAt t k q.words q.life q.book) IsAnything k n [] m q.row) (omega arith) in
     (f.0, f.1 ∙ ap (λ (i : ℕ). (i, f.0) ∷ rest m) (let z : k + 0 ≡ k = omega arith in z))
 
 pub loop-taken-init : goal.loop-taken-init
@@ -21,7 +21,7 @@ loop-taken-init c =
       e.seat.0,
       e.seat.1,
       e.seat.2,
-      λ ws life book r. let h = none_yet (IsPartAt t k ws life book) IsAnything k n m r in (
+      λ ws life book r. let h = none_yet (IsPartAt t k ws life book) IsAnything k n [] m r in (
         row t k n ws life book 0 m h (omega arith) c.take_slot-whole.new.seat.me.1 (e.turned.0, e.turned.1 ∙ ap (λ (i : ℕ). rest m ++ (i, e.turned.0) ∷ []) z),
         one_part t k ws life book c.take_slot-whole.result (part t k n ws life book 0 m h (omega arith) c.take_slot-whole.result (e.had ∙ ap (λ (i : ℕ). (i, c.take_slot-whole.result) ∷ rest m) z) (omega arith)),
       ),
@@ -62,6 +62,6 @@ pub returns-clause-row : goal.returns-clause-row
 returns-clause-row c =
     let i = c.loop-taken.invariant in let f = c.loop-taken-test.false in let p = c.requires.place in let q = c.requires.row in let k = c.args.first in let n : ℕ = 8 * c.args.units in let is = IsPartAt c.args.table.now.key k q.words q.life q.book in
     let eight : c.loop-taken.taken ≡ 8 = (let a = i.1 in omega arith) in
-    let h : IsHalfway is IsAnything k n 8 c.loop-taken.seat.me.1 = subst (λ (d : ℕ). IsHalfway is IsAnything k n d c.loop-taken.seat.me.1) eight (i.5 q.words q.life q.book q.row).0 in
-    let after = turn_rest is IsAnything k n 8 (n - 8) c.loop-taken.seat.me.1 h (omega arith) (λ j g le a. tt) in
-    all_done is IsAnything k n c.pass_slots.new.seat.me.1 (subst (λ (x : ℕ × List (ℕ × Access)). IsHalfway is IsAnything k n x.0 x.1) (λ j. ((let z : 8 + (n - 8) ≡ n = omega arith in z) j, sym (ap (λ m. m.1) c.pass_slots.ensures.turned) j)) after)
+    let h : IsHalfway is IsAnything k n 8 [] c.loop-taken.seat.me.1 = subst (λ (d : ℕ). IsHalfway is IsAnything k n d [] c.loop-taken.seat.me.1) eight (i.5 q.words q.life q.book q.row).0 in
+    let after = turn_rest is IsAnything k n 8 (n - 8) [] c.loop-taken.seat.me.1 h (omega arith) (λ j g le a. tt) in
+    all_done is IsAnything k n c.pass_slots.new.seat.me.1 (subst (λ (x : ℕ × List (ℕ × Access)). IsHalfway is IsAnything k n x.0 [] x.1) (λ j. ((let z : 8 + (n - 8) ≡ n = omega arith in z) j, sym (ap (λ m. m.1) c.pass_slots.ensures.turned) j)) after)
