@@ -1,14 +1,15 @@
 -- Every frame that was committed in a range is one of those that lead through it.
-use Rattle.std.proofs.Common.{◌≡◌, ℕ, zero, suc, ◌+◌, ◌*◌, ◌<◌, ◌≤◌, List, [], ◌∷◌, ◌++◌, inl, inr, length, map, refl, sym, ap, ◌∙◌, subst, arith}
+use Rattle.std.proofs.Common.{◌≡◌, ℕ, zero, suc, ◌+◌, ◌*◌, ◌<◌, ◌≤◌, List, [], ◌∷◌, inl, inr, length, map, refl, sym, ap, ◌∙◌, subst, arith}
 use Rattle.std.specs.List.{AllByRecursion, flat_map}
 use Rattle.theory.specs.Entry.{Entry, entry_end, length_of}
 use Rattle.theory.specs.Placed.{Among, Chain, end_of}
 use Rattle.theory.specs.Tiling.{Tiles}
+use Rattle.theory.proofs.Lists.{all_at}
 use Rattle.publication.specs.declared.pass.FrameWords.{FrameWords}
 use Rattle.publication.specs.Steps.{Extent, extent_of}
-use Rattle.log_rule.specs.Claims.Handles.{PublisherValue}
 use Rattle.log_rule.specs.Claims.Sums.{covers, total}
 use Rattle.log_rule.specs.Edges.{in_entry}
+use Rattle.log_rule.proofs.Claimed.Totals.{total_flat}
 use Rattle.log_rule.proofs.Sums.{cover_cuts}
 use Rattle.shared_log.specs.Books.{IsCommittedBy, committed_of}
 use Rattle.shared_log.specs.Readers.{known_of}
@@ -61,7 +62,7 @@ tiles_once x term start tail (e ∷ es) t =
 
 -- ---- what is counted once is one
 
-counted : {A : Type 0} (h : A → ℕ) (xs : List A) (f : A) → Among f xs → h f ≤ total h xs
+pub counted : {A : Type 0} (h : A → ℕ) (xs : List A) (f : A) → Among f xs → h f ≤ total h xs
 counted h [] f a = absurd a
 counted h (x ∷ xs) f (inl e) = subst (λ y. h y ≤ h x + total h xs) (sym e) (least (h x) (total h xs))
   where
@@ -88,20 +89,6 @@ one_of h (x ∷ xs) f g le (inr a) (inr b) p q = one_of h xs f g (less (h x) (to
     less : (a b : ℕ) → a + b ≤ 1 → b ≤ 1
     less a b le = omega (arith, le)
 
-total_append : {A : Type 0} (h : A → ℕ) (xs ys : List A) → total h (xs ++ ys) ≡ total h xs + total h ys
-total_append h [] ys = start (total h ys)
-  where
-    start : (n : ℕ) → n ≡ 0 + n
-    start n = omega arith
-total_append h (x ∷ xs) ys = ap (λ (n : ℕ). h x + n) (total_append h xs ys) ∙ assoc (h x) (total h xs) (total h ys)
-  where
-    assoc : (a b c : ℕ) → a + (b + c) ≡ a + b + c
-    assoc a b c = omega arith
-
-total_flat : (h : FrameWords → ℕ) (ps : List PublisherValue) → total h (flat_map committed_of ps) ≡ total (λ p. total h (committed_of p)) ps
-total_flat h [] = refl
-total_flat h (p ∷ ps) = total_append h (committed_of p) (flat_map committed_of ps) ∙ ap (λ (n : ℕ). total h (committed_of p) + n) (total_flat h ps)
-
 -- ---- the frame that covers a position
 
 pub record CoveredBy (x : ℕ) (fs : List FrameWords) : Type 0 where
@@ -121,15 +108,10 @@ covered x j q (f ∷ fs) c whole low high = go (λ h. covered x (end_of (placed 
 inside : (x s n : ℕ) → s ≤ x → x < s + n → 0 < covers x s n
 inside x s n from to = omega (arith, from, to)
 
-all_at : {A : Type 0} (P : A → Type 0) (xs : List A) (x : A) → AllByRecursion P xs → Among x xs → P x
-all_at P [] x all a = absurd a
-all_at P (y ∷ ys) x all (inl e) = subst P (sym e) all.0
-all_at P (y ∷ ys) x all (inr a) = all_at P ys x all.1 a
-
 pub reads_all : ReadsAll
 reads_all l publishers book m shows read committed f x among from to low high =
     let h : FrameWords → ℕ = λ g. covering x (extent_of g) in
     let g = covered x m.begun_at m.reader.position (known_of m.reader) read.chain read.whole low high in
-    let once : total h (flat_map committed_of publishers) ≤ 1 = subst (λ n. n ≤ 1) (shows.committed (covering x) ∙ sym (total_flat h publishers)) (tiles_once x _ l.start book.tail shows.tiled.log shows.tiled.tiles) in
-    let same : g.frame ≡ f = one_of h (flat_map committed_of publishers) g.frame f once (all_at (IsCommittedBy publishers) (known_of m.reader) g.frame committed g.among) among (inside x g.frame.start (8 * length g.frame.words) g.from g.to) (inside x f.start (8 * length f.words) from to) in
+    let once : total h (flat_map committed_of publishers) ≤ 1 = subst (λ n. n ≤ 1) (shows.committed (covering x) ∙ sym (total_flat h committed_of publishers)) (tiles_once x _ l.start book.tail shows.tiled.log shows.tiled.tiles) in
+    let same : g.frame ≡ f = one_of h (flat_map committed_of publishers) g.frame f once (all_at (IsCommittedBy publishers) g.frame (known_of m.reader) committed g.among) among (inside x g.frame.start (8 * length g.frame.words) g.from g.to) (inside x f.start (8 * length f.words) from to) in
     subst (λ y. Among y (known_of m.reader)) same g.among

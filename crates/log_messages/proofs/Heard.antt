@@ -5,10 +5,11 @@ use Rattle.theory.specs.Assembly.{Assembly}
 use Rattle.theory.specs.Placed.{Placed}
 use Rattle.theory.proofs.Follow.{Chain-append}
 use Rattle.assembler.specs.Assembling.{Assembling}
+use Rattle.assembler.specs.Hearing.{RefusesFrame, assembled}
 use Rattle.assembler.specs.declared.fault.AssemblyError.{AssemblyError}
 use Rattle.shared_log.specs.Readers.{misses_of}
-use Rattle.log_messages.specs.Reading.{FindsNone, GivesMessage, GivesMore, GivesNothing, Hears, HearsOne, Reading, ReadsOn, Refuses, RefusesFrame, RefusesOne, assembled, given_of, read_by}
-use Rattle.log_messages.proofs.Given.{heard_more}
+use Rattle.log_messages.specs.Reading.{FindsNone, GivesMessage, GivesMore, GivesNothing, Hears, HearsOne, Reading, ReadsOn, Refuses, RefusesOne, given_of, read_by}
+use Rattle.assembler.proofs.Hearing.{heard_more}
 
 reads_further : (m k n : Reading) (frames more : List Placed) → ReadsOn m frames k → ReadsOn k more n → ReadsOn m (frames ++ more) n
 reads_further m k n frames more a b = record {

@@ -1,5 +1,7 @@
-mod Given
 mod Read
 mod Heard
 mod Committed
 mod All
+mod Merging
+mod Gathered
+mod Closing

@@ -13,6 +13,8 @@ use Rattle.theory.proofs.Follow.{Chain-push}
 use Rattle.std.specs.List.{AllByRecursion}
 use Rattle.theory.proofs.Lists.{all_pushed, among_right}
 use Rattle.assembler.specs.Assembling.{Assembling}
+use Rattle.assembler.specs.Hearing.{RefusesFrame, TakesFrame, assembled, heard_of}
+use Rattle.assembler.proofs.Hearing.{after_begun, after_given, assembled_behind, assembled_more}
 use Rattle.assembler.specs.declared.assembler.Message.{Message}
 use Rattle.assembler.specs.declared.fault.AssemblyError.{AssemblyError}
 use Rattle.position.specs.declared.head.FrameHead.{FrameHead}
@@ -25,8 +27,7 @@ use Rattle.shared_log.specs.Handles.{LogValue}
 use Rattle.shared_log.specs.Readers.{Advances, Has, IsReaderOf, ReaderValue, ReadsFrame, ReadsNone, known_of, misses_of}
 use Rattle.shared_log.specs.Sourced.{placed}
 use Rattle.shared_log.proofs.Sourced.{passes}
-use Rattle.log_messages.specs.Reading.{FindsNone, HasRead, HearsOne, IsWhole, Reading, ReadsOne, RefusesFrame, RefusesOne, TakesFrame, assembled, heard_of, read_by}
-use Rattle.log_messages.proofs.Given.{after_begun, after_given, assembled_more, given_behind}
+use Rattle.log_messages.specs.Reading.{FindsNone, HasRead, HearsOne, IsWhole, Reading, ReadsOne, RefusesOne, read_by}
 
 -- the frame where it stood was read and passed
 pub record IsPassed (r s : ReaderValue) (f : Placed) : Type 0 where
@@ -130,7 +131,7 @@ more_given : (m : Reading) (s : ReaderValue) (f : Placed) (message : Option (Lis
     → m.has_refused ≡ false → (assembled None (read_by s)).given ≡ (assembled None (read_by m.reader)).given ++ option_to_list message
 more_given m s f message h p is none =
     ap (λ (fs : List Placed). (assembled None fs).given) p.read
-    ∙ given_behind (read_by m.reader) (f ∷ [])
+    ∙ ap (λ (a : Assembly). a.given) (assembled_behind None (read_by m.reader) (f ∷ []))
     ∙ ap (λ (o : Option (List ℕ)). (assembled None (read_by m.reader)).given ++ (assembled o (f ∷ [])).given) (h.begun none)
     ∙ ap (λ (xs : List (List ℕ)). (assembled None (read_by m.reader)).given ++ xs) (after_given (record { begun = m.assembler.begun; given = [] }) f.frame ∙ ap option_to_list (sym is))
 

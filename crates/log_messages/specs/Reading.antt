@@ -1,13 +1,12 @@
 -- What contracts see of who reads a log's messages, and what it reads.
-use Rattle.std.specs.Prelude.{◌≡◌, ◌↔◌, ◌+◌, ◌*◌, ◌^◌, ◌<◌, ℕ, suc, false, Bool, List, [], ◌∷◌, ◌++◌, length, map, Option, None, Some, Result, Ok, Err}
+use Rattle.std.specs.Prelude.{◌≡◌, ◌+◌, ◌*◌, ◌^◌, ◌<◌, ℕ, suc, false, Bool, List, [], ◌∷◌, ◌++◌, length, map, Option, None, Some, Result, Ok, Err}
 use Rattle.std.specs.List.{AllByRecursion}
 use Rattle.std.specs.Option.{option_to_list}
 use Rattle.theory.specs.Position.{IsGeometry}
-use Rattle.theory.specs.Placed.{Chain, Data, Frame, Pad, Placed, end_of, is_padding}
-use Rattle.theory.specs.Assembly.{Assembly, Heard, after_all, on_frame}
-use Rattle.assembler.specs.Assembling.{Assembling, held_with, is_dropped}
+use Rattle.theory.specs.Placed.{Chain, Placed, end_of}
+use Rattle.assembler.specs.Assembling.{Assembling}
+use Rattle.assembler.specs.Hearing.{RefusesFrame, TakesFrame, assembled}
 use Rattle.assembler.specs.declared.fault.AssemblyError.{AssemblyError}
-use Rattle.assembler.specs.declared.fault.AssemblyError.TheVariants.{Memory, TooLong}
 use Rattle.assembler.specs.declared.assembler.Message.{Message}
 use Rattle.publication.specs.declared.pass.FrameWords.{FrameWords}
 use Rattle.shared_log.specs.Readers.{HasNone, ReaderValue, known_of, misses_of}
@@ -25,10 +24,6 @@ pub record Reading : Type 0 where
 abbrev pub read_by : ReaderValue → List Placed
 read_by r = map placed (known_of r)
 
--- what an assembler makes of frames that has begun this
-abbrev pub assembled : Option (List ℕ) → List Placed → Assembly
-assembled begun frames = after_all (record { begun = begun; given = [] }) (map (λ s. s.frame) frames)
-
 -- the messages that the frames complete which it has read, in order
 abbrev pub given_of : Reading → List (List ℕ)
 given_of m = (assembled None (read_by m.reader)).given
@@ -44,35 +39,6 @@ pub record HasRead (begun_at : ℕ) (r : ReaderValue) (a : Assembling) (has_refu
   pub chain : Chain begun_at r.position (read_by r)
   pub whole : AllByRecursion IsWhole (known_of r)
   pub begun : has_refused ≡ false → (assembled None (read_by r)).begun ≡ a.begun
-
--- ---- an assembler and one frame
-
--- what a frame leaves begun, and the message that it completes; a padding is passed over
-abbrev pub heard_of : Option (List ℕ) → Frame → Heard
-heard_of begun (Data flags payload) = on_frame begun flags payload
-heard_of begun (Pad n) = record { begun = begun; message = None }
-
--- the message would have more bytes than the greatest with this frame
-abbrev pub IsTooLong : ℕ → Option (List ℕ) → Frame → Type 0
-IsTooLong greatest begun (Data flags payload) = greatest < length (held_with begun flags payload)
-IsTooLong greatest begun (Pad n) = ⊥
-
--- its payload has bytes, and is kept: only such a frame asks for memory
-abbrev pub AsksMemory : Option (List ℕ) → Frame → Type 0
-AsksMemory begun (Data flags payload) = (is_dropped begun flags ≡ false) × (0 < length payload)
-AsksMemory begun (Pad n) = ⊥
-
--- the frame was refused, with its cause; nothing is begun then
-pub record RefusesFrame (a : Assembling) (f : Frame) (fault : AssemblyError) (b : Assembling) : Type 0 where
-  pub not_padding : is_padding f ≡ false
-  pub named : (fault ≡ TooLong) ↔ IsTooLong a.greatest a.begun f
-  pub asked : fault ≡ Memory → AsksMemory a.begun f
-  pub dropped : b ≡ record a { begun = None }
-
--- it was taken: what is begun behind it, and the message that it completes
-pub record TakesFrame (a : Assembling) (f : Frame) (message : Option (List ℕ)) (b : Assembling) : Type 0 where
-  pub begun : b ≡ record a { begun = (heard_of a.begun f).begun }
-  pub message_is : message ≡ (heard_of a.begun f).message
 
 -- ---- frames that are read
 

@@ -1,4 +1,7 @@
+ghost use Rattle.log_messages.specs.Closed.{ClosedIsStream};
 ghost use Rattle.log_messages.specs.Law.{ReadIsCommitted, ReadsAll};
+
+use model::messages_between;
 
 /// A law: each frame of which the messages were made was committed by a pass, in whatever state the log is.
 pub fn what_is_read_is_committed()
@@ -10,3 +13,13 @@ pub fn what_is_read_is_committed()
 pub fn all_that_is_committed_is_read()
     ensures { ReadsAll }
 {}
+
+/// A law: a log that was closed with all its passes, of which each publisher has claimed some entries, is a stream: those entries, in
+/// an order that keeps each publisher's. What a reader polled of it is the messages of that stream from where it began to
+/// where it stands, so each publisher's in its order.
+pub fn closed_log_is_a_stream()
+    ensures { ClosedIsStream }
+{
+    // A law that the proof cites.
+    messages_between();
+}

@@ -3,7 +3,7 @@
 ghost use Rattle.std.specs.Prelude.{◌≡◌, ◌+◌, ◌≤◌, [], length, false, None, IfErr, IfNone, IfOk, IfSome, option_map};
 ghost use Rattle.position.specs.Heads.{frame_in};
 ghost use Rattle.shared_log.specs.Readers.{IsReaderOf, known_of};
-ghost use Rattle.log_messages.specs.Reading.{RefusesFrame, TakesFrame};
+ghost use Rattle.assembler.specs.Hearing.{RefusesFrame, TakesFrame};
 
 use crate::denied::Denied;
 use assembler::{Assembler, AssemblyError, Message};

@@ -10,18 +10,16 @@ use Rattle.theory.proofs.Follow.{Chain-append, Chain-push}
 use Rattle.theory.proofs.Lists.{all_append, all_pushed, all_weaker}
 use Rattle.theory.proofs.Stays.{after_last}
 use Rattle.assembler.specs.Assembling.{Assembling}
+use Rattle.assembler.specs.Hearing.{AsksMemory, IsTooLong, assembled}
+use Rattle.assembler.proofs.Hearing.{given_behind, heard_more, heard_on}
 use Rattle.assembler.specs.declared.fault.AssemblyError.{AssemblyError}
 use Rattle.assembler.specs.declared.fault.AssemblyError.TheVariants.{TooLong}
-use Rattle.receiver.specs.Polling.{AsksMemory, IsTooLong}
 use Rattle.position.specs.declared.head.FrameHead.{FrameHead}
 use Rattle.image.specs.Finding as finding
 use Rattle.image.specs.Finding.{FindsNothing, PassesOn, read_end}
 use Rattle.image.specs.Handles.{ImageWords, ReaderSeat, known_by, misses_of, position_of}
 use Rattle.receiver.specs.Joining.{Joins, Shows}
-use Rattle.receiver.specs.Subscribing.{heard_of}
-use Rattle.receiver.specs.Reading.{FindsFrame, FindsNone, GivesMessage, GivesNothing, Hears, HearsFurther, HearsOne, Passes, PassesRead, Reading, ReadsFurther, ReadsOn, RefusesFrame, RefusesOne, WaitsSo, assembled, heard_to_of}
-use Rattle.receiver.proofs.Lived.Moved.{given_more, heard_on}
-use Rattle.receiver.proofs.Polled.{after_begun, after_given}
+use Rattle.receiver.specs.Reading.{FindsFrame, FindsNone, GivesMessage, GivesNothing, Hears, HearsFurther, HearsOne, Passes, PassesRead, Reading, ReadsFurther, ReadsOn, RefusesFrame, RefusesOne, WaitsSo, heard_to_of}
 
 -- ---- one frame more
 
@@ -33,16 +31,6 @@ pushed m k n frames s r f greatest = record {
   keeps = λ t a. f.keeps t (r.keeps t a);
   greatest = greatest ∙ r.greatest;
 }
-
-assembled_more : (begun : Option (List ℕ)) (frames : List Placed) (s : Placed) → assembled begun (frames ++ s ∷ []) ≡ after (assembled begun frames) s.frame
-assembled_more begun frames s = ap (after_all (record { begun = begun; given = [] })) (map-append (λ (x : Placed). x.frame) frames (s ∷ [])) ∙ after_last (record { begun = begun; given = [] }) (map (λ (x : Placed). x.frame) frames) s.frame
-
--- what a frame makes of what was heard so far, and gave nothing
-heard_more : (begun now : Option (List ℕ)) (frames : List Placed) (s : Placed) → assembled begun frames ≡ record { begun = now; given = [] } → assembled begun (frames ++ s ∷ []) ≡ record { begun = (heard_of now s.frame).begun; given = option_to_list (heard_of now s.frame).message }
-heard_more begun now frames s e = assembled_more begun frames s ∙ ap (λ a. after a s.frame) e ∙ whole s.frame
-  where
-    whole : (f : Frame) → after (record { begun = now; given = [] }) f ≡ record { begun = (heard_of now f).begun; given = option_to_list (heard_of now f).message }
-    whole f = (λ j. record { begun = after_begun (record { begun = now; given = [] }) f j; given = after_given (record { begun = now; given = [] }) f j })
 
 -- ---- in the course of a poll
 
@@ -79,10 +67,10 @@ passed_reads m n q frames r p = record {
 
 hears_one : (m k n : Reading) (frames : List Placed) (message : Option (List ℕ)) (h : Hears m frames [] k) (o : HearsOne k message n) → Hears m (frames ++ o.frame ∷ []) (option_to_list message) n
 hears_one m k n frames message h o = record {
-  reads = pushed m k n frames o.frame h.reads o.finds (ap (λ (a : Assembling). a.greatest) o.assembler);
+  reads = pushed m k n frames o.frame h.reads o.finds (ap (λ (a : Assembling). a.greatest) o.takes.begun);
   heard =
       heard_more m.assembler.begun k.assembler.begun frames o.frame h.heard
-      ∙ (λ j. record { begun = ap (λ (a : Assembling). a.begun) (sym o.assembler) j; given = ap option_to_list (sym o.message_is) j });
+      ∙ (λ j. record { begun = ap (λ (a : Assembling). a.begun) (sym o.takes.begun) j; given = ap option_to_list (sym o.takes.message_is) j });
 }
 
 -- a frame that completes no message, and is passed
@@ -135,12 +123,12 @@ refuses m k n q fault h o p =
     record {
       earlier = h.frames;
       last = o.frame;
-      reads = passed_reads m n q (h.frames ++ o.frame ∷ []) (pushed m k n h.frames o.frame h.hears.reads o.finds (ap (λ (a : Assembling). a.greatest) o.assembler)) p;
+      reads = passed_reads m n q (h.frames ++ o.frame ∷ []) (pushed m k n h.frames o.frame h.hears.reads o.finds (ap (λ (a : Assembling). a.greatest) o.refuses.dropped)) p;
       nothing = ap (λ (a : Assembly). a.given) h.hears.heard;
-      not_padding = o.not_padding;
-      named = subst (λ (g : ℕ). (fault ≡ TooLong) ↔ IsTooLong g (assembled m.assembler.begun h.frames).begun o.frame.frame) greatest (subst (λ (b : Option (List ℕ)). (fault ≡ TooLong) ↔ IsTooLong k.assembler.greatest b o.frame.frame) (sym begun) o.named);
-      asked = λ e. subst (λ (b : Option (List ℕ)). AsksMemory b o.frame.frame) (sym begun) (o.asked e);
-      dropped = ap (λ (x : Reading). x.assembler.begun) p.same ∙ ap (λ (a : Assembling). a.begun) o.assembler;
+      not_padding = o.refuses.not_padding;
+      named = subst (λ (g : ℕ). (fault ≡ TooLong) ↔ IsTooLong g (assembled m.assembler.begun h.frames).begun o.frame.frame) greatest (subst (λ (b : Option (List ℕ)). (fault ≡ TooLong) ↔ IsTooLong k.assembler.greatest b o.frame.frame) (sym begun) o.refuses.named);
+      asked = λ e. subst (λ (b : Option (List ℕ)). AsksMemory b o.frame.frame) (sym begun) (o.refuses.asked e);
+      dropped = ap (λ (x : Reading). x.assembler.begun) p.same ∙ ap (λ (a : Assembling). a.begun) o.refuses.dropped;
       stands = p.stands ∙ ap (λ (x : Reading). x.heard_to) (sym p.same);
       misses = p.misses ∙ o.finds.misses ∙ h.misses;
     }
@@ -190,7 +178,7 @@ taken_joins {A} a b c head payload step taken joins e g = subst (λ (x : Result 
 
 pub hears_if : {A : Type 0} (m : Reading) (r : ReaderSeat) (a : Assembling) (payload : List ℕ) (head : FrameHead) (step : Result (Option (Message A)) AssemblyError) → position_of m.seat ≡ m.heard_to → finding.FindsFrame m.seat head payload r → Joins m.assembler head payload step a
     → IfOk step (λ x. HearsOne m (option_map (λ y. y.bytes.items) x) (found_by m.image r a))
-hears_if m r a payload head (Ok x) at f joins = let shows : Shows head payload f.frame = (f.head_is, f.payload_is) in record { frame = f.frame; finds = found m r a payload head at f; assembler = joins.state f.frame shows; message_is = joins.message f.frame shows }
+hears_if m r a payload head (Ok x) at f joins = let shows : Shows head payload f.frame = (f.head_is, f.payload_is) in record { frame = f.frame; finds = found m r a payload head at f; takes = record { begun = joins.state f.frame shows; message_is = joins.message f.frame shows } }
 hears_if m r a payload head (Err e) at f joins = joins.state
 
 pub refuses_if : {A : Type 0} (m : Reading) (r : ReaderSeat) (a : Assembling) (payload : List ℕ) (head : FrameHead) (step : Result (Option (Message A)) AssemblyError) → position_of m.seat ≡ m.heard_to → finding.FindsFrame m.seat head payload r → Joins m.assembler head payload step a
@@ -198,7 +186,7 @@ pub refuses_if : {A : Type 0} (m : Reading) (r : ReaderSeat) (a : Assembling) (p
 refuses_if m r a payload head (Ok x) at f joins = joins.dropped
 refuses_if m r a payload head (Err x) at f joins =
     let shows : Shows head payload f.frame = (f.head_is, f.payload_is) in
-    record { frame = f.frame; finds = found m r a payload head at f; assembler = joins.dropped; not_padding = joins.refused f.frame shows; named = joins.named f.frame shows; asked = joins.asked f.frame shows }
+    record { frame = f.frame; finds = found m r a payload head at f; refuses = record { not_padding = joins.refused f.frame shows; named = joins.named f.frame shows; asked = joins.asked f.frame shows; dropped = joins.dropped } }
 
 -- a reader that stands where its assembler has heard to, and finds none
 pub missed : (image : ImageWords) (waits : Bool) (r q : ReaderSeat) (a : Assembling) → position_of r ≡ heard_to_of waits r → WaitsSo waits r → FindsNothing r [] q [] → FindsNone (record { image = image; seat = r; assembler = a; heard_to = heard_to_of waits r }) (record { image = image; seat = q; assembler = a; heard_to = heard_to_of waits q })
@@ -221,19 +209,6 @@ reads_further m n o frames more a b = record {
   keeps = λ t x. b.keeps t (a.keeps t x);
   greatest = b.greatest ∙ a.greatest;
 }
-
--- an assembler that had given these messages
-given_behind : (begun : Option (List ℕ)) (given : List (List ℕ)) (frames : List Placed) → after_all (record { begun = begun; given = given }) (map (λ s. s.frame) frames) ≡ record { begun = (assembled begun frames).begun; given = given ++ (assembled begun frames).given }
-given_behind begun given frames =
-    ap (λ (zs : List (List ℕ)). after_all (record { begun = begun; given = zs }) fs) (sym (append-nil given)) ∙ (λ j. record { begun = begun_same begun (given ++ []) [] fs j; given = given_more begun given [] fs j })
-  where
-    fs : List Frame
-    fs = map (λ s. s.frame) frames
-
-    begun_same : (b : Option (List ℕ)) (xs ys : List (List ℕ)) (gs : List Frame) → (after_all (record { begun = b; given = xs }) gs).begun ≡ (after_all (record { begun = b; given = ys }) gs).begun
-    begun_same b xs ys [] = refl
-    begun_same b xs ys (Pad n ∷ gs) = begun_same b xs ys gs
-    begun_same b xs ys (Data flags payload ∷ gs) = let h = on_frame b flags payload in begun_same h.begun (xs ++ option_to_list h.message) (ys ++ option_to_list h.message) gs
 
 pub hears_further : HearsFurther
 hears_further m n o frames more given others a b = record {

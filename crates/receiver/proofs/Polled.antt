@@ -13,7 +13,9 @@ use Rattle.theory.specs.Image.{Image}
 use Rattle.theory.proofs.Lists.{all_append}
 use Rattle.theory.proofs.Follow.{Chain-push}
 use Rattle.assembler.specs.Assembling.{Assembling}
-use Rattle.receiver.specs.Polling.{AsksMemory, Answer, IsTooLong, PollsOf, PollsWhole, ReadsFrames, StaysShort, StopsAt, TellsOf, TellsPositions, gives, moved_all, passed_all, with_only_consumer}
+use Rattle.assembler.specs.Hearing.{AsksMemory, IsTooLong, heard_of}
+use Rattle.assembler.proofs.Hearing.{after_begun, after_given, heard_on}
+use Rattle.receiver.specs.Polling.{Answer, PollsOf, PollsWhole, ReadsFrames, StaysShort, StopsAt, TellsOf, TellsPositions, gives, moved_all, passed_all, with_only_consumer}
 use Rattle.receiver.specs.declared.poll_error.PollError.TheVariants.{NoImage, Unassembled}
 use Rattle.assembler.specs.declared.fault.AssemblyError.{AssemblyError}
 use Rattle.assembler.specs.declared.fault.AssemblyError.TheVariants.{Memory, TooLong}
@@ -21,14 +23,13 @@ use Rattle.receiver.specs.Receiving.{Opened, Receiver}
 use Rattle.receiver.specs.Representing.{Core, HasNoFrame, Represents, RepresentsImage, RepresentsOpened}
 use Rattle.receiver.proofs.Meeting.{shown_none, shown_some}
 use Rattle.receiver.proofs.PollFrames.{moved_at, passed_lost}
-use Rattle.theory.proofs.Stays.{after_last}
 use Rattle.receiver.proofs.Shown.{least_shown}
 use Rattle.image.specs.Seen.{least}
 use Rattle.image.specs.Handles.{ReaderSeat, position_of}
 use Rattle.image.specs.Rebuilding.{Inserting, join_of}
 use Rattle.receiver.specs.Seating.{AreSeated}
 use Rattle.std.proofs.lemmas.Option.{same_Some}
-use Rattle.receiver.specs.Subscribing.{AssemblesFor, HasReadOn, HearsFrame, IsPolling, PassesOn, RefusesFrame, RepresentsSubscriber, Subscribing, heard_of}
+use Rattle.receiver.specs.Subscribing.{AssemblesFor, HasReadOn, HearsFrame, IsPolling, PassesOn, RefusesFrame, RepresentsSubscriber, Subscribing}
 
 -- ---- a frame more
 
@@ -44,17 +45,6 @@ passed_at : (c : Consumer) (frames : List Placed) (q : ℕ) → Chain c.at q fra
 passed_at c [] q e = sym e
 passed_at c (s ∷ ss) q (at, more) = passed_at (passed_by c s) ss q more
 
-pub after_begun : (a : Assembly) (f : Frame) → (after a f).begun ≡ (heard_of a.begun f).begun
-after_begun a (Data flags payload) = refl
-after_begun a (Pad n) = refl
-
-pub after_given : (a : Assembly) (f : Frame) → (after a f).given ≡ a.given ++ option_to_list (heard_of a.begun f).message
-after_given a (Data flags payload) = refl
-after_given a (Pad n) = sym (append-nil a.given)
-
-all_more : (a : Assembly) (frames : List Placed) (s : Placed) → after_all a (map (λ (x : Placed). x.frame) (frames ++ s ∷ [])) ≡ after (after_all a (map (λ (x : Placed). x.frame) frames)) s.frame
-all_more a frames s = ap (after_all a) (map-append (λ (x : Placed). x.frame) frames (s ∷ [])) ∙ after_last a (map (λ (x : Placed). x.frame) frames) s.frame
-
 -- what is begun doesn't depend on what was given
 same_begun : (a b : Assembly) (f : Frame) → a.begun ≡ b.begun → (after a f).begun ≡ (after b f).begun
 same_begun a b f e = after_begun a f ∙ ap (λ x. (heard_of x f).begun) e ∙ sym (after_begun b f)
@@ -69,7 +59,7 @@ moved_begun c frames s = ap (λ (x : Consumer). x.assembly.begun) (moved_more c 
 gives_more : (c : Consumer) (frames : List Placed) (s : Placed) → gives c (frames ++ s ∷ []) ≡ gives c frames ++ option_to_list (heard_of (moved_all c frames).assembly.begun s.frame).message
 gives_more c frames s =
     let a : Assembly = record { begun = c.assembly.begun; given = [] } in
-    ap (λ (x : Assembly). x.given) (all_more a frames s) ∙ after_given (after_all a (map (λ (x : Placed). x.frame) frames)) s.frame ∙ ap (λ b. gives c frames ++ option_to_list (heard_of b s.frame).message) (begun_along a c frames refl)
+    ap (λ (x : Assembly). x.given) (heard_on a frames (s ∷ [])) ∙ after_given (after_all a (map (λ (x : Placed). x.frame) frames)) s.frame ∙ ap (λ b. gives c frames ++ option_to_list (heard_of b s.frame).message) (begun_along a c frames refl)
 
 reads_more : (i : Image) (c : Consumer) (frames : List Placed) (at : ℕ) (s : Placed) → ReadsFrames i c frames at → Among s i.stored → s.at ≡ at → ReadsFrames i c (frames ++ s ∷ []) (end_of s)
 reads_more i c frames at s h a e = record { chain = Chain-push c.at at frames s h.chain e; among = all_append (λ x. Among x i.stored) frames (s ∷ []) h.among (a, tt) }

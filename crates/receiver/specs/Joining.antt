@@ -3,12 +3,11 @@ use Rattle.std.specs.Prelude.{◌≡◌, ◌≤◌, ◌↔◌, ℕ, List, Option
 use Rattle.position.specs.declared.head.FrameHead.{FrameHead}
 use Rattle.theory.specs.Placed.{Placed, is_padding, payload_of}
 use Rattle.assembler.specs.Assembling.{Assembling}
+use Rattle.assembler.specs.Hearing.{AsksMemory, IsTooLong, heard_of}
 use Rattle.assembler.specs.declared.assembler.Message.{Message}
 use Rattle.assembler.specs.declared.fault.AssemblyError.{AssemblyError}
 use Rattle.assembler.specs.declared.fault.AssemblyError.TheVariants.{Memory, TooLong}
 use Rattle.image.specs.Kinds.{head_at}
-use Rattle.receiver.specs.Polling.{AsksMemory, IsTooLong}
-use Rattle.receiver.specs.Subscribing.{heard_of}
 
 -- these show the frame
 abbrev pub Shows : FrameHead → List ℕ → Placed → Type 0

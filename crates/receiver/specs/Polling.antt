@@ -3,13 +3,12 @@
 -- first that completes a message, or behind a DATA frame that the assembler refuses, else at the contiguous end.
 -- Behind a refusal the polls go on, and where they may stop is still said (`StopsAt`), but not which message they
 -- give (`PollsOn`).
-use Rattle.std.specs.Prelude.{◌≡◌, ◌⊎◌, ◌↔◌, ◌<◌, ℕ, ⊤, length, true, false, Option, None, Some, Result, Ok, Err, List, [], ◌∷◌, ◌++◌, map}
-use Rattle.theory.specs.Placed.{AllAmong, Chain, Data, Frame, Pad, Placed, is_padding}
+use Rattle.std.specs.Prelude.{◌≡◌, ◌⊎◌, ◌↔◌, ℕ, ⊤, true, false, Option, None, Some, Result, Ok, Err, List, [], ◌∷◌, ◌++◌}
+use Rattle.theory.specs.Placed.{AllAmong, Chain, Placed, is_padding}
 use Rattle.theory.specs.Units.{IsContiguous}
-use Rattle.theory.specs.Assembly.{after_all}
 use Rattle.theory.specs.Consumer.{Consumer, least_of, moved, passed_by}
 use Rattle.theory.specs.Image.{Image}
-use Rattle.assembler.specs.Assembling.{held_with, is_dropped}
+use Rattle.assembler.specs.Hearing.{AsksMemory, IsTooLong, assembled}
 use Rattle.assembler.specs.declared.fault.AssemblyError.{AssemblyError}
 use Rattle.assembler.specs.declared.fault.AssemblyError.TheVariants.{Memory, TooLong}
 use Rattle.image.specs.Rebuilding.{Inserting, join_of}
@@ -35,19 +34,9 @@ passed_all c (s ∷ ss) = passed_all (passed_by c s) ss
 
 -- the messages that its assembler gives of these frames
 abbrev pub gives : Consumer → List Placed → List (List ℕ)
-gives c frames = (after_all (record { begun = c.assembly.begun; given = [] }) (map (λ s. s.frame) frames)).given
+gives c frames = (assembled c.assembly.begun frames).given
 
--- with this frame the message that is begun is longer than the greatest
-abbrev pub IsTooLong : ℕ → Option (List ℕ) → Frame → Type 0
-IsTooLong greatest begun (Data flags payload) = greatest < length (held_with begun flags payload)
-IsTooLong greatest begun (Pad n) = ⊥
-
--- its payload has bytes, and is kept: only such a frame asks for memory
-abbrev pub AsksMemory : Option (List ℕ) → Frame → Type 0
-AsksMemory begun (Data flags payload) = (is_dropped begun flags ≡ false) × (0 < length payload)
-AsksMemory begun (Pad n) = ⊥
-
--- with none of these frames, one after the other
+-- with none of these frames, one after the other, the message that is begun is longer than the greatest
 abbrev pub StaysShort : ℕ → Consumer → List Placed → Type 0
 StaysShort greatest c [] = ⊤
 StaysShort greatest c (s ∷ ss) = (IsTooLong greatest c.assembly.begun s.frame → ⊥) × StaysShort greatest (moved c s) ss

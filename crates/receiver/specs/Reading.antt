@@ -1,8 +1,9 @@
 -- What contracts see of who reads an image's messages, and what it reads.
-use Rattle.std.specs.Prelude.{◌≡◌, ◌↔◌, ◌+◌, ◌≤◌, ℕ, true, false, Bool, List, [], ◌∷◌, ◌++◌, map, Option, None, Some, Result, Ok, Err}
+use Rattle.std.specs.Prelude.{◌≡◌, ◌↔◌, ◌+◌, ◌≤◌, ℕ, true, false, Bool, List, [], ◌∷◌, ◌++◌, Option, None, Some, Result, Ok, Err}
 use Rattle.theory.specs.Placed.{AllAmong, Among, Chain, Placed, end_of, frame_length, is_padding}
-use Rattle.theory.specs.Assembly.{Assembly, after_all}
 use Rattle.assembler.specs.Assembling.{Assembling}
+use Rattle.assembler.specs.Hearing as hearing
+use Rattle.assembler.specs.Hearing.{AsksMemory, IsTooLong, TakesFrame, assembled}
 use Rattle.assembler.specs.declared.fault.AssemblyError.{AssemblyError}
 use Rattle.assembler.specs.declared.fault.AssemblyError.TheVariants.{Memory, TooLong}
 use Rattle.assembler.specs.declared.assembler.Message.{Message}
@@ -10,9 +11,7 @@ use Rattle.image.specs.Handles.{ImageWords, ReaderSeat, known_by, misses_of, pos
 use Rattle.image.specs.Reading.{MayAdvance}
 use Rattle.image.specs.Finding.{read_end}
 use Rattle.image.specs.Rebuilding.{Inserting}
-use Rattle.receiver.specs.Polling.{AsksMemory, IsTooLong}
 use Rattle.receiver.specs.Representing.{words_of}
-use Rattle.receiver.specs.Subscribing.{heard_of}
 
 pub record Reading : Type 0 where
   pub image : ImageWords
@@ -45,10 +44,6 @@ pub record ReadsOn (m : Reading) (frames : List Placed) (n : Reading) : Type 0 w
   pub known : AllAmong (known_by n.seat) frames
   pub keeps : (s : Placed) → Among s (known_by m.seat) → Among s (known_by n.seat)
   pub greatest : n.assembler.greatest ≡ m.assembler.greatest
-
--- what an assembler makes of frames that has begun this
-abbrev pub assembled : Option (List ℕ) → List Placed → Assembly
-assembled begun frames = after_all (record { begun = begun; given = [] }) (map (λ s. s.frame) frames)
 
 -- and its assembler has heard each of them, and gave these messages
 pub record Hears (m : Reading) (frames : List Placed) (given : List (List ℕ)) (n : Reading) : Type 0 where
@@ -124,16 +119,12 @@ pub record FindsNone (m n : Reading) : Type 0 where
 pub record HearsOne (m : Reading) (message : Option (List ℕ)) (n : Reading) : Type 0 where
   pub frame : Placed
   pub finds : FindsFrame m frame n
-  pub assembler : n.assembler ≡ record m.assembler { begun = (heard_of m.assembler.begun frame.frame).begun }
-  pub message_is : message ≡ (heard_of m.assembler.begun frame.frame).message
+  pub takes : TakesFrame m.assembler frame.frame message n.assembler
 
 pub record RefusesOne (m : Reading) (fault : AssemblyError) (n : Reading) : Type 0 where
   pub frame : Placed
   pub finds : FindsFrame m frame n
-  pub assembler : n.assembler ≡ record m.assembler { begun = None }
-  pub not_padding : is_padding frame.frame ≡ false
-  pub named : (fault ≡ TooLong) ↔ IsTooLong m.assembler.greatest m.assembler.begun frame.frame
-  pub asked : fault ≡ Memory → AsksMemory m.assembler.begun frame.frame
+  pub refuses : hearing.RefusesFrame m.assembler frame.frame fault n.assembler
 
 -- ---- one after the other
 

@@ -1,14 +1,14 @@
 -- Which receivers a subscriber shows, and what it makes of a frame.
 use Rattle.std.specs.Prelude.{◌≡◌, ◌↔◌, ℕ, false, List, [], ◌∷◌, Option, None, Some, Result, Ok, Err, slice_get}
-use Rattle.theory.specs.Placed.{Among, Data, Frame, Pad, Placed, end_of, is_padding}
-use Rattle.theory.specs.Assembly.{Heard, on_frame}
+use Rattle.theory.specs.Placed.{Among, Placed, end_of, is_padding}
 use Rattle.theory.specs.Consumer.{Consumer}
 use Rattle.assembler.specs.Assembling.{Assembling}
+use Rattle.assembler.specs.Hearing.{AsksMemory, IsTooLong, heard_of}
 use Rattle.assembler.specs.declared.fault.AssemblyError.{AssemblyError}
 use Rattle.assembler.specs.declared.fault.AssemblyError.TheVariants.{Memory, TooLong}
 use Rattle.assembler.specs.declared.assembler.Message.{Message}
 use Rattle.receiver.specs.declared.poll_error.PollError.{PollError}
-use Rattle.receiver.specs.Polling.{Answer, AsksMemory, IsTooLong, ReadsFrames, StaysShort, gives, moved_all, with_only_consumer}
+use Rattle.receiver.specs.Polling.{Answer, ReadsFrames, StaysShort, gives, moved_all, with_only_consumer}
 use Rattle.receiver.specs.Receiving.{Opened, Receiver}
 use Rattle.receiver.specs.Representing.{Core, Represents, with_reader}
 
@@ -37,11 +37,6 @@ pub record RepresentsSubscriber (v : Subscribing) (r : Receiver) : Type 0 where
 -- whatever receiver the old state shows becomes one by this step that the new state shows
 abbrev pub SubscriberBecomes : Subscribing → Subscribing → (Receiver → Receiver → Type 0) → Type 0
 SubscriberBecomes old new Step = (r : Receiver) → RepresentsSubscriber old r → (s : Receiver) × Step r s × RepresentsSubscriber new s
-
--- what a frame leaves begun, and the message that it completes; a padding is passed over
-abbrev pub heard_of : Option (List ℕ) → Frame → Heard
-heard_of begun (Data flags payload) = on_frame begun flags payload
-heard_of begun (Pad n) = record { begun = begun; message = None }
 
 -- the frame at the consumer's position is passed
 pub record PassesOn (o : Opened) (r : Receiver) (s : Placed) (new : Core) : Type 0 where

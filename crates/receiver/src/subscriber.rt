@@ -5,8 +5,7 @@ ghost use Rattle.std.specs.List.{AllByRecursion};
 ghost use Rattle.theory.specs.Placed.{Placed, is_padding, payload_of};
 ghost use Rattle.theory.specs.Wire.{IsFrame};
 ghost use Rattle.image.specs.Kinds.{head_at};
-ghost use Rattle.receiver.specs.Polling.{AsksMemory, IsTooLong};
-ghost use Rattle.receiver.specs.Subscribing.{heard_of};
+ghost use Rattle.assembler.specs.Hearing.{AsksMemory, IsTooLong, heard_of};
 
 use crate::assembling::{Joiner, Step};
 use crate::poll_error::PollError;

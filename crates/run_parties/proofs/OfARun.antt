@@ -6,7 +6,8 @@ use Rattle.theory.specs.Assembly.{Assembly}
 use Rattle.theory.specs.Placed.{AllAmong, Among, Chain}
 use Rattle.theory.proofs.Lists.{all_weaker}
 use Rattle.receiver.specs.CoreLives.{ReadsARun, messages_of}
-use Rattle.receiver.specs.Reading.{HearsFurther, PassesRead, assembled}
+use Rattle.assembler.specs.Hearing.{assembled}
+use Rattle.receiver.specs.Reading.{HearsFurther, PassesRead}
 use Rattle.receiver.specs.Receiving.{Receiver}
 use Rattle.receiver.specs.Representing.{RepresentsOpened}
 use Rattle.run_parties.specs.Receptions.{PolledOf, given_by, refused_by}

@@ -18,7 +18,8 @@ use Rattle.assembler.specs.Assembling.{behind}
 use Rattle.assembler.specs.declared.fault.AssemblyError.{AssemblyError}
 use Rattle.assembler.specs.declared.fault.AssemblyError.TheVariants.{Memory, TooLong}
 use Rattle.script_meaning.specs.Answers.{with_receiver}
-use Rattle.receiver.specs.Polling.{Answer, IsTooLong, PollsFault, PollsImage, PollsOf, PollsOn, PollsWhole, Polls, ReadsFrames, gives, moved_all}
+use Rattle.assembler.specs.Hearing.{IsTooLong}
+use Rattle.receiver.specs.Polling.{Answer, PollsFault, PollsImage, PollsOf, PollsOn, PollsWhole, Polls, ReadsFrames, gives, moved_all}
 use Rattle.script_meaning.specs.LineContents.{LineContent, poll_line}
 use Rattle.receiver.specs.declared.poll_error.PollError.TheVariants as polls
 use Rattle.script_meaning.specs.Published.{is_refusal, is_too_long, messages_in}

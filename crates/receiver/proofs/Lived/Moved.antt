@@ -1,18 +1,10 @@
 -- What an assembler gives of frames that a consumer moved past.
-use Rattle.std.proofs.Common.{◌≡◌, ℕ, List, [], ◌∷◌, ◌++◌, map, Option, refl, sym, ap, ◌∙◌, append_assoc, append-nil}
-use Rattle.std.specs.Option.{option_to_list}
-use Rattle.theory.specs.Placed.{Frame, Data, Pad, Placed}
-use Rattle.theory.specs.Assembly.{Assembly, after, after_all, on_frame}
+use Rattle.std.proofs.Common.{◌≡◌, List, [], ◌∷◌, ◌++◌, map, refl, sym, ap, ◌∙◌, append-nil}
+use Rattle.theory.specs.Placed.{Placed}
+use Rattle.theory.specs.Assembly.{after_all}
 use Rattle.theory.specs.Consumer.{Consumer, moved}
+use Rattle.assembler.proofs.Hearing.{given_more}
 use Rattle.receiver.specs.Polling.{moved_all, gives}
-
-pub given_more : (b : Option (List ℕ)) (xs ys : List (List ℕ)) (fs : List Frame) → (after_all (record { begun = b; given = xs ++ ys }) fs).given ≡ xs ++ (after_all (record { begun = b; given = ys }) fs).given
-given_more b xs ys [] = refl
-given_more b xs ys (Pad n ∷ fs) = given_more b xs ys fs
-given_more b xs ys (Data flags payload ∷ fs) =
-    let h = on_frame b flags payload in
-    ap (λ zs. (after_all (record { begun = h.begun; given = zs }) fs).given) (append_assoc xs ys (option_to_list h.message))
-    ∙ given_more h.begun xs (ys ++ option_to_list h.message) fs
 
 -- a consumer that moved past these frames has been given their messages, and stands behind them
 pub record MovedPast (c : Consumer) (frames : List Placed) (d : Consumer) : Type 0 where
@@ -43,8 +35,3 @@ moved_past c frames =
       join = joined_still c frames;
       lost = lost_still c frames;
     }
-
--- frames behind each other are heard one list after the other
-pub heard_on : (a : Assembly) (xs ys : List Placed) → after_all a (map (λ s. s.frame) (xs ++ ys)) ≡ after_all (after_all a (map (λ s. s.frame) xs)) (map (λ s. s.frame) ys)
-heard_on a [] ys = refl
-heard_on a (x ∷ xs) ys = heard_on (after a x.frame) xs ys

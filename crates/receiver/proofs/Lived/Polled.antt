@@ -13,7 +13,8 @@ use Rattle.receiver.specs.declared.poll_error.PollError.{PollError}
 use Rattle.receiver.specs.declared.poll_error.PollError.TheVariants.{NoImage}
 use Rattle.receiver.specs.Lives.{Stream}
 use Rattle.receiver.proofs.Lived.Following.{Follows, FollowsImage, IsFollowed, follows_with}
-use Rattle.receiver.proofs.Lived.Moved.{heard_on, moved_past}
+use Rattle.assembler.proofs.Hearing.{heard_on}
+use Rattle.receiver.proofs.Lived.Moved.{moved_past}
 
 -- its one consumer heard each frame of the stream that it passed, in order, and was given these messages of them
 pub record HasHeard (x : Stream) (given : List (List ℕ)) (consumers : List Consumer) (join : ℕ) : Type 0 where
