@@ -5,3 +5,4 @@ mod All
 mod Merging
 mod Gathered
 mod Closing
+mod ClosedRows
