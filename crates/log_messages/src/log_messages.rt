@@ -2,7 +2,7 @@
 
 ghost use Rattle.std.specs.Prelude.{◌≡◌, ◌+◌, ◌≤◌, [], length, false, None, IfErr, IfNone, IfOk, IfSome, option_map};
 ghost use Rattle.position.specs.Heads.{frame_in};
-ghost use Rattle.shared_log.specs.Readers.{IsReaderOf, known_of};
+ghost use Rattle.shared_log.specs.Readers.{IsAlone, IsReaderOf, known_of};
 ghost use Rattle.assembler.specs.Hearing.{RefusesFrame, TakesFrame};
 
 use crate::denied::Denied;
@@ -80,11 +80,12 @@ impl LogMessages {
 
     /// The next message of this log: it reads on up to the frame that completes one, or until no frame is left, and gives none
     /// then. The fault is `A2` exactly where the message would be longer than the greatest, else `A1`; the frame is passed, and what
-    /// it was a part of is lost. It takes no lock.
+    /// it was a part of is lost. It takes no lock. A reader that is one consumer and nothing else stays so, and may leave.
     pub fn next(&mut self, log: &Log) -> Result<Option<Message<Global>>, AssemblyError>
         requires { IsReaderOf log.now self.old.reader }
         ensures answers { Answers self.old result self.new }
         ensures stays { IsReaderOf log.now self.new.reader }
+        ensures alone { IsAlone log.now self.old.reader → IsAlone log.now self.new.reader }
         ensures small { IfOk result (λ m. IfSome m (λ m. length m.bytes.items ≤ self.old.assembler.greatest)) }
     {
         loop {
@@ -105,6 +106,7 @@ impl LogMessages {
         ensures small { IfSome result (λ step. IfOk step (λ m. IfSome m (λ m. length m.bytes.items ≤ self.old.assembler.greatest))) }
         ensures refused { IfSome result (λ step. IfErr step (λ fault. RefusesOne self.old fault self.new)) }
         ensures stays { IsReaderOf log.now self.new.reader }
+        ensures alone { IsAlone log.now self.old.reader → IsAlone log.now self.new.reader }
     {
         let Some(head) = next(log, &mut self.reader, &mut self.block) else {
             return None;

@@ -209,14 +209,17 @@ fn read_next(log: &Log, reader: &mut LogReader, block: &mut Block, course: &mut 
 }
 
 /// Reads until all publishers are through and no frame is left.
-fn read_all(log: &Log, reader: &mut LogReader, block: &mut Block, progress: &Progress) -> Outcome
-    requires fits { IsReaderOf log.now reader.old }
-    requires room { log.now.identity.geometry.mtu ≤ length block.old }
+fn read_all(alloc: Global, log: &Log, mut reader: LogReader, progress: &Progress) -> Outcome
+    requires { IsReaderOf log.now reader }
 {
+    let Ok(mut block) = Block::new(alloc, log.identity().geometry().mtu() as usize) else {
+        progress.stop();
+        return Err(Fault::Memory);
+    };
     let mut course = Course::new(log.start(), Some(0));
     for _ in 0..TRIES {
         let over = progress.is_over();
-        if read_next(log, reader, block, &mut course) {
+        if read_next(log, &mut reader, &mut block, &mut course) {
             continue;
         }
         if over {
@@ -425,10 +428,7 @@ fn work<R: Threads + Sync>(
 {
     match party {
         Party::Publishing(mut publisher) => publish(log, &mut publisher, progress),
-        Party::Reading {
-            mut reader,
-            mut block,
-        } => read_all(log, &mut reader, &mut block, progress),
+        Party::Reading(messages) => read_all(alloc, log, messages.into_reader(), progress),
         Party::Keeping(keeper) => keep_and_join(rt, alloc, log, keeper, progress),
     }
 }

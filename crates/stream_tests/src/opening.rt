@@ -2,13 +2,12 @@
 
 ghost use Rattle.std.specs.Prelude.{IfOk, OnOk};
 ghost use Rattle.std.specs.List.{AllByRecursion};
-ghost use Rattle.shared_log.specs.Readers.{IsReaderOf};
 ghost use Rattle.shared_log.specs.Handles.{AreNew, IsOf};
-ghost use Rattle.stream_tests.specs.Parties.{IsParty};
+ghost use Rattle.stream_tests.specs.Parties.{IsParty, IsUnread};
 
 use crate::parties::Party;
-use crate::streams::PUBLISHERS;
-use block::Block;
+use crate::streams::{LONGEST, PUBLISHERS};
+use log_messages::LogMessages;
 use position::Geometry;
 use shared_log::{Keeper, Log, LogReader, Parts, Publisher, open, set_connected};
 use std::alloc::{AllocError, Global};
@@ -34,11 +33,14 @@ fn publishing(log: &Log, publishers: [Publisher; 8]) -> [Party; 8]
 
 /// What a thread has that reads.
 fn reading(alloc: Global, log: &Log, reader: LogReader) -> Result<Party, AllocError>
-    requires { IsReaderOf log.now reader }
+    requires { IsUnread log.now reader }
     ensures { IfOk result (λ party. IsParty log.now party) }
 {
-    let block = Block::new(alloc, log.identity().geometry().mtu() as usize)?;
-    Ok(Party::Reading { reader, block })
+    let _ = log.start();
+    match LogMessages::new(alloc, reader, LONGEST) {
+        Ok(messages) => Ok(Party::Reading(messages)),
+        Err(_) => Err(AllocError),
+    }
 }
 
 /// Adds those that read.
@@ -48,7 +50,7 @@ fn add_readers(
     mut readers: Vec<LogReader>,
     parties: &mut Vec<Party>,
 ) -> Result<(), Fail>
-    requires readers { AllByRecursion (IsReaderOf log.now) readers.items }
+    requires readers { AllByRecursion (IsUnread log.now) readers.items }
     requires parties { AllByRecursion (IsParty log.now) parties.old.items }
     ensures { OnOk result (AllByRecursion (IsParty log.now) parties.new.items) }
 {
@@ -69,7 +71,7 @@ fn parties_of(
 ) -> Result<Vec<Party>, Fail>
     requires publishers { AreNew log.now 0 publishers }
     requires keeper { IsOf log.now keeper.held }
-    requires readers { AllByRecursion (IsReaderOf log.now) readers.items }
+    requires readers { AllByRecursion (IsUnread log.now) readers.items }
     ensures { IfOk result (λ parties. AllByRecursion (IsParty log.now) parties.items) }
 {
     let mut parties = Vec::from_array(alloc, publishing(log, publishers))?;

@@ -1,12 +1,12 @@
 //! What the threads of these tests have.
 
-use block::Block;
-use shared_log::{Keeper, LogReader, Publisher};
+use log_messages::LogMessages;
+use shared_log::{Keeper, Publisher};
 
 /// Who has a thread.
 #[derive(Drop)]
 pub enum Party {
     Publishing(Publisher),
-    Reading { reader: LogReader, block: Block },
+    Reading(LogMessages),
     Keeping(Keeper),
 }

@@ -8,10 +8,9 @@ ghost use Rattle.stream_tests.specs.Parties.{IsParty};
 
 use crate::opening::open_streams;
 use crate::parties::Party;
-use block::Block;
-use position::FrameKind;
+use log_messages::LogMessages;
 use publication::{Refusal, offer};
-use shared_log::{Keeper, Log, LogReader, OnLog, Publisher, advance, clean_and_limit, next};
+use shared_log::{Keeper, Log, OnLog, Publisher, clean_and_limit};
 use std::process::Abort;
 use std::sync::atomic::{AtomicU64, Ordering};
 use std::test::*;
@@ -113,24 +112,18 @@ fn publish(log: &Log, publisher: &mut Publisher) -> Seen
 }
 
 /// Reads until each message was there.
-fn read(log: &Log, reader: &mut LogReader, block: &mut Block, over: &AtomicU64) -> Seen
-    requires fits { IsReaderOf log.now reader.old }
-    requires room { log.now.identity.geometry.mtu ≤ length block.old }
+fn read(log: &Log, messages: &mut LogMessages, over: &AtomicU64) -> Seen
+    requires { IsReaderOf log.now messages.old.reader }
 {
     let mut seen = NOTHING;
     for _ in 0..TRIES {
         if seen.is_over() {
             break;
         }
-        match next(log, reader, block) {
-            None => thread::yield_now(),
-            Some(head) => {
-                if head.kind == FrameKind::Data {
-                    let length = head.frame_length.saturating_sub(32) as usize;
-                    seen.take(block.bytes().get(..length).unwrap_or(&[]));
-                }
-                advance(log, reader);
-            }
+        match messages.next(log) {
+            Ok(None) => thread::yield_now(),
+            Ok(Some(message)) => seen.take(&message.bytes),
+            Err(_) => seen.wrong = true,
         }
     }
     over.fetch_add(1, Ordering::SeqCst);
@@ -156,10 +149,7 @@ fn work(log: &Log, party: Party, over: &AtomicU64) -> Seen
 {
     match party {
         Party::Publishing(mut publisher) => publish(log, &mut publisher),
-        Party::Reading {
-            mut reader,
-            mut block,
-        } => read(log, &mut reader, &mut block, over),
+        Party::Reading(mut messages) => read(log, &mut messages, over),
         Party::Keeping(mut keeper) => keep(log, &mut keeper, over),
     }
 }

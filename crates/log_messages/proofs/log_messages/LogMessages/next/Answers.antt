@@ -2,7 +2,7 @@ use Rattle.log_messages.proofs.Heard.{further, gives, gives_none, goes_on, refus
 use Rattle.log_messages.proofs.log_messages.LogMessages.next.Goals as goal
 
 pub loop-message-init : goal.loop-message-init
-loop-message-init c = record { heard = starts c.args.self.now; reader = c.requires }
+loop-message-init c = record { heard = starts c.args.self.now; reader = c.requires; alone = λ a. a }
 
 pub hear-requires : goal.hear-requires
 hear-requires c = c.loop-message.invariant.reader
@@ -18,7 +18,7 @@ loop-message-smaller c =
 pub loop-message-preserved : goal.loop-message-preserved
 loop-message-preserved c =
     let heard = rw (c.in-Some-Ok-None.field-0-is, c.in-Some-Ok-None.field-0-0-is) at c.in-Some-Ok-None.ensures.heard in
-    record { heard = goes_on c.args.self.now c.loop-message.self c.hear.new.self c.loop-message.invariant.heard heard; reader = c.hear.ensures.stays }
+    record { heard = goes_on c.args.self.now c.loop-message.self c.hear.new.self c.loop-message.invariant.heard heard; reader = c.hear.ensures.stays; alone = λ a. c.hear.ensures.alone (c.loop-message.invariant.alone a) }
 
 pub returns-in-Some-Ok-Some-clause-answers : goal.returns-in-Some-Ok-Some-clause-answers
 returns-in-Some-Ok-Some-clause-answers c =
