@@ -6,3 +6,4 @@ mod Merging
 mod Gathered
 mod Closing
 mod ClosedRows
+mod Committing

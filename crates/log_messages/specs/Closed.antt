@@ -1,11 +1,15 @@
 -- The stream of a log that was closed with all its passes, by what its publishers have claimed.
 use Rattle.std.specs.Prelude.{◌≡◌, ◌≤◌, ◌<◌, ℕ, ⊤, Bool, not, ◌&&◌, List, [], ◌∷◌, ◌++◌, map, slice_index}
 use Rattle.std.specs.List.{AllByRecursion, filter, flat_map}
+use Rattle.theory.specs.Bytes.{Identity}
 use Rattle.theory.specs.Entry.{Entry, IsEntry, committed, entry_end}
 use Rattle.theory.specs.Messages.{is_whole, message_of, messages}
 use Rattle.theory.specs.Placed.{AllAmong}
 use Rattle.theory.specs.Position.{IsGeometry, max_position}
 use Rattle.theory.specs.Tiling.{Tiles, share_of}
+use Rattle.frame_words.specs.Words.{IsLegal}
+use Rattle.publication.specs.declared.pass.FrameWords.{FrameWords}
+use Rattle.publication.specs.Frames.{frames_at}
 use Rattle.log_rule.specs.Claims.Handles.{PublisherValue}
 use Rattle.log_rule.specs.Claims.Rule.{entries_of}
 use Rattle.shared_log.specs.declared.book.Book.{Book}
@@ -43,6 +47,18 @@ pub record HasClaimed (p : PublisherValue) (lists : List (List Entry)) : Type 0 
   pub ordered : AllByRecursion AreInOrder lists
   pub entries : AllByRecursion IsEntry (joined lists)
   pub frames : AllAmong (committed (joined lists)) (map placed p.pass.work.frames)
+
+-- as the clauses of a publisher's calls say it: it has claimed these entries, and committed the frames of all of them, as they are
+-- spelled
+abbrev pub words_in : Identity → Entry → List FrameWords
+words_in i e = frames_at i e.start e.frames
+
+pub record HasCommitted (i : Identity) (p : PublisherValue) (lists : List (List Entry)) : Type 0 where
+  pub claims : entries_of p.pass ≡ map bare (joined lists)
+  pub ordered : AllByRecursion AreInOrder lists
+  pub entries : AllByRecursion IsEntry (joined lists)
+  pub legal : AllByRecursion (λ e. AllByRecursion (IsLegal i.geometry) e.frames) (joined lists)
+  pub frames : p.pass.work.frames ≡ flat_map (words_in i) (joined lists)
 
 abbrev pub HaveClaimed : List PublisherValue → List (List (List Entry)) → Type 0
 HaveClaimed [] [] = ⊤
@@ -88,3 +104,7 @@ pub record ClosesAsStream (l : LogValue) (publishers : List PublisherValue) (boo
 
 abbrev pub ClosedIsStream : Type 0
 ClosedIsStream = (l : LogValue) (publishers : List PublisherValue) (book : Book) (claimed : List (List (List Entry))) → ShowsBook l publishers book → HaveClaimed publishers claimed → ClosesAsStream l publishers book (joined claimed)
+
+-- what a publisher's calls say is enough
+abbrev pub CommitsItsClaims : Type 0
+CommitsItsClaims = (i : Identity) (p : PublisherValue) (lists : List (List Entry)) → IsGeometry i.geometry → HasCommitted i p lists → HasClaimed p lists

@@ -1,4 +1,4 @@
-ghost use Rattle.log_messages.specs.Closed.{ClosedIsStream};
+ghost use Rattle.log_messages.specs.Closed.{ClosedIsStream, CommitsItsClaims};
 ghost use Rattle.log_messages.specs.Law.{ReadIsCommitted, ReadsAll};
 
 use model::messages_between;
@@ -23,3 +23,9 @@ pub fn closed_log_is_a_stream()
     // A law that the proof cites.
     messages_between();
 }
+
+/// A law: what the clauses of a publisher's calls say is what `closed_log_is_a_stream` asks of it: it has claimed these entries, and
+/// committed the frames of all of them.
+pub fn commits_its_claims()
+    ensures { CommitsItsClaims }
+{}

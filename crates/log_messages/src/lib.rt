@@ -17,5 +17,8 @@ mod law;
 mod log_messages;
 
 pub use denied::Denied;
-pub use law::{all_that_is_committed_is_read, closed_log_is_a_stream, what_is_read_is_committed};
+pub use law::{
+    all_that_is_committed_is_read, closed_log_is_a_stream, commits_its_claims,
+    what_is_read_is_committed,
+};
 pub use log_messages::LogMessages;
