@@ -1,14 +1,12 @@
 -- Frames that a reader hears by itself.
-use Rattle.std.proofs.Common.{append-nil, ◌≡◌, ◌↔◌, ℕ, ◌≤◌, ◌⊎◌, inl, inr, List, [], ◌∷◌, ◌++◌, map, false, true, Bool, Option, None, Some, Ok, Err, refl, sym, ap, ◌∙◌, subst, arith}
+use Rattle.std.proofs.Common.{◌≡◌, ◌↔◌, ℕ, ◌≤◌, ◌⊎◌, inl, inr, List, [], ◌∷◌, ◌++◌, map, false, true, Bool, Option, None, Some, Ok, Err, refl, sym, ap, ◌∙◌, subst, arith}
 use Rattle.std.specs.Prelude.{◌+◌, ◌-◌, ◌<◌, ◌^◌, IfErr, IfOk, Result, option_map}
 use Rattle.assembler.specs.declared.assembler.Message.{Message}
 use Rattle.std.specs.Option.{option_to_list}
-use Rattle.std.proofs.lemmas.List.{map-append}
-use Rattle.theory.specs.Placed.{Among, Chain, Data, Frame, Pad, Placed}
-use Rattle.theory.specs.Assembly.{Assembly, after, after_all, on_frame}
+use Rattle.theory.specs.Placed.{Among, Chain, Placed}
+use Rattle.theory.specs.Assembly.{Assembly, after_all}
 use Rattle.theory.proofs.Follow.{Chain-append, Chain-push}
 use Rattle.theory.proofs.Lists.{all_append, all_pushed, all_weaker}
-use Rattle.theory.proofs.Stays.{after_last}
 use Rattle.assembler.specs.Assembling.{Assembling}
 use Rattle.assembler.specs.Hearing.{AsksMemory, IsTooLong, assembled}
 use Rattle.assembler.proofs.Hearing.{given_behind, heard_more, heard_on}

@@ -1,10 +1,9 @@
 -- Frames that a poll reads, one after the other.
-use Rattle.std.proofs.Common.{◌≡◌, ◌↔◌, ◌≤◌, ℕ, inl, inr, ⊎_elim, List, [], ◌∷◌, ◌++◌, true, false, Option, Some, None, Ok, Err, refl, sym, ap, ap₂, ◌∙◌, subst, append-nil}
+use Rattle.std.proofs.Common.{◌≡◌, ◌↔◌, ◌≤◌, ℕ, inl, inr, ⊎_elim, List, [], ◌∷◌, ◌++◌, true, false, Option, Some, None, Ok, Err, refl, sym, ap, ap₂, ◌∙◌, subst}
 use Rattle.std.specs.Prelude.{is_some, map}
 use Rattle.std.specs.Option.{option_to_list}
 use Rattle.std.specs.List.{AllByRecursion}
 use Rattle.std.proofs.lemmas.Bool.{cases_Bool, both_ways}
-use Rattle.std.proofs.lemmas.List.{map-append}
 use Rattle.theory.specs.Placed.{Among, Chain, Data, Frame, Pad, Placed, end_of, is_padding}
 use Rattle.theory.specs.Units.{IsContiguous}
 use Rattle.theory.specs.Assembly.{Assembly, after, after_all}
