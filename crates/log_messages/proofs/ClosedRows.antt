@@ -25,7 +25,7 @@ use Rattle.shared_log.specs.Books.{IsCommittedBy, ShowsBook, committed_in, share
 use Rattle.shared_log.specs.Handles.{LogValue}
 use Rattle.shared_log.specs.Readers.{ReaderValue, known_of}
 use Rattle.shared_log.specs.declared.book.Book.{Book}
-use Rattle.log_messages.specs.Closed.{ClosedIsStream, ClosesAsStream, HaveClaimed, Merges}
+use Rattle.log_messages.specs.Closed.{ClosedIsStream, ClosesAsStream, HasCommitted, HaveClaimed, Merges}
 use Rattle.log_messages.specs.Law.{ReadsAll}
 use Rattle.log_messages.specs.Reading.{HasRead, Reading, given_of}
 
@@ -94,6 +94,16 @@ have = (
     tt,
   ),
 )
+
+-- as the clauses of its calls say it of the first
+has_committed : HasCommitted identity (publisher 0 176 (claim 0 0 35 ∷ claim 128 0 34 ∷ []) (frame 0 abc ∷ frame 128 bc ∷ [])) (first_entries ∷ [])
+has_committed = record {
+  claims = refl;
+  ordered = (((omega arith, tt), (tt, tt)), tt);
+  entries = have.0.entries;
+  told = (((omega arith, omega arith, (omega arith, (omega arith, (omega arith, tt)))), tt), (((omega arith, omega arith, (omega arith, (omega arith, tt))), tt), tt));
+  frames = refl;
+}
 
 -- ---- the book
 

@@ -1,13 +1,12 @@
 -- The stream of a log that was closed with all its passes, by what its publishers have claimed.
-use Rattle.std.specs.Prelude.{◌≡◌, ◌≤◌, ◌<◌, ℕ, ⊤, Bool, not, ◌&&◌, List, [], ◌∷◌, ◌++◌, map, slice_index}
+use Rattle.std.specs.Prelude.{◌≡◌, ◌≤◌, ◌<◌, ℕ, ⊤, Bool, not, ◌&&◌, List, [], ◌∷◌, ◌++◌, length, map, slice_index}
 use Rattle.std.specs.List.{AllByRecursion, filter, flat_map}
 use Rattle.theory.specs.Bytes.{Identity}
 use Rattle.theory.specs.Entry.{Entry, IsEntry, committed, entry_end}
 use Rattle.theory.specs.Messages.{is_whole, message_of, messages}
-use Rattle.theory.specs.Placed.{AllAmong}
+use Rattle.theory.specs.Placed.{AllAmong, Data, Frame, Pad}
 use Rattle.theory.specs.Position.{IsGeometry, max_position}
 use Rattle.theory.specs.Tiling.{Tiles, share_of}
-use Rattle.frame_words.specs.Words.{IsLegal}
 use Rattle.publication.specs.declared.pass.FrameWords.{FrameWords}
 use Rattle.publication.specs.Frames.{frames_at}
 use Rattle.log_rule.specs.Claims.Handles.{PublisherValue}
@@ -48,6 +47,11 @@ pub record HasClaimed (p : PublisherValue) (lists : List (List Entry)) : Type 0 
   pub entries : AllByRecursion IsEntry (joined lists)
   pub frames : AllAmong (committed (joined lists)) (map placed p.pass.work.frames)
 
+-- a frame that its words tell: flags and payload are bytes, and its length is one of 32 bits
+abbrev pub IsTold : Frame → Type 0
+IsTold (Data flags payload) = (flags < 256) × (length payload < 2147483648) × AllByRecursion (λ b. b < 256) payload
+IsTold (Pad n) = (0 < n) × (n < 2147483648)
+
 -- as the clauses of a publisher's calls say it: it has claimed these entries, and committed the frames of all of them, as they are
 -- spelled
 abbrev pub words_in : Identity → Entry → List FrameWords
@@ -57,7 +61,7 @@ pub record HasCommitted (i : Identity) (p : PublisherValue) (lists : List (List 
   pub claims : entries_of p.pass ≡ map bare (joined lists)
   pub ordered : AllByRecursion AreInOrder lists
   pub entries : AllByRecursion IsEntry (joined lists)
-  pub legal : AllByRecursion (λ e. AllByRecursion (IsLegal i.geometry) e.frames) (joined lists)
+  pub told : AllByRecursion (λ e. AllByRecursion IsTold e.frames) (joined lists)
   pub frames : p.pass.work.frames ≡ flat_map (words_in i) (joined lists)
 
 abbrev pub HaveClaimed : List PublisherValue → List (List (List Entry)) → Type 0
@@ -107,4 +111,4 @@ ClosedIsStream = (l : LogValue) (publishers : List PublisherValue) (book : Book)
 
 -- what a publisher's calls say is enough
 abbrev pub CommitsItsClaims : Type 0
-CommitsItsClaims = (i : Identity) (p : PublisherValue) (lists : List (List Entry)) → IsGeometry i.geometry → HasCommitted i p lists → HasClaimed p lists
+CommitsItsClaims = (i : Identity) (p : PublisherValue) (lists : List (List Entry)) → HasCommitted i p lists → HasClaimed p lists

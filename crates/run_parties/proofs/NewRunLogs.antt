@@ -55,7 +55,7 @@ all_parts l n ps new = sym (total_append parts_in (take n ps) (drop n ps)) ∙ a
 -- none of them has claimed anything
 unclaimed : (l : LogValue) (n : ℕ) (ps : List PublisherValue) → AreNew l n ps → AllByRecursion HasNone ps
 unclaimed l n [] new = tt
-unclaimed l n (p ∷ ps) new = (ap (λ (v : Pass). v.right.claims) new.0.pass, unclaimed l (suc n) ps new.1)
+unclaimed l n (p ∷ ps) new = (record { claims = ap (λ (v : Pass). v.right.claims) new.0.pass; frames = ap (λ (v : Pass). v.work.frames) new.0.pass }, unclaimed l (suc n) ps new.1)
 
 pub first_unclaimed : (l : LogValue) (n : ℕ) (ps : List PublisherValue) → AreNew l 0 ps → AllByRecursion HasNone (take n ps)
 first_unclaimed l n ps new = all_front HasNone (take n ps) (drop n ps) (subst (AllByRecursion HasNone) (sym (whole n ps)) (unclaimed l 0 ps new))

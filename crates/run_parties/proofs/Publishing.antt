@@ -17,6 +17,8 @@ use Rattle.publication.specs.Steps.{Keeps, geometry_of, message_at, padding_at, 
 use Rattle.publication.specs.Claims.{Justified, Leaves, LeavesPadding}
 use Rattle.publication.specs.Frames.{frame_at, message_frames}
 use Rattle.publication.specs.Offers.{Offered}
+use Rattle.publication.specs.Orders.{AreInOrder}
+use Rattle.publication.proofs.Ordered as ordered
 use Rattle.log_rule.specs.Claims.Handles.{PublisherValue}
 use Rattle.log_rule.specs.Claims.Sums.{total}
 use Rattle.log_rule.proofs.Claimed.Totals.{total_append}
@@ -48,8 +50,8 @@ ends_on l p q r a b = record { done = b.done; parts = b.parts ∙ a.parts; numbe
 
 one_more : (l : LogValue) (length n : ℕ) (p q r : PublisherValue) (c : ClaimRange) (fs : List FrameWords) → HasPublished l length n p q → Ends l q r
     → IsRunClaim l.identity.geometry length p.pass.number c → fs ≡ frames_in l.identity (message_of length p.pass.number n) c
-    → r.pass.right.claims ≡ q.pass.right.claims ++ c ∷ [] → r.pass.work.frames ≡ q.pass.work.frames ++ fs → HasPublished l length (n + message_in c) p r
-one_more l length n p q r c fs is ends claim same claims frames =
+    → r.pass.right.claims ≡ q.pass.right.claims ++ c ∷ [] → r.pass.work.frames ≡ q.pass.work.frames ++ fs → (AreInOrder q.pass.right.claims → AreInOrder r.pass.right.claims) → HasPublished l length (n + message_in c) p r
+one_more l length n p q r c fs is ends claim same claims frames order =
     let old = p.pass.work.frames in let number = p.pass.number in let here = frames_from l.identity length number 0 is.more in
     let told : frames_in l.identity (message_of length number n) c ≡ frames_in l.identity (message_of length number (0 + total message_in is.more)) c = ap (λ (k : ℕ). frames_in l.identity (message_of length number k) c) (let e = is.messages in omega arith) in
     record {
@@ -60,6 +62,7 @@ one_more l length n p q r c fs is ends claim same claims frames =
       messages = count_more is.more c ∙ ap (λ (k : ℕ). k + message_in c) is.messages;
       frames = frames ∙ (λ j. is.frames j ++ (same ∙ told) j) ∙ append_assoc old here (frames_in l.identity (message_of length number (0 + total message_in is.more)) c)
           ∙ ap (λ (fs : List FrameWords). old ++ fs) (sym (frames_more l.identity length number 0 is.more c));
+      ordered = λ o. order (is.ordered o);
     }
 
 -- ---- nothing more
@@ -72,6 +75,7 @@ none_more l length n p q r is ends k = record {
   each = is.each;
   messages = is.messages;
   frames = ap (λ (v : Pass). v.work.frames) k ∙ is.frames;
+  ordered = λ o. subst AreInOrder (sym (ap (λ (v : Pass). v.right.claims) k)) (is.ordered o);
 }
 
 -- ---- an offer that was accepted
@@ -85,6 +89,7 @@ accepted l n end message p q r is ends says h =
     (λ j. message_frames (at j) true (h.claimed.from j) (says j))
     (ap (λ (x : Pass). x.right.claims) h.after ∙ ap (λ (x : Pass). x.right.claims) h.claimed.after)
     (ap (λ (x : Pass). x.work.frames) h.after)
+    (λ o. ordered.offered q.pass r.pass message end h o)
 
 -- ---- a refusal
 
@@ -97,7 +102,7 @@ padded l length n word p q r is ends h =
     (one_more l length n p q r c (frame_at q.pass.identity (start_in (geometry_of q.pass) word) (Pad (term_of q.pass - offset_in word)) ∷ []) is ends
     (record { owner = is.ends.number; message = λ (no : true ≡ false). absurd (cc) })
     (λ j. frame_at (at j) c.start (Pad (term_of q.pass - offset_in word)) ∷ [])
-    (ap (λ (v : Pass). v.right.claims) e) (ap (λ (v : Pass). v.work.frames) e)))
+    (ap (λ (v : Pass). v.right.claims) e) (ap (λ (v : Pass). v.work.frames) e) (λ o. ordered.padded q.pass r.pass o word h)))
     (λ (high : term_of q.pass ≤ offset_in word). none_more l length n p q r is ends (h.over high))
     (cases_lt (offset_in word) (term_of q.pass))
 
@@ -128,6 +133,7 @@ none_yet l length p done = record {
   each = tt;
   messages = refl;
   frames = sym (append-nil p.pass.work.frames);
+  ordered = λ o. o;
 }
 
 -- ---- what an offer leaves besides

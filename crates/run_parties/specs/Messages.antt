@@ -8,6 +8,7 @@ use Rattle.theory.specs.Position.{Geometry, cuts_of}
 use Rattle.publication.specs.declared.pass.ClaimRange.{ClaimRange}
 use Rattle.publication.specs.declared.pass.FrameWords.{FrameWords}
 use Rattle.publication.specs.Frames.{frames_at, message_frames}
+use Rattle.publication.specs.Orders.{AreInOrder}
 use Rattle.log_rule.specs.Claims.Handles.{PublisherValue}
 use Rattle.log_rule.specs.Claims.Sums.{total}
 use Rattle.shared_log.specs.Handles.{LogValue}
@@ -43,3 +44,5 @@ pub record HasPublished (l : LogValue) (length accepted : ℕ) (p q : PublisherV
   pub each : AllByRecursion (IsRunClaim l.identity.geometry length p.pass.number) more
   pub messages : total message_in more ≡ accepted
   pub frames : q.pass.work.frames ≡ p.pass.work.frames ++ frames_from l.identity length p.pass.number 0 more
+  -- in the order of the stream, where what it had claimed before is
+  pub ordered : AreInOrder p.pass.right.claims → AreInOrder q.pass.right.claims

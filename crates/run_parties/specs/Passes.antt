@@ -11,9 +11,10 @@ pub record Ends (l : LogValue) (p q : PublisherValue) : Type 0 where
   pub parts : q.pass.right.parts ≡ p.pass.right.parts
   pub number : q.pass.number ≡ p.pass.number
 
--- a publisher that has claimed nothing
-abbrev pub HasNone : PublisherValue → Type 0
-HasNone p = p.pass.right.claims ≡ []
+-- a publisher that has claimed nothing, and committed nothing
+pub record HasNone (p : PublisherValue) : Type 0 where
+  pub claims : p.pass.right.claims ≡ []
+  pub frames : p.pass.work.frames ≡ []
 
 -- the log's keeper, which has claimed nothing
 pub record IsKept (l : LogValue) (k : KeeperValue) : Type 0 where
