@@ -127,7 +127,7 @@ module _ (l : LogValue) (size : Size) (h : Entry → ℕ) (worth : PublisherValu
 
   weigh_none : (qs : List PublisherValue) → AllByRecursion HasNone qs → total (weight_in h) qs ≡ 0
   weigh_none [] all = refl
-  weigh_none (q ∷ qs) all = (λ j. total h (map entry_of (all.0 j)) + weigh_none qs all.1 j)
+  weigh_none (q ∷ qs) all = (λ j. total h (map entry_of (all.0.claims j)) + weigh_none qs all.1 j)
 
   pub weigh_all : (qs others all : List PublisherValue) → AllByRecursion (IsBack l size) qs → AllByRecursion HasNone others → all ≡ qs ++ others → total (weight_in h) all ≡ total worth qs
   weigh_all qs others all back none e =
@@ -175,7 +175,7 @@ no_share l size n (q ∷ qs) high all = (λ j. cond (ne_eqb q.pass.number n (not
 
 no_claims : (n : ℕ) (qs : List PublisherValue) → AllByRecursion HasNone qs → total (share_as n) qs ≡ 0
 no_claims n [] all = refl
-no_claims n (q ∷ qs) all = (λ j. cond (q.pass.number == n) (total range_bytes (all.0 j)) 0 + no_claims n qs all.1 j) ∙ (λ j. sym (no_count (q.pass.number == n)) j + 0)
+no_claims n (q ∷ qs) all = (λ j. cond (q.pass.number == n) (total range_bytes (all.0.claims j)) 0 + no_claims n qs all.1 j) ∙ (λ j. sym (no_count (q.pass.number == n)) j + 0)
 
 -- ---- the book
 

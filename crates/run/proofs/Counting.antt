@@ -44,8 +44,8 @@ module _ (l : LogValue) (length_of accepted : ℕ) (p q : PublisherValue) (none 
 pub is_back : (l : LogValue) (size : Size) (accepted : ℕ) (p q : PublisherValue) → IsWaiting l size.publishers p → HasPublished l size.task.length accepted p q → accepted ≤ size.task.messages → IsBack l size q
 is_back l size accepted p q waits h few = record {
   done = h.ends.done;
-  claims = run_claims l size.task.length accepted p q waits.none h;
-  few = let e = accepted_is l size.task.length accepted p q waits.none h in omega arith;
+  claims = run_claims l size.task.length accepted p q waits.none.claims h;
+  few = let e = accepted_is l size.task.length accepted p q waits.none.claims h in omega arith;
   low = let e = h.ends.number in let low = waits.low in omega arith;
 }
 
@@ -107,11 +107,11 @@ pub come_more : (l : LogValue) (size : Size) (ws : List PublisherValue) (w q : P
 come_more l size ws w q count all r have waits h few low items counts =
     let qs = all.publishers.items in
     record {
-      published = subst (HavePublished l size.task.length (ws ++ w ∷ [])) (sym items) (published_more l size.task.length ws qs w q have.published (subst (λ (n : ℕ). HasPublished l size.task.length n w q) (sym (accepted_is l size.task.length count w q waits.none h)) h));
+      published = subst (HavePublished l size.task.length (ws ++ w ∷ [])) (sym items) (published_more l size.task.length ws qs w q have.published (subst (λ (n : ℕ). HasPublished l size.task.length n w q) (sym (accepted_is l size.task.length count w q waits.none.claims h)) h));
       back = subst (AllByRecursion (IsBack l size)) (sym items) (all_pushed (IsBack l size) qs q have.back (is_back l size count w q waits h few));
       parts = ap (map parts_in) items ∙ maps_append parts_in qs (q ∷ []) ∙ (λ j. have.parts j ++ h.ends.parts j ∷ []) ∙ sym (maps_append parts_in ws (w ∷ []));
       counted = subst (AreCounted r.accepted) (sym items) (subst (λ (ns : List ℕ). AreCounted ns (qs ++ q ∷ [])) (sym counts)
-          (counted_more all.accepted qs q count have.counted (accepted_is l size.task.length count w q waits.none h) low));
+          (counted_more all.accepted qs q count have.counted (accepted_is l size.task.length count w q waits.none.claims h) low));
     }
 
 -- what its thread promised
