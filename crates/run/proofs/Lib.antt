@@ -2,3 +2,4 @@ pub mod Closing
 pub mod Counting
 mod EndingRows
 pub mod Receivers
+mod Streams

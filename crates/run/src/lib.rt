@@ -16,10 +16,13 @@
 //! stream from there to its tail: each publisher's share is that of the entries that it owns, and as many of these are messages, of
 //! the plan's length, as it was told were accepted; numbers that take no part have none (`IsBook`). How it ended is a broken
 //! order first, then messages that weren't accepted or polled: it is whole only where of each publisher all were accepted, and
-//! as many polled in order at each receiver (`Outcome::ending`, by `ending_of`). That a run offers or polls anything isn't
+//! as many polled in order at each receiver (`Outcome::ending`, by `ending_of`). The log that it closed is a stream of what its
+//! publishers have claimed, each one's messages in order, and what is tallied is a run of that stream's messages where what a
+//! receiver was handed is honest for it (`run_is_a_stream`). That a run offers or polls anything isn't
 //! said, nor that what is heard is what was sent: tests show it.
 #![tactic(auto)]
 
+mod law;
 mod outcome;
 mod passes;
 mod planned_run;
@@ -28,6 +31,7 @@ mod thread_scope;
 mod thread_starts;
 mod watch;
 
+pub use law::run_is_a_stream;
 pub use outcome::{Ending, Outcome, Polled};
 pub use planned_run::{RunEnd, run, run_over};
 pub use run_parties::{Gate, Open, Role};
