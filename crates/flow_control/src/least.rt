@@ -47,7 +47,8 @@ impl Model for LeastFlow {
 }
 
 impl LeastFlow {
-    /// A flow control that has heard none of these receivers, 1 to 8; its limit is the stream's start.
+    /// A flow control that has heard none of so many receivers, 8 at the most; its limit is the stream's start. That of no
+    /// receivers stays there.
     pub fn new(start: u64, group: usize) -> LeastFlow
         requires start { start < 2 ^ 63 }
         requires group { group ≤ 8 }
