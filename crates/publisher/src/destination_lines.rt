@@ -118,10 +118,9 @@ pub(crate) fn tell_all_done<D: Datagrams, E: Write>(
     bytes: u64,
     now: u64,
 ) {
-    let mut resends: u64 = 0;
-    for destination in destinations {
-        resends = resends.saturating_add(destination.device.tally().resends);
-    }
+    let resends = destinations.iter().fold(0u64, |sum, destination| {
+        sum.saturating_add(destination.device.tally().resends)
+    });
     let totals = Totals {
         pace: Pace {
             count: messages,

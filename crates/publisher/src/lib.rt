@@ -50,7 +50,6 @@ pub use channel_publisher::{buffered, publish, publish_over};
 pub use destination::{Calls, ChannelDevice, Destination, Seen};
 pub use fault::PublishFault;
 pub use log_end::LogEnd;
-pub use offering::{InputEnd, Offered, OfferingState, Reading, ReadingEnd, ReadingFault};
 pub use peer::Ending;
 pub use progress::Progress;
 pub use sender_thread::{Destinations, SenderPasses};

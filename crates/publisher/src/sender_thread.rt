@@ -25,7 +25,7 @@ use crate::destination_lines::{tell_all_done, tell_counts, tell_ending, tell_new
 use crate::fault::PublishFault;
 use crate::judging::{Judged, check_reading, end_in, messages_in, tail_in};
 use crate::progress::Progress;
-use crate::telling::{Line, tell};
+use crate::telling::{Line, NANOSECONDS_PER_SECOND, tell};
 use crate::two_threads::tell_all;
 use agents::{Began, Duty, IdleStrategy, StreamSender, conduct};
 use conductor::{Client, Conductor, Taker};
@@ -47,9 +47,6 @@ const MOST_DESTINATIONS: usize = 8;
 
 /// Below this lies each position of a stream.
 const MOST_POSITIONS: u64 = 1 << 63;
-
-/// The nanoseconds of a second.
-const NANOSECONDS_PER_SECOND: u64 = 1_000_000_000;
 
 /// What a publisher sends with: all its destinations.
 pub type Destinations<D> = Fan<Destination<ChannelDevice<D>>>;
@@ -116,24 +113,16 @@ fn see<D: Datagrams, E: Write>(
     see_all(duty.device_mut().each_mut(), errors, linger, now);
 }
 
-/// How many datagrams were passed over, of all destinations, modulo 2^64.
-fn passed_along<D: Datagrams>(destinations: &[Destination<ChannelDevice<D>>]) -> u64 {
-    let mut passed: u64 = 0;
-    for destination in destinations.iter() {
-        passed = passed.wrapping_add(destination.device.tally().passed);
-    }
-    passed
-}
-
-/// Up to where the stream was sent, how many datagrams were sent again, to each destination the same, and how many were passed over.
-/// What else comes and goes is no work.
+/// Up to where the stream was sent, how many datagrams were sent again, to each destination the same, and how many were passed over,
+/// of all, modulo 2^64. What else comes and goes is no work.
 fn work_of<D: Datagrams>(sender: &ChannelSender<'_, D>) -> (u64, u64, u64) {
     let destinations = sender.passes.duty.device().each();
-    let resends = match destinations.first() {
-        None => 0,
-        Some(destination) => destination.device.tally().resends,
-    };
-    (sender.agent.position(), resends, passed_along(destinations))
+    let first = destinations.first();
+    let resends = first.map_or(0, |destination| destination.device.tally().resends);
+    let passed = destinations.iter().fold(0u64, |sum, destination| {
+        sum.wrapping_add(destination.device.tally().passed)
+    });
+    (sender.agent.position(), resends, passed)
 }
 
 /// A cycle of the conductor, with what a sender keeps the log by. Whether there was work.

@@ -15,7 +15,7 @@ use std::{fmt, io};
 use text::Pace;
 
 /// The nanoseconds of a second.
-const NANOSECONDS_PER_SECOND: u64 = 1_000_000_000;
+pub(crate) const NANOSECONDS_PER_SECOND: u64 = 1_000_000_000;
 
 /// The session, how many messages were accepted in all and since this was told, where they end, what was told, and what the
 /// device has counted.

@@ -16,7 +16,7 @@ use Rattle.run.specs.Threads.{AreWaitingFrom, HaveCome, HaveEnded, HaveReceivedF
 use Rattle.run.specs.declared.passes.Parties.{Parties}
 use Rattle.run.specs.declared.passes.Size.{Size}
 use Rattle.run_parties.specs.declared.receiver_threads.Waiting.{Waiting}
-use Rattle.run.specs.declared.attended.Shown.{Shown}
+use Rattle.run.specs.declared.watch.Shown.{Shown}
 
 -- ---- receivers that wait
 

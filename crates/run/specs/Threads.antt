@@ -21,7 +21,7 @@ use Rattle.run.specs.declared.passes.Publications.{Publications}
 use Rattle.run.specs.declared.passes.Returned.{Returned}
 use Rattle.run.specs.declared.passes.Size.{Size}
 use Rattle.run_parties.specs.declared.receiver_threads.Waiting.{Waiting}
-use Rattle.run.specs.declared.attended.Shown.{Shown}
+use Rattle.run.specs.declared.watch.Shown.{Shown}
 
 -- a log that a run begins with, and no more to be done than it has room for
 pub record IsSet (l : LogValue) (size : Size) : Type 0 where
