@@ -9,8 +9,8 @@ use Rattle.command_line.specs.Refusals.{IsFaultOf}
 use Rattle.command_line.specs.declared.fault.LineFault.{LineFault}
 use Rattle.command_line.specs.declared.fault.LineFault.TheVariants.{Memory, Shown}
 use Rattle.options.specs.declared.ends.plans.SubscribePlan.{SubscribePlan}
-use Rattle.peer.specs.declared.ending.Ending.{Ending as Published}
-use Rattle.peer.specs.declared.ending.Ending.TheVariants as published
+use Rattle.peer.specs.declared.attendance.Ending.{Ending as Published}
+use Rattle.peer.specs.declared.attendance.Ending.TheVariants as published
 use Rattle.publisher.specs.declared.fault.PublishFault.{PublishFault}
 use Rattle.subscriber.specs.Endings.{HasEnded}
 use Rattle.subscriber.specs.Living.{WritesLives, Writes}

@@ -1,8 +1,8 @@
 -- The statuses that a command line ends with.
 use Rattle.std.specs.Prelude.{◌≡◌, ◌≢◌, ◌≤◌, ◌↔◌, ◌⊎◌, ℕ, List, [], codes, drop, Result, Ok, Err}
 use Rattle.clap.specs.Words.{Kinds, Text, fault_of, matches_of}
-use Rattle.peer.specs.declared.ending.Ending.{Ending as Published}
-use Rattle.peer.specs.declared.ending.Ending.TheVariants as published
+use Rattle.peer.specs.declared.attendance.Ending.{Ending as Published}
+use Rattle.peer.specs.declared.attendance.Ending.TheVariants as published
 use Rattle.subscriber.specs.declared.ending.Ending.{Ending as EndedAs}
 use Rattle.subscriber.specs.declared.ending.Ending.TheVariants as subscribed
 use Rattle.subscriber.specs.declared.ending.Subscribed.{Subscribed}

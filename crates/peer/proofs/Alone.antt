@@ -5,7 +5,7 @@ use Rattle.std.proofs.lemmas.Bool.{and_parts, eqb-true, leb-true, eq-eqb, le-leb
 use Rattle.std.proofs.lemmas.Bool.Decides.{Decides-int_eq}
 use Rattle.peer.specs.declared.attendance.Heard.{Heard}
 use Rattle.peer.specs.declared.attendance.Attendance.{Attendance}
-use Rattle.peer.specs.declared.ending.Ending.TheVariants.{Whole, Short}
+use Rattle.peer.specs.declared.attendance.Ending.TheVariants.{Whole, Short}
 use Rattle.peer.specs.Attending.{after_all, after_status, after_status_from, changed, newcomer, nobody, told_more}
 use Rattle.peer.specs.Endings.{AllOf, IsOneFromStart, IsWhole, Tell, ending_of, is_alone, is_one, is_whole}
 

@@ -8,7 +8,7 @@ use Rattle.theory.specs.Position.{Geometry, IsGeometry, max_position, position_o
 use Rattle.theory.specs.Wire.{Setup, SETUP}
 use Rattle.frames.specs.Fronts.{FrontSpells}
 use Rattle.peer.specs.Watching.{Gives, Watched, given, with_end}
-use Rattle.peer.specs.declared.watch.ToldEnds.{ToldEnds}
+use Rattle.peer.specs.declared.attended.ToldEnds.{ToldEnds}
 use Rattle.theory.proofs.Named.{names_place}
 use Rattle.theory.specs.Setup.{NamesGeometry}
 use Rattle.peer.specs.Farewells.{EndsAt, FarewellsTellEnds, IsFarewell, SpellsFarewell, end_of, farewell_fields}

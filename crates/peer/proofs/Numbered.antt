@@ -10,6 +10,9 @@ use Rattle.peer.specs.Numbering.{Numbers, numbered}
 pub at_front : (bytes : List ℕ) (w : Wire) → Spells w bytes → FrontSpells bytes w (length bytes)
 at_front bytes w spells = record { within = omega arith; spelled = subst (Spells w) (sym (take-length bytes)) spells }
 
+pub at_all : (bytes : List ℕ) (w : Wire) → FrontSpells bytes w (length bytes) → Spells w bytes
+at_all bytes w front = subst (Spells w) (take-length bytes) front.spelled
+
 pub no_ok : {T E : Type 0} (r : Result T E) (P : T → Type 0) → ((x : T) → r ≡ Ok x → ⊥) → IsOkAnd r P → ⊥
 no_ok (Ok v) P none h = none v refl
 no_ok (Err e) P none h = h

@@ -19,9 +19,9 @@ use Rattle.peer.specs.declared.attended.Found.TheVariants as found
 use Rattle.peer.specs.declared.screen.Bounds.{Bounds}
 use Rattle.peer.specs.declared.screen.Verdict.{Verdict}
 use Rattle.peer.specs.declared.screen.Verdict.TheVariants.{Passes, Tells, Misses, Disbelieved, Held, LeftBehind, Unanswered}
-use Rattle.peer.specs.declared.watch.Tally.{Tally}
-use Rattle.peer.specs.declared.watch.ToldEnds.{ToldEnds}
-use Rattle.peer.specs.declared.watch.Behind.{Behind}
+use Rattle.peer.specs.declared.attended.Tally.{Tally}
+use Rattle.peer.specs.declared.attended.ToldEnds.{ToldEnds}
+use Rattle.peer.specs.declared.attended.Behind.{Behind}
 use Rattle.peer.specs.declared.attendance.Heard.{Heard}
 use Rattle.std.specs.Ordering.{int_eq}
 use Rattle.peer.specs.Farewells.{TellsEnd, end_of}

@@ -35,30 +35,24 @@
 
 mod attendance;
 mod attended;
-mod ending;
 mod farewell;
 mod fault;
 mod listener;
 mod numbering;
 mod patient;
 mod screen;
-mod setups;
 mod silence;
 mod status_socket;
 mod tied;
-mod watch;
 
-pub use attendance::{Attendance, Heard};
-pub use attended::Attended;
-pub use ending::{Ending, one_from_the_start};
+pub use attendance::{Attendance, Ending, Heard, one_from_the_start};
+pub use attended::{Attended, Behind, Tally, ToldEnds};
 pub use farewell::{end_told, farewell_of, farewells_tell_ends};
 pub use fault::BindError;
 pub use listener::Listener;
-pub use numbering::number_status;
+pub use numbering::{number_status, setup_in};
 pub use patient::PatientDevice;
 pub use screen::{Bounds, Verdict, judge};
-pub use setups::setup_in;
 pub use silence::Silence;
 pub use status_socket::{STATUS_BYTES, StatusSocket};
 pub use tied::{Awaited, TiedDevice, passing_is_bounded};
-pub use watch::{Behind, Tally, ToldEnds};

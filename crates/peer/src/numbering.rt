@@ -1,11 +1,12 @@
-//! Receivers that are known by a number.
+//! What a datagram is that is one frame: a SETUP, or a status message, whose receiver may be known by a number.
 
-ghost use Rattle.std.specs.Prelude.{◌≡◌, ℕ, IfSome, IsSomeAnd, length};
+ghost use Rattle.std.specs.Prelude.{◌≡◌, ℕ, IfSome, IsSomeAnd, length, option_map};
 ghost use Rattle.theory.specs.Wire.{SM, Spells, Status as Told, Wire, spelling};
-ghost use Rattle.frames.specs.Frames.{asks_of, status_of, wire};
+ghost use Rattle.frames.specs.Frames.{asks_of, setup_of, status_of, wire};
 ghost use Rattle.peer.specs.Numbering.{Numbers, numbered};
+ghost use Rattle.peer.specs.Setups.{TellsSetup, setup_told};
 
-use frames::{Frame, Status, read_frame, write_frame};
+use frames::{Frame, Setup, Status, read_frame, write_frame};
 
 /// The frame that a datagram is, if it is one.
 fn frame_in(datagram: &[u8]) -> Option<Frame<'_>>
@@ -21,6 +22,26 @@ fn frame_in(datagram: &[u8]) -> Option<Frame<'_>>
     Some(frame)
 }
 
+/// The SETUP that a frame is.
+fn setup_told(frame: &Frame<'_>) -> Option<Setup>
+    ensures { option_map setup_of result ≡ setup_told (wire frame.now) }
+{
+    match *frame {
+        Frame::Setup(setup) => Some(setup),
+        _ => None,
+    }
+}
+
+/// The SETUP that a datagram is.
+pub fn setup_in(datagram: &[u8]) -> Option<Setup>
+    ensures { TellsSetup datagram.now (option_map setup_of result) }
+{
+    let Some(frame) = frame_in(datagram) else {
+        return None;
+    };
+    setup_told(&frame)
+}
+
 /// The status message that a frame is, if it is one, and whether it asks for a SETUP.
 fn status_of(frame: &Frame<'_>) -> Option<(bool, Status)>
     ensures found { IfSome result (λ s. wire frame.now ≡ SM (asks_of s.0) (status_of s.1)) }
@@ -28,11 +49,7 @@ fn status_of(frame: &Frame<'_>) -> Option<(bool, Status)>
 {
     match *frame {
         Frame::Status { asks, status } => Some((asks, status)),
-        Frame::Data { .. }
-        | Frame::Pad { .. }
-        | Frame::Heartbeat { .. }
-        | Frame::Nak(_)
-        | Frame::Setup(_) => None,
+        _ => None,
     }
 }
 

@@ -8,9 +8,8 @@ ghost use Rattle.theory.specs.Wire.{SM};
 ghost use Rattle.peer.specs.Ties.{HandsCame, HandsOver, Hears, IsAwaited, Looks, PassingIsBounded, Seeks, SettlesCame, TellsStart, asking, hearing_anybody, is_at, is_of_start, is_start, keeping, offer_given, sending, sent_by, tied_to, tied_waiting, with_fault, with_nothing, with_peer, with_stranger};
 
 use crate::listener::Listener;
-use crate::numbering::status_in;
+use crate::numbering::{setup_in, status_in};
 use crate::screen::{is_own, told_position};
-use crate::setups::setup_in;
 use endpoint::{Datagrams, DeviceFailed, OpenError, Route};
 use frames::{Setup, Status};
 use position::Identity;
@@ -264,17 +263,11 @@ impl TiedDevice {
         }
     }
 
-    fn is_peer(&self, from: SocketAddr) -> bool
-        ensures { IsTrue result ↔ (from ≡ self.now.peer) }
-    {
-        from == self.peer
-    }
-
     /// Whether this one is heard.
     fn hears(&self, from: SocketAddr) -> bool
         ensures { IsTrue result ↔ Hears self.now from }
     {
-        self.is_peer(from) || self.is_awaited(from)
+        from == self.peer || self.is_awaited(from)
     }
 
     /// Takes a datagram, if one has come, and passes it over where its sender isn't heard.

@@ -19,9 +19,9 @@ use Rattle.publisher.specs.declared.sender_thread.SenderPasses.{SenderPasses}
 use Rattle.messages.specs.declared.form.Form.{Form}
 use Rattle.options.specs.declared.ends.plans.PublishPlan.{PublishPlan}
 use Rattle.peer.specs.declared.attendance.Attendance.{Attendance}
-use Rattle.publisher.specs.InputEnds.{EndsInput}
-use Rattle.publisher.specs.declared.offering.reader.InputEnd.{InputEnd}
-use Rattle.peer.specs.declared.watch.ToldEnds.{ToldEnds}
+use Rattle.offering.specs.InputEnds.{EndsInput}
+use Rattle.offering.specs.declared.reader.InputEnd.{InputEnd}
+use Rattle.peer.specs.declared.attended.ToldEnds.{ToldEnds}
 use Rattle.publisher.proofs.Sent.{sends_committed}
 use Rattle.publisher.specs.Destinations.{AreDestinationsAlong}
 use Rattle.publisher.specs.Ended.{AllArrived, ArrivesAt, CanClose, IsClosed, LeavesLog, LeavesPasses, PublishesAll, SendsCommitted, ShowsAll, reading_left}

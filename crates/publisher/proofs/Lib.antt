@@ -1,5 +1,3 @@
-pub mod Inputs
-pub mod Offers
 pub mod Beginnings
 pub mod Ends
 mod ArrivedRows
@@ -7,7 +5,6 @@ mod PatienceRows
 mod BeginRows
 pub mod Faults
 pub mod Stopping
-pub mod Lines
 pub mod Sent
 pub mod AllPublished
 pub mod Whole

@@ -11,7 +11,7 @@ use Rattle.publisher.specs.Farewells.{AreTold, TellsFarewell, TellsWhereDue, not
 use Rattle.publisher.specs.Seeing.{ChannelDestination, begun, seen_along}
 use Rattle.publisher.specs.Turns.{Begins, Cycles, EndsBehind, Turns, TurnsMany}
 use Rattle.publisher.specs.declared.destination.Destination.{Destination}
-use Rattle.publisher.specs.declared.judged.Judged.{Judged}
+use Rattle.publisher.specs.declared.judging.Judged.{Judged}
 use Rattle.publisher.specs.declared.sender_thread.ChannelSender.{ChannelSender}
 
 as_many : {X Y Z : Type 0} (f : X → Z) (g : Y → Z) (xs : List X) (ys : List Y) → map f xs ≡ map g ys → length xs ≡ length ys

@@ -6,14 +6,14 @@ use Rattle.std.proofs.lemmas.List.Folds.{list_all-append}
 use Rattle.std.specs.Prelude.{⊤}
 use Rattle.std.specs.declared.net.SocketAddr.{SocketAddr}
 use Rattle.options.specs.declared.ends.plans.PublishPlan.{PublishPlan}
-use Rattle.peer.specs.declared.ending.Ending.{Ending}
-use Rattle.peer.specs.declared.ending.Ending.TheVariants.{Whole, Short}
-use Rattle.publisher.specs.declared.offering.reading.Reading.{Reading}
+use Rattle.peer.specs.declared.attendance.Ending.{Ending}
+use Rattle.peer.specs.declared.attendance.Ending.TheVariants.{Whole, Short}
+use Rattle.offering.specs.declared.reading.Reading.{Reading}
 use Rattle.publisher.specs.Farewells.{ending_told, ending_unless_another}
 use Rattle.publisher.specs.Judging.{ended_by, fault_in, faulted_or}
 use Rattle.publisher.specs.Whys.{SaysElsewhere, told_by}
 use Rattle.publisher.specs.declared.fault.PublishFault.{PublishFault}
-use Rattle.publisher.specs.declared.judged.Judged.{Judged}
+use Rattle.publisher.specs.declared.judging.Judged.{Judged}
 use Rattle.publisher.specs.declared.telling.ToldShortfall.{ToldShortfall}
 use Rattle.publisher.specs.Endings.{ending_along, is_over_along, is_whole_along}
 use Rattle.publisher.specs.Judges.{Ends, IsToldOf, IsUnwritten, TellsWhy, last_of}

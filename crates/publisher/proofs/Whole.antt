@@ -3,16 +3,16 @@ use Rattle.std.proofs.Common.{◌≡◌, ◌∙◌, ℕ, Bool, true, false, ◌&
 use Rattle.std.specs.Prelude.{⊤}
 use Rattle.std.proofs.lemmas.Bool.{eqb-true}
 use Rattle.peer.specs.declared.attendance.Attendance.{Attendance}
-use Rattle.peer.specs.declared.ending.Ending.{Ending}
-use Rattle.peer.specs.declared.ending.Ending.TheVariants.{Whole, Short}
+use Rattle.peer.specs.declared.attendance.Ending.{Ending}
+use Rattle.peer.specs.declared.attendance.Ending.TheVariants.{Whole, Short}
 use Rattle.peer.specs.Endings as peers
-use Rattle.publisher.specs.declared.offering.fault.ReadingFault.{ReadingFault}
-use Rattle.publisher.specs.declared.offering.reading.Offered.{Offered}
-use Rattle.publisher.specs.declared.offering.reading.Reading.{Reading}
-use Rattle.publisher.specs.declared.offering.reading.ReadingEnd.{ReadingEnd}
-use Rattle.publisher.specs.declared.offering.reading.ReadingEnd.TheVariants.{All, Stopped}
+use Rattle.offering.specs.declared.reading.ReadingFault.{ReadingFault}
+use Rattle.offering.specs.declared.reading.Offered.{Offered}
+use Rattle.offering.specs.declared.reading.Reading.{Reading}
+use Rattle.offering.specs.declared.reading.ReadingEnd.{ReadingEnd}
+use Rattle.offering.specs.declared.reading.ReadingEnd.TheVariants.{All, Stopped}
 use Rattle.publisher.specs.declared.fault.PublishFault.{PublishFault}
-use Rattle.publisher.specs.declared.judged.Judged.{Judged}
+use Rattle.publisher.specs.declared.judging.Judged.{Judged}
 use Rattle.publisher.specs.Ended.{AllArrived, HasArrived}
 use Rattle.publisher.specs.Judging.{are_same, end_by, end_in, ended_by, ending_by, ending_of, fault_by, faulted_or, is_all, is_read}
 

@@ -4,15 +4,15 @@ use Rattle.std.specs.List.{AllByRecursion, list_all}
 use Rattle.std.specs.Prelude.{⊤}
 use Rattle.std.proofs.lemmas.List.{length-map}
 use Rattle.peer.specs.declared.attendance.Attendance.{Attendance}
-use Rattle.peer.specs.declared.ending.Ending.{Ending}
-use Rattle.peer.specs.declared.ending.Ending.TheVariants.{Whole, Short}
+use Rattle.peer.specs.declared.attendance.Ending.{Ending}
+use Rattle.peer.specs.declared.attendance.Ending.TheVariants.{Whole, Short}
 use Rattle.peer.specs.Endings as peers
-use Rattle.publisher.specs.declared.offering.reading.Reading.{Reading}
+use Rattle.offering.specs.declared.reading.Reading.{Reading}
 use Rattle.publisher.specs.declared.fault.PublishFault.{PublishFault}
-use Rattle.publisher.specs.declared.judged.Judged.{Judged}
+use Rattle.publisher.specs.declared.judging.Judged.{Judged}
 use Rattle.publisher.specs.Ended.{AllArrived}
 use Rattle.options.specs.declared.ends.plans.PublishPlan.{PublishPlan}
-use Rattle.peer.specs.declared.watch.ToldEnds.{ToldEnds}
+use Rattle.peer.specs.declared.attended.ToldEnds.{ToldEnds}
 use Rattle.publisher.specs.Farewells.{TellsFarewell, ending_told, ends_along}
 use Rattle.publisher.specs.Turns.{EndsBehind}
 use Rattle.publisher.specs.declared.sender_thread.ChannelSender.{ChannelSender}

@@ -18,11 +18,11 @@ use Rattle.options.specs.declared.ends.plans.PublishPlan.{PublishPlan}
 use Rattle.peer.specs.Ties.{Tied}
 use Rattle.peer.specs.declared.attendance.Attendance.{Attendance}
 use Rattle.peer.specs.Endings.{is_whole}
-use Rattle.peer.specs.declared.watch.ToldEnds.{ToldEnds}
-use Rattle.publisher.specs.InputEnds.{EndsInput}
-use Rattle.publisher.specs.declared.offering.reader.InputEnd.{InputEnd}
-use Rattle.publisher.specs.declared.offering.reading.Reading.{Reading}
-use Rattle.publisher.specs.declared.offering.reading.ReadingEnd.TheVariants.{All}
+use Rattle.peer.specs.declared.attended.ToldEnds.{ToldEnds}
+use Rattle.offering.specs.InputEnds.{EndsInput}
+use Rattle.offering.specs.declared.reader.InputEnd.{InputEnd}
+use Rattle.offering.specs.declared.reading.Reading.{Reading}
+use Rattle.offering.specs.declared.reading.ReadingEnd.TheVariants.{All}
 use Rattle.publisher.specs.Destinations.{AreDestinationsAlong}
 use Rattle.publisher.specs.Endings.{heard_along}
 use Rattle.publisher.specs.Farewells.{TellsFarewell, are_told_alone, ends_along}
@@ -30,7 +30,7 @@ use Rattle.publisher.specs.Judging.{end_in}
 use Rattle.publisher.specs.Openings.{AreOthers, IsKept, IsPlanned}
 use Rattle.publisher.specs.Seeing.{ChannelDestination}
 use Rattle.publisher.specs.Turns.{EndsBehind}
-use Rattle.publisher.specs.declared.judged.Judged.{Judged}
+use Rattle.publisher.specs.declared.judging.Judged.{Judged}
 use Rattle.publisher.specs.declared.log_end.LogEnd.{LogEnd}
 use Rattle.publisher.specs.declared.sender_thread.ChannelSender.{ChannelSender}
 use Rattle.publisher.specs.declared.sender_thread.SenderPasses.{SenderPasses}

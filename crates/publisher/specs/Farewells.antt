@@ -4,21 +4,15 @@ use Rattle.std.specs.List.{list_all}
 use Rattle.theory.specs.Position.{Geometry, max_position}
 use Rattle.endpoint.specs.declared.device_error.DeviceError.TheVariants.{Device}
 use Rattle.peer.specs.Watching.{Watched, with_end}
-use Rattle.peer.specs.declared.ending.Ending.{Ending}
-use Rattle.peer.specs.declared.ending.Ending.TheVariants.{Short}
-use Rattle.peer.specs.declared.watch.ToldEnds.{ToldEnds}
-use Rattle.publisher.specs.declared.offering.reading.Reading.{Reading}
+use Rattle.peer.specs.declared.attendance.Ending.{Ending}
+use Rattle.peer.specs.declared.attendance.Ending.TheVariants.{Short}
+use Rattle.peer.specs.declared.attended.ToldEnds.{ToldEnds}
+use Rattle.offering.specs.declared.reading.Reading.{Reading}
 use Rattle.publisher.specs.Judging.{end_in}
 use Rattle.publisher.specs.Seeing.{ChannelDestination}
 use Rattle.publisher.specs.declared.destination.Destination.{Destination}
-use Rattle.publisher.specs.declared.judged.Judged.{Judged}
 use Rattle.publisher.specs.declared.fault.PublishFault.{PublishFault}
 use Rattle.publisher.specs.declared.fault.PublishFault.TheVariants.{Input, Full, NoSocket, NoThread, Failed}
-
--- where the stream ends, if its input has ended and the publisher goes on
-abbrev pub end_unless_judged : Option Judged → Option Reading → Option ℕ
-end_unless_judged None reading = end_in reading
-end_unless_judged (Some judged) reading = None
 
 -- where the stream's end is told at the publisher's end, if it is: where the reading ended, unless the system or memory failed
 abbrev pub farewell_of_fault : PublishFault → Option ℕ → Option ℕ

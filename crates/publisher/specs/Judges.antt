@@ -1,12 +1,12 @@
 -- How a publisher is judged to end.
 use Rattle.std.specs.Prelude.{◌≡◌, ◌⊎◌, ℕ, true, false, List, [], ◌∷◌, Option, None, Some, IfSome}
-use Rattle.publisher.specs.declared.offering.reading.Reading.{Reading}
-use Rattle.peer.specs.declared.ending.Ending.{Ending}
-use Rattle.peer.specs.declared.ending.Ending.TheVariants.{Whole, Short}
+use Rattle.offering.specs.declared.reading.Reading.{Reading}
+use Rattle.peer.specs.declared.attendance.Ending.{Ending}
+use Rattle.peer.specs.declared.attendance.Ending.TheVariants.{Whole, Short}
 use Rattle.publisher.specs.Judging.{end_in, fault_in, tail_in}
 use Rattle.publisher.specs.Progress.{judged_by}
 use Rattle.publisher.specs.Texts.{shortfall_of}
-use Rattle.publisher.specs.declared.judged.Judged.{Judged}
+use Rattle.publisher.specs.declared.judging.Judged.{Judged}
 use Rattle.publisher.specs.declared.progress.Progress.{Progress}
 use Rattle.publisher.specs.declared.telling.ToldShortfall.{ToldShortfall}
 use Rattle.publisher.specs.Endings.{ending_along, heard_along, is_whole_along}

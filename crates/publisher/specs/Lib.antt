@@ -1,7 +1,3 @@
-pub mod Inputs
-pub mod Refusals
-pub mod Offers
-pub mod InputEnds
 pub mod Faults
 pub mod Judging
 pub mod Looking

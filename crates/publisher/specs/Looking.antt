@@ -3,8 +3,8 @@ use Rattle.std.specs.Prelude.{Bool, not, ◌&&◌, nat_eq}
 use Rattle.loss_injector.specs.Losing.{Losing}
 use Rattle.peer.specs.Patience.{Patient}
 use Rattle.peer.specs.Watching.{Watching}
-use Rattle.publisher.specs.declared.looking.Calls.{Calls}
-use Rattle.publisher.specs.declared.looking.Seen.{Seen}
+use Rattle.publisher.specs.declared.destination.Calls.{Calls}
+use Rattle.publisher.specs.declared.destination.Seen.{Seen}
 
 abbrev pub calls_of : {D : Type 0} → Watching (Losing (Patient D)) → Calls
 calls_of d = record { nones = d.inner.inner.nones; lost = d.inner.inner.lost }

@@ -2,12 +2,12 @@
 use Rattle.std.specs.Prelude.{ℕ, ◌-◌, ◌&&◌, ◌||◌, Bool, not, true, false, nat_eq, nat_le, nat_lt, is_some, if◌then◌else◌, Option, None, Some}
 use Rattle.peer.specs.declared.attendance.Attendance.{Attendance}
 use Rattle.peer.specs.declared.attendance.Heard.{Heard}
-use Rattle.peer.specs.declared.ending.Ending.{Ending}
+use Rattle.peer.specs.declared.attendance.Ending.{Ending}
 use Rattle.peer.specs.Silences.{never, seen_at}
-use Rattle.publisher.specs.declared.offering.reading.Reading.{Reading}
+use Rattle.offering.specs.declared.reading.Reading.{Reading}
 use Rattle.publisher.specs.declared.fault.PublishFault.{PublishFault}
-use Rattle.publisher.specs.declared.judged.Judged.{Judged}
-use Rattle.publisher.specs.declared.looking.Seen.{Seen}
+use Rattle.publisher.specs.declared.judging.Judged.{Judged}
+use Rattle.publisher.specs.declared.destination.Seen.{Seen}
 use Rattle.publisher.specs.declared.progress.Progress.{Progress}
 use Rattle.publisher.specs.declared.telling.ToldShortfall.{ToldShortfall}
 

@@ -7,14 +7,14 @@ use Rattle.peer.specs.Attends.{Attends}
 use Rattle.peer.specs.Patience.{Patient, patient_device}
 use Rattle.peer.specs.Silences.{judged}
 use Rattle.peer.specs.Watching.{Watching, behind_of, told}
-use Rattle.peer.specs.declared.watch.Behind.{Behind}
+use Rattle.peer.specs.declared.attended.Behind.{Behind}
 use Rattle.peer.specs.declared.attendance.Attendance.{Attendance}
 use Rattle.publisher.specs.Looking.{calls_of, seen_of}
 use Rattle.publisher.specs.Numbers.{GoesOn}
 use Rattle.publisher.specs.Progress.{is_alone, is_broken, seen, with_work}
-use Rattle.publisher.specs.declared.looking.Seen.{Seen}
+use Rattle.publisher.specs.declared.destination.Seen.{Seen}
 use Rattle.publisher.specs.declared.progress.Progress.{Progress}
-use Rattle.publisher.specs.declared.seeing.News.{News}
+use Rattle.publisher.specs.declared.destination.News.{News}
 use Rattle.publisher.specs.declared.destination.Destination.{Destination}
 
 -- one over a publisher's device

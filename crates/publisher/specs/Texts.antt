@@ -8,12 +8,14 @@ use Rattle.peer.specs.declared.attendance.Heard.{Heard}
 use Rattle.peer.specs.Endings.{is_told}
 use Rattle.std.specs.declared.net.SocketAddr.{SocketAddr}
 use Rattle.endpoint.specs.Texts as devices
-use Rattle.peer.specs.declared.watch.Behind.{Behind}
 use Rattle.frames.specs.FaultCounts.{counts_text}
 use Rattle.frames.specs.declared.fault_counts.FaultCounts.{FaultCounts}
 use Rattle.messages.specs.Texts as inputs
 use Rattle.text.specs.Paces.{pace_text}
 use Rattle.publisher.specs.declared.telling.Counts.{Counts}
+use Rattle.publisher.specs.declared.telling.GaveUp.{GaveUp}
+use Rattle.publisher.specs.declared.telling.Line.{Line}
+use Rattle.publisher.specs.declared.telling.Line.TheVariants as lines
 use Rattle.publisher.specs.declared.telling.Totals.{Totals}
 use Rattle.publisher.specs.declared.telling.Shortfall.{Shortfall}
 use Rattle.publisher.specs.declared.telling.Shortfall.TheVariants.{Unheard, Silent, Several, Elsewhere, Unclosed}
@@ -36,24 +38,6 @@ number_of NoThread = None
 number_of (Failed error) = None
 
 -- ---- lines
-
--- the one that was heard before, and the one that is heard now
-abbrev pub left_text : Heard → List ℕ
-left_text h = joined (codes "receiver " ∷ signed_decimal h.receiver ∷ codes " left at position " ∷ decimal h.last ∷ [])
-
-abbrev pub joined_text : Heard → List ℕ
-joined_text h = joined (codes "receiver " ∷ signed_decimal h.receiver ∷ codes " joined at position " ∷ decimal h.first ∷ [])
-
-abbrev pub change_line : Heard → Heard → List ℕ
-change_line left present = left_text left ++ codes ", " ++ joined_text present ++ 10 ∷ []
-
-abbrev pub change_between : Option Heard → Option Heard → List ℕ
-change_between None present = []
-change_between (Some left) None = []
-change_between (Some left) (Some present) = change_line left present
-
-abbrev pub change_text : Attendance → List ℕ
-change_text a = change_between a.left a.present
 
 -- what a publisher that ends short lacks of a subscriber: somebody; the acknowledgement of all bytes; or one that was there alone,
 -- from the start on
@@ -82,35 +66,17 @@ gave_up_text peer Several = joined (codes "not all was written at " ∷ socket_t
 gave_up_text peer Elsewhere = codes "gave up: the input ended elsewhere than where the stream was taken to"
 gave_up_text peer Unclosed = codes "gave up: the log couldn't be closed, since memory was refused or a thread still has it"
 
-abbrev pub gave_up_line : SocketAddr → Shortfall → List ℕ
-gave_up_line peer shortfall = gave_up_text peer shortfall ++ 10 ∷ []
-
-abbrev pub empty_line : List ℕ
-empty_line = codes "the input was empty: nothing was published" ++ 10 ∷ []
-
--- nothing where something was published
-abbrev pub whole_text : ℕ → ℕ → List ℕ
-whole_text start tail = if nat_eq tail start then empty_line else []
-
-abbrev pub alone_line : List ℕ
-alone_line = codes "nobody was heard for 5 s: no subscriber is there, or it follows another publisher, or takes another stream or session, or only shorter terms" ++ 10 ∷ []
-
-abbrev pub fault_line : PublishFault → List ℕ
-fault_line fault = text_of fault ++ (codes "; what came before it is delivered first" ++ 10 ∷ [])
-
-abbrev pub stream_text : Counts → List ℕ
-stream_text c = joined (
-    codes "session " ∷ signed_decimal c.session ∷ codes " messages " ∷ decimal c.messages
-    ∷ codes " recent " ∷ decimal c.recent ∷ codes " tail " ∷ decimal c.tail ∷ codes " told " ∷ decimal c.told ∷ [])
-
 abbrev pub traffic_text : Counts → List ℕ
 traffic_text c = joined (
     codes "datagrams " ∷ decimal c.tally.datagrams ∷ codes " resends " ∷ decimal c.tally.resends
     ∷ codes " naks " ∷ decimal c.tally.naks ∷ codes " lost " ∷ decimal c.lost
     ∷ codes " disbelieved " ∷ decimal c.tally.disbelieved ∷ codes " refused" ∷ counts_text c.tally.refused.counts ∷ [])
 
-abbrev pub counters_line : Counts → List ℕ
-counters_line c = stream_text c ++ codes " " ++ traffic_text c ++ 10 ∷ []
+abbrev pub counters_text : Counts → List ℕ
+counters_text c = joined (
+    codes "session " ∷ signed_decimal c.session ∷ codes " messages " ∷ decimal c.messages
+    ∷ codes " recent " ∷ decimal c.recent ∷ codes " tail " ∷ decimal c.tail ∷ codes " told " ∷ decimal c.told
+    ∷ codes " " ∷ traffic_text c ∷ [])
 
 -- what it has done in all
 abbrev pub totals_text : Totals → List ℕ
@@ -118,34 +84,45 @@ totals_text t = joined (
     codes "published " ∷ decimal t.pace.count ∷ codes " messages, " ∷ decimal t.bytes ∷ codes " bytes of stream, " ∷ pace_text t.pace
     ∷ codes "; " ∷ decimal t.resends ∷ codes " datagrams sent again" ∷ [])
 
-abbrev pub totals_line : Totals → List ℕ
-totals_line t = totals_text t ++ 10 ∷ []
-
--- how many datagrams were refused, by their faults
-abbrev pub refused_line : FaultCounts → List ℕ
-refused_line c = codes "refused" ++ counts_text c.counts ++ 10 ∷ []
-
--- ---- of one among several
-
--- whom a line is about, where it is one of several
-abbrev pub at_text : Option SocketAddr → List ℕ
-at_text None = []
-at_text (Some peer) = socket_text peer ++ codes ": "
-
-abbrev pub quiet_line : List ℕ
-quiet_line = codes "nothing was heard for 5 s: the others go on without it" ++ 10 ∷ []
-
--- one that is left behind, so far
-abbrev pub behind_text : SocketAddr → Behind → List ℕ
-behind_text peer b = joined (
+abbrev pub line_text : Line → List ℕ
+line_text (lines.Changed left present) = joined (
+    codes "receiver " ∷ signed_decimal left.receiver ∷ codes " left at position " ∷ decimal left.last
+    ∷ codes ", receiver " ∷ signed_decimal present.receiver ∷ codes " joined at position " ∷ decimal present.first ∷ [])
+line_text lines.Alone = codes "nobody was heard for 5 s: no subscriber is there, or it follows another publisher, or takes another stream or session, or only shorter terms"
+line_text lines.Quiet = codes "nothing was heard for 5 s: the others go on without it"
+line_text (lines.CameBack peer b) = joined (
     socket_text peer ∷ codes " came back " ∷ decimal b.missing ∷ codes " bytes behind, of which " ∷ decimal b.reach ∷ codes " can be sent again: left behind" ∷ [])
+line_text (lines.LeftOut peer seconds) = joined (codes "nobody was heard at " ∷ socket_text peer ∷ codes " for " ∷ decimal seconds ∷ codes " s: the others begin without it" ∷ [])
+line_text (lines.Faulted fault) = text_of fault ++ codes "; what came before it is delivered first"
+line_text (lines.GaveUp gave_up) = gave_up_text gave_up.0 gave_up.1
+line_text lines.Empty = codes "the input was empty: nothing was published"
+line_text (lines.Counters c) = counters_text c
+line_text (lines.Done totals) = totals_text totals
+line_text (lines.Refused refused) = codes "refused" ++ counts_text refused.counts
 
-abbrev pub behind_line : SocketAddr → Behind → List ℕ
-behind_line peer b = behind_text peer b ++ 10 ∷ []
+-- a line, behind the address of the destination that it is about, where that is one of several
+abbrev pub line_at : Option SocketAddr → Line → List ℕ
+line_at None line = line_text line ++ 10 ∷ []
+line_at (Some peer) line = socket_text peer ++ codes ": " ++ line_text line ++ 10 ∷ []
 
--- the others begin without the one that is to be there
-abbrev pub left_out_text : SocketAddr → ℕ → List ℕ
-left_out_text peer seconds = joined (codes "nobody was heard at " ∷ socket_text peer ∷ codes " for " ∷ decimal seconds ∷ codes " s: the others begin without it" ∷ [])
+-- another receiver is heard than before, if one is
+abbrev pub change_between : Option Heard → Option Heard → Option Line
+change_between None present = None
+change_between (Some left) None = None
+change_between (Some left) (Some present) = Some (lines.Changed left present)
 
-abbrev pub left_out_line : SocketAddr → ℕ → List ℕ
-left_out_line peer seconds = left_out_text peer seconds ++ 10 ∷ []
+abbrev pub change_in : Attendance → Option Line
+change_in a = change_between a.left a.present
+
+abbrev pub gave_up_line : SocketAddr → Shortfall → List ℕ
+gave_up_line peer shortfall = line_at None (lines.GaveUp (record { 0 = peer; 1 = shortfall }))
+
+-- nothing where something was published
+abbrev pub whole_text : ℕ → ℕ → List ℕ
+whole_text start tail = if nat_eq tail start then line_at None lines.Empty else []
+
+abbrev pub totals_line : Totals → List ℕ
+totals_line t = line_at None (lines.Done t)
+
+abbrev pub refused_line : Option SocketAddr → FaultCounts → List ℕ
+refused_line label refused = line_at label (lines.Refused refused)

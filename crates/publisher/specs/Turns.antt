@@ -3,8 +3,8 @@ use Rattle.std.specs.Prelude.{◌≡◌, ◌⊎◌, ◌||◌, ℕ, zero, suc, Bo
 use Rattle.sender_meaning.specs.Moments.{CyclesAt}
 use Rattle.sender_meaning.specs.StreamLives.{StreamLivedTo, StreamLivedToLast}
 use Rattle.options.specs.declared.ends.plans.PublishPlan.{PublishPlan}
-use Rattle.peer.specs.declared.ending.Ending.TheVariants.{Short}
-use Rattle.publisher.specs.declared.judged.Judged.{Judged}
+use Rattle.peer.specs.declared.attendance.Ending.TheVariants.{Short}
+use Rattle.publisher.specs.declared.judging.Judged.{Judged}
 use Rattle.publisher.specs.declared.telling.Shortfall.TheVariants.{Elsewhere}
 use Rattle.publisher.specs.declared.telling.ToldShortfall.{ToldShortfall}
 use Rattle.publisher.specs.Destinations.{begins_now, flow_with, heard_count, destinations_with}

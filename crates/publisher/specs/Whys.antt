@@ -1,10 +1,10 @@
 -- The lines that say why a publisher ends short.
 use Rattle.std.specs.Prelude.{◌≡◌, Option, None, Some, Result, Ok, Err}
 use Rattle.std.specs.declared.net.SocketAddr.{SocketAddr}
-use Rattle.peer.specs.declared.ending.Ending.{Ending}
-use Rattle.peer.specs.declared.ending.Ending.TheVariants.{Whole, Short}
+use Rattle.peer.specs.declared.attendance.Ending.{Ending}
+use Rattle.peer.specs.declared.attendance.Ending.TheVariants.{Whole, Short}
 use Rattle.publisher.specs.declared.fault.PublishFault.{PublishFault}
-use Rattle.publisher.specs.declared.judged.Judged.{Judged}
+use Rattle.publisher.specs.declared.judging.Judged.{Judged}
 use Rattle.publisher.specs.declared.telling.Shortfall.{Shortfall}
 use Rattle.publisher.specs.declared.telling.Shortfall.TheVariants.{Elsewhere, Unclosed}
 use Rattle.publisher.specs.declared.telling.ToldShortfall.{ToldShortfall}

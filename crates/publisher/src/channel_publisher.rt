@@ -12,31 +12,29 @@ ghost use Rattle.agents.specs.LogSenders.{SendsLog};
 ghost use Rattle.endpoint.specs.declared.open_error.OpenError.{OpenError};
 ghost use Rattle.endpoint.specs.declared.udp.Route.{Route};
 ghost use Rattle.peer.specs.Ties.{hearing_anybody, tied_waiting};
-ghost use Rattle.peer.specs.declared.ending.Ending.TheVariants.{Short, Whole};
+ghost use Rattle.peer.specs.declared.attendance.Ending.TheVariants.{Short, Whole};
 ghost use Rattle.publisher.specs.Beginnings.{ArePublisherParts};
 ghost use Rattle.publisher.specs.Destinations.{AreDestinationsAlong, IsDestinationOf, id_of, place_of};
 ghost use Rattle.publisher.specs.Ended.{ArrivesAt, CanClose, HasSent, IsBegun, IsClosed, LeavesLog, PublishesAll, reading_left};
 ghost use Rattle.publisher.specs.Farewells.{are_told_alone, are_told_no_other};
 ghost use Rattle.publisher.specs.Faults.{of_opening};
-ghost use Rattle.publisher.specs.InputEnds.{EndsInput};
+ghost use Rattle.offering.specs.InputEnds.{EndsInput};
 ghost use Rattle.publisher.specs.Judging.{end_in, fault_in};
 ghost use Rattle.publisher.specs.Openings.{ArePasses, IsKept, identity_of};
 ghost use Rattle.publisher.specs.Shorts.{EndsShort, SaysItsShortfall, unclosed};
 
 use crate::beginning::{PublisherParts, channel_device, parts_over, planned_stream};
-use crate::destination::Destination;
+use crate::destination::{Calls, ChannelDevice, Destination};
 use crate::fault::PublishFault;
 use crate::log_end::{LogEnd, ending_closed, log_of};
-use crate::looking::{Calls, ChannelDevice};
-use crate::offering::{OfferingState, Reader, start_reader};
 use crate::progress::Progress;
-use crate::publisher_context::PublisherContext;
-use crate::sender_thread::{ChannelSender, Destinations, SenderPasses};
+use crate::sender_thread::{ChannelSender, Destinations, PublisherContext, SenderPasses};
 use crate::telling::tell_if_unclosed;
 use crate::two_threads::{Published, run};
 use agents::{Began, open_stream_sender};
 use endpoint::{Datagrams, DeviceError, Fan, OpenError, Route};
 use messages::FusedReader;
+use offering::{OfferingState, start_reader};
 use options::PublishPlan;
 use peer::{Awaited, Ending, TiedDevice};
 use sender_meaning::stream_keeps_its_reader;
@@ -156,31 +154,21 @@ fn shared(
     Ok((ours, theirs))
 }
 
-/// What is left of a publisher's parts as its thread starts to send.
-struct Sending<D> {
-    reader: LogReader,
-    passes: SenderPasses<Destinations<D>>,
-    peer: SocketAddr,
-}
-
 /// What sends and keeps, from the log's start. How many destinations there are chooses its flow control, and nothing else.
 fn opened<'a, D: Datagrams + Drop>(
     alloc: Global,
     state: &'a OfferingState,
-    sending: Sending<D>,
+    reader: LogReader,
+    passes: SenderPasses<Destinations<D>>,
+    peer: SocketAddr,
 ) -> Result<ChannelSender<'a, D>, PublishFault>
-    requires reader { IsNewReader state.now.log 0 sending.reader }
+    requires reader { IsNewReader state.now.log 0 reader }
     requires start { IsStart state.now.log.identity.geometry state.now.log.start }
     requires consumers { 0 < state.now.log.consumers }
-    requires few { length sending.passes.duty.device.ways ≤ 8 }
-    ensures new { IfOk result (IsBegun state.now.log sending.passes sending.peer) }
-    ensures sends { IfOk result (λ s. SendsLog state.now.log s.agent × (s.passes ≡ sending.passes)) }
+    requires few { length passes.duty.device.ways ≤ 8 }
+    ensures new { IfOk result (IsBegun state.now.log passes peer) }
+    ensures sends { IfOk result (λ s. SendsLog state.now.log s.agent × (s.passes ≡ passes)) }
 {
-    let Sending {
-        reader,
-        passes,
-        peer,
-    } = sending;
     let destinations = passes.duty.device().each().len();
     let agent = open_stream_sender(alloc, &state.log, reader, destinations)?;
     Ok(ChannelSender {
@@ -188,48 +176,6 @@ fn opened<'a, D: Datagrams + Drop>(
         passes,
         peer,
     })
-}
-
-/// What the thread that reads is given: what it shares, and its publisher and input.
-#[derive(Drop)]
-struct Offering<I> {
-    state: Arc<OfferingState>,
-    publisher: Publisher,
-    input: I,
-}
-
-impl<I> Offering<I> {
-    /// Puts these together.
-    fn new(state: Arc<OfferingState>, publisher: Publisher, input: I) -> Offering<I>
-        ensures { result ≡ record { state = state; publisher = publisher; input = input } }
-    {
-        Offering {
-            state,
-            publisher,
-            input,
-        }
-    }
-}
-
-/// Starts the thread that reads. The fault is `NoThread`.
-fn started<R: Threads + Clock + Send + Copy + 'static, I: BufRead + Send + Drop + 'static>(
-    rt: &R,
-    alloc: Global,
-    plan: &PublishPlan,
-    offering: Offering<I>,
-) -> Result<Reader<I>, PublishFault>
-    requires { IsDone (arc_value offering.state).log offering.publisher }
-    ensures { IfOk result (λ r. (r.handle.promise.form ≡ plan.now.end.form) × (r.handle.promise.log.value ≡ (arc_value offering.state).log) × (r.handle.promise.input.value ≡ offering.input) × (r.handle.promise.publisher.value ≡ offering.publisher)) }
-{
-    let Offering {
-        state,
-        publisher,
-        input,
-    } = offering;
-    match start_reader(rt, alloc, plan.end.form, state, input, publisher) {
-        Some(reader) => Ok(reader),
-        None => Err(PublishFault::NoThread),
-    }
 }
 
 /// The keeper that a sender has, and its reader.
@@ -243,44 +189,6 @@ fn passes_of<D: Drop>(sender: ChannelSender<'_, D>) -> (Keeper, LogReader)
     } = sender;
     let LogFrames { log: _, reader } = agent.into_core().into_reads();
     (passes.keeper, reader)
-}
-
-/// Runs over what the threads share: the sender is opened before the other thread is started. The keeper and the sender's reader
-/// come back.
-fn publish_shared<
-    R: Threads + Wait + Clock + Send + Copy + 'static,
-    I: BufRead + Send + Drop + 'static,
-    D: Datagrams + Drop,
-    E: Write,
->(
-    alloc: Global,
-    context: &PublisherContext<'_, R>,
-    sending: Sending<D>,
-    offering: Offering<I>,
-    errors: &mut E,
-) -> Result<(Published<I>, (Keeper, LogReader)), PublishFault>
-    requires reader { IsNewReader context.now.state.now.log 0 sending.reader }
-    requires start { IsStart context.now.state.now.log.identity.geometry context.now.state.now.log.start }
-    requires consumers { 0 < context.now.state.now.log.consumers }
-    requires few { length sending.passes.duty.device.ways ≤ 8 }
-    requires passes { ArePasses context.now.state.now.log context.now.conductor.now sending.passes }
-    requires offering { ((arc_value offering.state).log ≡ context.now.state.now.log) × IsDone context.now.state.now.log offering.publisher }
-    ensures keeper { IfOk result (λ e. IsKept context.now.state.now.log e.1.0) }
-    ensures reader { IfOk result (λ e. IsReaderOf context.now.state.now.log e.1.1) }
-    ensures sent { IfOk result (λ e. HasSent context.now.state.now.log (length sending.passes.duty.device.ways) e.1.1) }
-    ensures input { IfOk result (λ e. IfSome e.0.input (λ left. EndsInput context.now.plan.now.end.form context.now.state.now.log (I.remaining offering.input) (I.remaining left.input) offering.publisher.pass left.publisher left.reading)) }
-    ensures whole { IfOk result (λ e. e.0.ending ≡ Ok Whole → ArrivesAt context.now.state.now.log sending.passes sending.peer context.now.plan.now (reading_left e.0.input) e.0.attendances.items e.0.ends.items) }
-    ensures faulted { IfOk result (λ e. IfSome (fault_in (reading_left e.0.input)) (λ fault. e.0.ending ≡ Err fault)) }
-    ensures told { IfOk result (λ e. e.0.ending ≡ Ok Whole → are_told_alone context.now.plan.now.geometry (end_in (reading_left e.0.input)) e.0.ends.items ≡ true) }
-    ensures no_other { IfOk result (λ e. IfOk e.0.ending (λ _. are_told_no_other context.now.plan.now.geometry (end_in (reading_left e.0.input)) e.0.ends.items ≡ true)) }
-    ensures short { IfOk result (λ e. e.0.ending ≡ Ok Short → EndsShort context.now.state.now.log sending.passes context.now.plan.now sending.peer e.0.told) }
-{
-    // A law that the proof cites.
-    stream_keeps_its_reader();
-    let mut sender = opened(alloc, context.state, sending)?;
-    let reading = started(context.rt, alloc, context.plan, offering)?;
-    let published = run(alloc, context, &mut sender, reading, errors)?;
-    Ok((published, passes_of(sender)))
 }
 
 /// Runs with all that a publisher to at most 8 destinations begins with, over any devices to them. What is left of its log comes
@@ -323,6 +231,8 @@ pub fn publish_over<
         reader,
         passes,
     } = parts;
+    // A law that the proof cites.
+    stream_keeps_its_reader();
     let (ours, theirs) = shared(alloc, state)?;
     let context = PublisherContext {
         rt,
@@ -331,16 +241,15 @@ pub fn publish_over<
         conductor: &conductor,
         began,
     };
-    let offering = Offering::new(theirs, publisher, input);
-    let sending = Sending {
-        reader,
-        passes,
-        peer,
+    let mut sender = opened(alloc, context.state, reader, passes, peer)?;
+    let form = plan.end.form;
+    let Some(reading) = start_reader(rt, alloc, form, theirs, input, publisher) else {
+        return Err(PublishFault::NoThread);
     };
-    let (published, (keeper, reader)) = publish_shared(alloc, &context, sending, offering, errors)?;
-    let log = log_of(ours);
+    let published = run(alloc, &context, &mut sender, reading, errors)?;
+    let (keeper, reader) = passes_of(sender);
     let end = LogEnd {
-        log,
+        log: log_of(ours),
         others,
         keeper,
         reader,
@@ -379,22 +288,6 @@ pub fn buffered<I: Read + Drop>(
         Ok(input) => Ok(input),
         Err(_) => Err(PublishFault::Failed(DeviceError::Memory)),
     }
-}
-
-/// How it ended: whole only where its log was closed. What else is left is let go.
-fn ending_of<I: Drop>(published: Published<I>, end: LogEnd) -> Result<Ending, PublishFault>
-    requires { CanClose published.input end }
-    ensures whole { result ≡ Ok Whole → (published.ending ≡ Ok Whole) × IsClosed published.input end }
-    ensures kept { (result ≡ published.ending) ⊎ (result ≡ unclosed published.ending) }
-{
-    let Published {
-        ending,
-        told: _,
-        attendances: _,
-        ends: _,
-        input,
-    } = published;
-    ending_closed(ending, input, end)
 }
 
 /// Publishes the messages of the input as planned, along each of 1 to 8 routes to a destination, and answers how it ended: whole
@@ -436,8 +329,14 @@ pub fn publish<
     let parts = prepared(rt, alloc, plan, routes)?;
     let first = parts.peer;
     let (published, end) = publish_over(rt, alloc, plan, parts, input, errors)?;
-    let (sent, told) = (published.ending, published.told);
-    let ending = ending_of(published, end);
+    let Published {
+        ending: sent,
+        told,
+        attendances: _,
+        ends: _,
+        input,
+    } = published;
+    let ending = ending_closed(sent, input, end);
     let _why = tell_if_unclosed(errors, first, told, &sent, &ending);
     ending
 }

@@ -1,15 +1,43 @@
-//! A destination of a publisher.
+//! A destination of a publisher: its device, what was seen of it, and how a publisher ends by that.
 
-ghost use Rattle.std.specs.Prelude.{◌≡◌};
+ghost use Rattle.std.specs.Prelude.{◌≡◌, map};
+ghost use Rattle.std.specs.List.{list_all};
 ghost use Rattle.endpoint.specs.Calls.{Receives, Sends};
 ghost use Rattle.endpoint.specs.Devices.{NeverFall};
+ghost use Rattle.publisher.specs.Endings.{ending_along, is_broken_along, is_over_along, is_whole_along};
+ghost use Rattle.publisher.specs.Looking.{calls_of, is_at_rest};
 ghost use Rattle.publisher.specs.Numbers.{GoesOn, NumbersBy, ReceivesNumbered, goes_on, goes_still};
+ghost use Rattle.publisher.specs.Seeing.{begun, behind_now, is_quiet, label_of, news_along, seen_along, shown};
 
-use crate::looking::Calls;
 use crate::progress::Progress;
 use endpoint::{Datagrams, DeviceFailed};
-use peer::number_status;
+use flow_control::LIVE;
+use loss_injector::Lossy;
+use peer::{Attendance, Attended, Behind, Ending, PatientDevice, Tally, number_status};
 use std::net::SocketAddr;
+
+/// A publisher's device: what fails is lost, losses are made on purpose, and what comes is screened and noted.
+pub type ChannelDevice<D> = Attended<Lossy<PatientDevice<D>>>;
+
+/// How many receives found nothing at the socket, and how many calls failed.
+#[derive(Clone, Copy)]
+pub struct Calls {
+    pub nones: u64,
+    pub lost: u64,
+}
+
+/// What a cycle has shown.
+#[derive(Clone, Copy)]
+pub struct Seen {
+    pub attendance: Attendance,
+    pub tally: Tally,
+    /// How many calls failed.
+    pub lost: u64,
+    /// How many didn't.
+    pub worked: u64,
+    /// Whether all that had come was heard: the receiving ended at an empty socket.
+    pub at_rest: bool,
+}
 
 /// A destination, over a device to it. Where it is one of several, a status message that comes from there names its id as its
 /// receiver: a group's flow control knows its receivers by the ids of their destinations.
@@ -85,4 +113,186 @@ impl<D: Datagrams> Datagrams for Destination<D> {
     fn nones(&self) -> u64 {
         self.device.nones()
     }
+}
+
+/// How many receives found nothing at the socket, and how many calls failed.
+fn calls_of<D: Datagrams>(device: &ChannelDevice<D>) -> Calls
+    ensures { result ≡ calls_of device.now }
+{
+    let patient = device.inner().inner();
+    Calls {
+        nones: patient.nones(),
+        lost: patient.lost(),
+    }
+}
+
+/// Whether between these a receive found nothing, and no call failed.
+fn is_at_rest(before: Calls, after: Calls) -> bool
+    ensures { result ≡ is_at_rest before after }
+{
+    after.nones != before.nones && after.lost == before.lost
+}
+
+/// What is to be told of a destination.
+#[derive(Clone, Copy, Debug, PartialEq, Eq)]
+pub struct News {
+    /// Another receiver is heard than before.
+    pub changed: bool,
+    /// Nobody was ever heard.
+    pub alone: bool,
+    /// The one that was heard is silent now.
+    pub quiet: bool,
+    /// The one that was heard last is left behind now, so far.
+    pub behind: Option<Behind>,
+}
+
+/// What is news of one that is left behind so far, if it is: it wasn't before.
+fn behind_now(behind: Option<Behind>, before: bool) -> Option<Behind>
+    ensures { result ≡ behind_now behind before }
+{
+    if before { None } else { behind }
+}
+
+/// Whether one that was heard is silent for so long that the others go on without it; as before where that isn't judged.
+fn is_quiet(attendance: &Attendance, silence: Option<u64>, before: bool) -> bool
+    ensures { result ≡ is_quiet attendance.now silence before }
+{
+    match silence {
+        None => before,
+        Some(silence) => attendance.present.is_some() && silence > LIVE,
+    }
+}
+
+impl<D> Destination<D> {
+    /// What names it in a line: its address, where it is one of several.
+    pub(crate) fn label(&self) -> Option<SocketAddr>
+        ensures { result ≡ label_of self.now }
+    {
+        match self.id {
+            None => None,
+            Some(_) => Some(self.peer),
+        }
+    }
+}
+
+impl<D: Datagrams> Destination<ChannelDevice<D>> {
+    /// A cycle begins, with the stream sent up to this position.
+    pub(crate) fn begin(&mut self, position: u64)
+        ensures { self.new ≡ begun position self.old }
+    {
+        self.before = calls_of(&self.device);
+        self.device.believe(position);
+    }
+
+    /// What its device shows after a cycle that has begun.
+    pub(crate) fn look(&self) -> Seen
+        ensures { result ≡ shown self.now }
+    {
+        let patient = self.device.inner().inner();
+        Seen {
+            attendance: self.device.attendance(),
+            tally: self.device.tally(),
+            lost: patient.lost(),
+            worked: patient.worked(),
+            at_rest: is_at_rest(self.before, calls_of(&self.device)),
+        }
+    }
+
+    /// Sees at a moment what the cycle has shown. What is to be told of that.
+    pub(crate) fn see(&mut self, linger: u64, now: u64) -> News
+        ensures seen { self.new ≡ seen_along linger now self.old }
+        ensures news { result ≡ news_along linger now self.old }
+    {
+        let seen = self.look();
+        let (was_quiet, was_behind) = (self.quiet, self.behind);
+        let behind = self.device.behind();
+        self.broken = self.progress.is_broken(seen.worked, linger, now);
+        let changed = self.progress.see(&seen, now);
+        let alone = self.progress.is_alone(&seen.attendance, now);
+        self.silence = self.progress.statuses.judged(seen.at_rest, now);
+        self.quiet = is_quiet(&seen.attendance, self.silence, was_quiet);
+        self.behind = behind.is_some();
+        News {
+            changed,
+            alone,
+            quiet: self.quiet && !was_quiet,
+            behind: behind_now(behind, was_behind),
+        }
+    }
+
+    /// Whether one receiver was heard there from the start to the stream's end, and no other.
+    fn is_whole(&self, end: Option<u64>) -> bool
+        ensures { result ≡ is_whole_along end self.now }
+    {
+        self.device.attendance().is_whole(end)
+    }
+
+    /// Whether nothing more is waited for there: one that is left behind can't come to the stream's end any more.
+    fn is_over(&self, end: Option<u64>, linger: u64, wait: u64) -> bool
+        ensures { result ≡ is_over_along end linger wait self.now }
+    {
+        let attendance = self.device.attendance();
+        self.behind || attendance.ending(end, self.silence, linger, wait).is_some()
+    }
+}
+
+/// A cycle begins at each destination.
+pub(crate) fn begin_all<D: Datagrams>(
+    destinations: &mut [Destination<ChannelDevice<D>>],
+    position: u64,
+)
+    ensures { destinations.new ≡ map (begun position) destinations.old }
+{
+    for destination in destinations.iter_mut() {
+        destination.begin(position);
+    }
+}
+
+fn are_whole<D: Datagrams>(destinations: &[Destination<ChannelDevice<D>>], end: Option<u64>) -> bool
+    ensures { result ≡ list_all (is_whole_along end) destinations.now }
+{
+    destinations
+        .iter()
+        .all(|destination| destination.is_whole(end))
+}
+
+fn are_over<D: Datagrams>(
+    destinations: &[Destination<ChannelDevice<D>>],
+    end: Option<u64>,
+    linger: u64,
+    wait: u64,
+) -> bool
+    ensures { result ≡ list_all (is_over_along end linger wait) destinations.now }
+{
+    destinations
+        .iter()
+        .all(|destination| destination.is_over(end, linger, wait))
+}
+
+/// Whether each call of each destination's device has failed for too long.
+pub(crate) fn are_broken<D>(destinations: &[Destination<D>]) -> bool
+    ensures { result ≡ list_all is_broken_along destinations.now }
+{
+    destinations.iter().all(|destination| destination.broken)
+}
+
+/// Whether a publisher ends, and how, by what was seen of its destinations. Its stream ends at `end`, if its input has ended. It
+/// ends whole where each of its receivers has received all. It gives up where nothing more is waited for at any destination: the
+/// tail was told; or no status message has come for `linger` nanoseconds, or none at all for `wait`; or its receiver is left
+/// behind.
+pub fn ending_along<D: Datagrams>(
+    destinations: &[Destination<ChannelDevice<D>>],
+    end: Option<u64>,
+    linger: u64,
+    wait: u64,
+) -> Option<Ending>
+    ensures { result ≡ ending_along destinations.now end linger wait }
+{
+    if are_whole(destinations, end) {
+        return Some(Ending::Whole);
+    }
+    if are_over(destinations, end, linger, wait) {
+        return Some(Ending::Short);
+    }
+    None
 }

@@ -1,139 +1,22 @@
-//! What a publisher tells of a destination on its error output: of one among several, which one stands before it. An error is the
-//! output's.
+//! What a publisher tells of its destinations on its error output.
 
-ghost use Rattle.std.specs.Prelude.{◌≡◌, ◌++◌, true, IfNone, IfSome, None, OnOk, Some};
+ghost use Rattle.std.specs.Prelude.{◌≡◌, true, IfNone, IfSome, None};
 ghost use Rattle.std.specs.List.{list_all};
-ghost use Rattle.std.specs.Io.KnownBytes.{Appends};
-ghost use Rattle.publisher.specs.Texts.{alone_line, change_text, counters_line};
-ghost use Rattle.peer.specs.declared.ending.Ending.TheVariants.{Short, Whole};
+ghost use Rattle.peer.specs.declared.attendance.Ending.TheVariants.{Short, Whole};
 ghost use Rattle.publisher.specs.Endings.{is_whole_along};
 ghost use Rattle.publisher.specs.Judges.{IsToldOf, IsUnwritten, last_of};
-ghost use Rattle.publisher.specs.Texts.{at_text, behind_line, behind_text, left_out_line, left_out_text, quiet_line};
 
-use crate::destination::Destination;
-use crate::looking::{ChannelDevice, look};
+use crate::destination::{ChannelDevice, Destination, News};
 use crate::progress::{Progress, told_in};
-use crate::publisher_context::PublisherContext;
-use crate::seeing::News;
+use crate::sender_thread::PublisherContext;
 use crate::telling::{
-    Counts, ToldShortfall, Totals, shortfall_of, tell_alone, tell_change, tell_counters,
-    tell_refused, tell_totals, tell_whole, tell_why,
+    Counts, Line, ToldShortfall, Totals, change_in, shortfall_of, tell, tell_refused, tell_totals,
+    tell_whole, tell_why,
 };
 use endpoint::Datagrams;
-use peer::{Attendance, Behind, Ending};
+use peer::Ending;
 use std::io::Write;
-use std::net::SocketAddr;
-use std::{fmt, io};
 use text::Pace;
-
-/// One that is left behind, so far.
-#[derive(Clone, Copy)]
-struct CameBack(SocketAddr, Behind);
-
-impl fmt::Display for CameBack {
-    ghost output = { λ came_back. Some (behind_text came_back.0 came_back.1) };
-
-    fn fmt<W: fmt::Write>(&self, f: &mut fmt::Formatter<W>) -> fmt::Result {
-        let (peer, missing, reach) = (self.0, self.1.missing, self.1.reach);
-        write!(
-            f,
-            "{peer} came back {missing} bytes behind, of which {reach} can be sent again: left behind"
-        )
-    }
-}
-
-/// Where nobody was heard, for so many seconds.
-#[derive(Clone, Copy)]
-struct LeftOut(SocketAddr, u64);
-
-impl fmt::Display for LeftOut {
-    ghost output = { λ left_out. Some (left_out_text left_out.0 left_out.1) };
-
-    fn fmt<W: fmt::Write>(&self, f: &mut fmt::Formatter<W>) -> fmt::Result {
-        let (peer, seconds) = (self.0, self.1);
-        write!(
-            f,
-            "nobody was heard at {peer} for {seconds} s: the others begin without it"
-        )
-    }
-}
-
-/// Which of several destinations a line is about.
-fn tell_at<E: Write>(errors: &mut E, label: Option<SocketAddr>) -> io::Result<()>
-    ensures { OnOk result (Appends (E.contents errors.old) (E.contents errors.new) (at_text label)) }
-{
-    match label {
-        None => Ok(()),
-        Some(peer) => write!(errors, "{peer}: "),
-    }
-}
-
-/// Another receiver is heard there than before.
-#[tactic(auto, using(crate::proofs::Lines::behind))]
-fn tell_changed<E: Write>(
-    errors: &mut E,
-    label: Option<SocketAddr>,
-    attendance: &Attendance,
-) -> io::Result<()>
-    ensures { OnOk result (Appends (E.contents errors.old) (E.contents errors.new) (at_text label ++ change_text attendance.now)) }
-{
-    tell_at(errors, label)?;
-    tell_change(errors, attendance)
-}
-
-/// Nobody was heard there for five seconds.
-#[tactic(auto, using(crate::proofs::Lines::behind))]
-fn tell_nobody<E: Write>(errors: &mut E, label: Option<SocketAddr>) -> io::Result<()>
-    ensures { OnOk result (Appends (E.contents errors.old) (E.contents errors.new) (at_text label ++ alone_line)) }
-{
-    tell_at(errors, label)?;
-    tell_alone(errors)
-}
-
-/// The one that was heard there is silent for five seconds.
-#[tactic(auto, using(crate::proofs::Lines::behind))]
-fn tell_quiet<E: Write>(errors: &mut E, label: Option<SocketAddr>) -> io::Result<()>
-    ensures { OnOk result (Appends (E.contents errors.old) (E.contents errors.new) (at_text label ++ quiet_line)) }
-{
-    tell_at(errors, label)?;
-    writeln!(
-        errors,
-        "nothing was heard for 5 s: the others go on without it"
-    )
-}
-
-/// The counters of a destination.
-#[tactic(auto, using(crate::proofs::Lines::behind))]
-fn tell_traffic<E: Write>(
-    errors: &mut E,
-    label: Option<SocketAddr>,
-    counts: Counts,
-) -> io::Result<()>
-    ensures { OnOk result (Appends (E.contents errors.old) (E.contents errors.new) (at_text label ++ counters_line counts)) }
-{
-    tell_at(errors, label)?;
-    tell_counters(errors, counts)
-}
-
-/// The one that was heard there last is left behind, so far.
-fn tell_behind<E: Write>(errors: &mut E, peer: SocketAddr, behind: Behind) -> io::Result<()>
-    ensures { OnOk result (Appends (E.contents errors.old) (E.contents errors.new) (behind_line peer behind)) }
-{
-    let came_back = CameBack(peer, behind);
-    writeln!(errors, "{came_back}")
-}
-
-/// Nobody was heard there for so many seconds, and the others begin.
-pub(crate) fn tell_left_out<E: Write>(
-    errors: &mut E,
-    peer: SocketAddr,
-    seconds: u64,
-) -> io::Result<()>
-    ensures { OnOk result (Appends (E.contents errors.old) (E.contents errors.new) (left_out_line peer seconds)) }
-{
-    let left_out = LeftOut(peer, seconds);
-    writeln!(errors, "{left_out}")
-}
 
 /// Tells what is new along a destination.
 pub(crate) fn tell_news<D: Datagrams, E: Write>(
@@ -143,16 +26,18 @@ pub(crate) fn tell_news<D: Datagrams, E: Write>(
 ) {
     let label = destination.label();
     if news.changed {
-        let _ = tell_changed(errors, label, &destination.device.attendance());
+        if let Some(line) = change_in(&destination.device.attendance()) {
+            let _ = tell(errors, label, line);
+        }
     }
     if news.alone {
-        let _ = tell_nobody(errors, label);
+        let _ = tell(errors, label, Line::Alone);
     }
     if news.quiet && label.is_some() {
-        let _ = tell_quiet(errors, label);
+        let _ = tell(errors, label, Line::Quiet);
     }
     if let Some(behind) = news.behind {
-        let _ = tell_behind(errors, destination.peer, behind);
+        let _ = tell(errors, None, Line::CameBack(destination.peer, behind));
     }
 }
 
@@ -233,10 +118,9 @@ pub(crate) fn tell_all_done<D: Datagrams, E: Write>(
     bytes: u64,
     now: u64,
 ) {
-    let mut resends: u64 = 0;
-    for destination in destinations {
-        resends = resends.saturating_add(destination.device.tally().resends);
-    }
+    let resends = destinations.iter().fold(0u64, |sum, destination| {
+        sum.saturating_add(destination.device.tally().resends)
+    });
     let totals = Totals {
         pace: Pace {
             count: messages,
@@ -255,10 +139,7 @@ pub(crate) fn tell_each_refused<D: Datagrams, E: Write>(
 ) {
     for destination in destinations {
         let refused = destination.device.tally().refused;
-        if !refused.is_none() {
-            let _ = tell_at(errors, destination.label());
-            let _ = tell_refused(errors, refused);
-        }
+        let _ = tell_refused(errors, destination.label(), refused);
     }
 }
 
@@ -282,7 +163,7 @@ pub(crate) fn tell_counts<R, D: Datagrams, E: Write>(
     };
     let tail = context.state.tail();
     for destination in destinations {
-        let seen = look(destination.before, &destination.device);
+        let seen = destination.look();
         let counts = Counts {
             session: plan.session,
             messages,
@@ -292,6 +173,6 @@ pub(crate) fn tell_counts<R, D: Datagrams, E: Write>(
             tally: seen.tally,
             lost: seen.lost,
         };
-        let _ = tell_traffic(errors, destination.label(), counts);
+        let _ = tell(errors, destination.label(), Line::Counters(counts));
     }
 }

@@ -1,12 +1,12 @@
 ghost use Rattle.std.specs.Prelude.{◌≡◌, Some};
 ghost use Rattle.publisher.specs.Faults.{publish_fault};
 ghost use Rattle.publisher.specs.Texts.{number_of, text_of};
-ghost use Rattle.endpoint.specs.declared.device_error.DeviceError.TheVariants.{Device, Memory};
+ghost use Rattle.endpoint.specs.declared.device_error.DeviceError.TheVariants.{Memory};
 ghost use Rattle.publisher.specs.declared.fault.PublishFault.TheVariants.{Failed};
 
-use crate::offering::ReadingFault;
-use endpoint::{DeviceError, DeviceFailed, Route};
+use endpoint::{DeviceError, Route};
 use messages::InputFault;
+use offering::ReadingFault;
 use std::alloc::AllocError;
 use std::error::Error;
 use std::fmt;
@@ -75,14 +75,6 @@ impl From<DeviceError> for PublishFault {
 
     fn from(error: DeviceError) -> PublishFault {
         PublishFault::Failed(error)
-    }
-}
-
-impl From<DeviceFailed> for PublishFault {
-    ghost from_gives = { λ _ fault. fault ≡ Failed Device };
-
-    fn from(_failed: DeviceFailed) -> PublishFault {
-        PublishFault::Failed(DeviceError::Device)
     }
 }
 

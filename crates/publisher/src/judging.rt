@@ -1,14 +1,24 @@
-//! How the reading ended, and why a publisher goes on no more by that.
+//! How the reading ended, why a publisher goes on no more by that, and how its end was judged.
 
 ghost use Rattle.std.specs.Prelude.{◌≡◌, true, IfSome, OnErr, OnOk};
 ghost use Rattle.publisher.specs.Judging.{IsStop, end_in, fault_in, input_fault, messages_in, reading_fault, tail_in};
 ghost use Rattle.publisher.specs.Progress.{with_fault};
 
 use crate::fault::PublishFault;
-use crate::offering::{Reading, ReadingEnd};
 use crate::progress::Progress;
-use crate::telling::tell_fault;
+use crate::telling::{Line, ToldShortfall, tell};
+use offering::{Reading, ReadingEnd};
+use peer::Ending;
 use std::io::Write;
+
+/// How a publisher ends by whom it has heard, and how the reading had ended then, if it had.
+#[derive(Clone, Copy)]
+pub struct Judged {
+    pub ending: Ending,
+    pub reading: Option<Reading>,
+    /// The line that said why it ends short, where it does.
+    pub told: Option<ToldShortfall>,
+}
 
 /// Why the reading stopped, if that wasn't the input's end.
 pub fn fault_in(reading: &Option<Reading>) -> Option<PublishFault>
@@ -73,7 +83,7 @@ fn check_input<E: Write>(
     }
     if !progress.faulted {
         progress.faulted = true;
-        let _ = tell_fault(errors, fault);
+        let _ = tell(errors, None, Line::Faulted(fault));
     }
     Ok(())
 }

@@ -3,7 +3,7 @@
 ghost use Rattle.std.specs.Prelude.{◌≡◌, ◌⊎◌, ◌∷◌, ◌++◌, [], IfSome, Ok};
 ghost use Rattle.std.specs.Arc.{arc_value};
 ghost use Rattle.std.specs.List.{AllByRecursion};
-ghost use Rattle.peer.specs.declared.ending.Ending.TheVariants.{Whole};
+ghost use Rattle.peer.specs.declared.attendance.Ending.TheVariants.{Whole};
 ghost use Rattle.shared_log.specs.Books.{IsCommittedBy, IsDone};
 ghost use Rattle.shared_log.specs.Handles.{LogValue};
 ghost use Rattle.shared_log.specs.Readers.{known_of};
@@ -11,7 +11,7 @@ ghost use Rattle.publisher.specs.Ended.{CanClose, IsClosed, LeavesPasses, ShowsA
 ghost use Rattle.publisher.specs.Shorts.{unclosed};
 
 use crate::fault::PublishFault;
-use crate::offering::{InputEnd, OfferingState};
+use offering::{InputEnd, OfferingState};
 use peer::Ending;
 use shared_log::{Book, Keeper, Log, LogReader, Publisher, close_read};
 use std::sync::Arc;

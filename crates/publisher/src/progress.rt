@@ -1,10 +1,9 @@
 //! What a publisher has seen and told.
 
 ghost use Rattle.std.specs.Prelude.{◌≡◌, ◌||◌, not, nat_eq};
-ghost use Rattle.peer.specs.Silences.{judged};
-ghost use Rattle.publisher.specs.Progress.{end_to_tell, is_alone, is_broken, is_end_due, is_nobody, is_shown, nothing_seen, seen, shown_at, shown_messages, told_of, with_end_told, with_work};
+ghost use Rattle.publisher.specs.Progress.{end_to_tell, is_alone, is_broken, is_end_due, is_shown, nothing_seen, seen, shown_at, shown_messages, told_of, with_end_told, with_work};
 
-use crate::looking::Seen;
+use crate::destination::Seen;
 use peer::{Attendance, Silence};
 
 /// Nanoseconds from one line of counters to the next.
@@ -39,12 +38,6 @@ pub fn told_in(attendance: &Attendance) -> u64
         None => attendance.start,
         Some(heard) => heard.last,
     }
-}
-
-fn is_nobody(attendance: &Attendance) -> bool
-    ensures { result ≡ is_nobody attendance.now.present }
-{
-    attendance.present.is_none()
 }
 
 impl Progress {
@@ -104,16 +97,9 @@ impl Progress {
         ensures due { result ≡ is_alone self.old attendance.now now }
         ensures told { self.new ≡ record self.old { alone = self.old.alone || result } }
     {
-        let alone = !self.alone && is_nobody(attendance) && ALONE <= now;
+        let alone = !self.alone && attendance.present.is_none() && ALONE <= now;
         self.alone = self.alone || alone;
         alone
-    }
-
-    /// For how many nanoseconds no status message came, where that is judged.
-    pub fn silence(&self, cycle: &Seen, now: u64) -> Option<u64>
-        ensures { result ≡ judged self.now.statuses cycle.now.at_rest now }
-    {
-        self.statuses.judged(cycle.at_rest, now)
     }
 
     /// Whether the stream's end wasn't told for 100 ms.

@@ -15,27 +15,24 @@ ghost use Rattle.publisher.specs.Progress.{end_to_tell, with_end_told};
 ghost use Rattle.publisher.specs.declared.fault.PublishFault.TheVariants.{Failed};
 ghost use Rattle.publisher.specs.Destinations.{begins_now, heard_count, is_heard_along, next_number, numbered_from, unnumbered, with_flow, with_number};
 ghost use Rattle.publisher.specs.Endings.{is_broken_along};
-ghost use Rattle.publisher.specs.Farewells.{TellsWhereDue, end_unless_judged};
+ghost use Rattle.publisher.specs.Farewells.{TellsWhereDue};
 ghost use Rattle.publisher.specs.Judges.{HasToldWhy, Judges};
 ghost use Rattle.publisher.specs.Seeing.{LivesAlong, begun, seen_along};
 ghost use Rattle.publisher.specs.Turns.{Begins, Cycles, EndsBehind, LivedAt, LivedToLast};
 
-use crate::destination::Destination;
-use crate::destination_lines::{tell_all_done, tell_counts, tell_ending, tell_left_out, tell_news};
-use crate::ending::{are_broken, ending_along};
+use crate::destination::{ChannelDevice, Destination, are_broken, begin_all, ending_along};
+use crate::destination_lines::{tell_all_done, tell_counts, tell_ending, tell_news};
 use crate::fault::PublishFault;
-use crate::judged::Judged;
-use crate::judging::{check_reading, end_in, messages_in, tail_in};
-use crate::looking::ChannelDevice;
-use crate::offering::Reading;
+use crate::judging::{Judged, check_reading, end_in, messages_in, tail_in};
 use crate::progress::Progress;
-use crate::publisher_context::PublisherContext;
-use crate::seeing::begin_all;
+use crate::telling::{Line, NANOSECONDS_PER_SECOND, tell};
 use crate::two_threads::tell_all;
-use agents::{Duty, IdleStrategy, StreamSender, conduct};
-use conductor::{Client, Taker};
+use agents::{Began, Duty, IdleStrategy, StreamSender, conduct};
+use conductor::{Client, Conductor, Taker};
 use endpoint::{Datagrams, DeviceError, Fan};
 use flow_control::StreamFlow;
+use offering::OfferingState;
+use options::PublishPlan;
 use shared_log::Keeper;
 use std::io::Write;
 use std::net::SocketAddr;
@@ -51,9 +48,6 @@ const MOST_DESTINATIONS: usize = 8;
 /// Below this lies each position of a stream.
 const MOST_POSITIONS: u64 = 1 << 63;
 
-/// The nanoseconds of a second.
-const NANOSECONDS_PER_SECOND: u64 = 1_000_000_000;
-
 /// What a publisher sends with: all its destinations.
 pub type Destinations<D> = Fan<Destination<ChannelDevice<D>>>;
 
@@ -64,6 +58,17 @@ pub struct SenderPasses<D> {
     pub duty: Duty<D>,
     pub keeper: Keeper,
     pub taker: Taker,
+}
+
+/// What the thread that sends is lent: its plan, what it shares with the one that reads, the command queue, and the moment of
+/// the begin.
+#[derive(Drop)]
+pub struct PublisherContext<'a, R> {
+    pub rt: &'a R,
+    pub plan: &'a PublishPlan,
+    pub state: &'a OfferingState,
+    pub conductor: &'a Conductor,
+    pub began: Began,
 }
 
 /// What sends and keeps, and whom a line names that is about none of its destinations alone: the first of them.
@@ -108,24 +113,16 @@ fn see<D: Datagrams, E: Write>(
     see_all(duty.device_mut().each_mut(), errors, linger, now);
 }
 
-/// How many datagrams were passed over, of all destinations, modulo 2^64.
-fn passed_along<D: Datagrams>(destinations: &[Destination<ChannelDevice<D>>]) -> u64 {
-    let mut passed: u64 = 0;
-    for destination in destinations.iter() {
-        passed = passed.wrapping_add(destination.device.tally().passed);
-    }
-    passed
-}
-
-/// Up to where the stream was sent, how many datagrams were sent again, to each destination the same, and how many were passed over.
-/// What else comes and goes is no work.
+/// Up to where the stream was sent, how many datagrams were sent again, to each destination the same, and how many were passed over,
+/// of all, modulo 2^64. What else comes and goes is no work.
 fn work_of<D: Datagrams>(sender: &ChannelSender<'_, D>) -> (u64, u64, u64) {
     let destinations = sender.passes.duty.device().each();
-    let resends = match destinations.first() {
-        None => 0,
-        Some(destination) => destination.device.tally().resends,
-    };
-    (sender.agent.position(), resends, passed_along(destinations))
+    let first = destinations.first();
+    let resends = first.map_or(0, |destination| destination.device.tally().resends);
+    let passed = destinations.iter().fold(0u64, |sum, destination| {
+        sum.wrapping_add(destination.device.tally().passed)
+    });
+    (sender.agent.position(), resends, passed)
 }
 
 /// A cycle of the conductor, with what a sender keeps the log by. Whether there was work.
@@ -195,16 +192,6 @@ fn cycle<R: Wait + Clock, D: Datagrams, E: Write>(
     let busy = run_cycle(context, sender, now)?;
     see(&mut sender.passes.duty, errors, context.plan.linger, now);
     Ok(busy)
-}
-
-/// Where the stream ends, if its input has ended and the publisher goes on.
-pub fn end_unless_judged(judged: &Option<Judged>, reading: &Option<Reading>) -> Option<u64>
-    ensures { result ≡ end_unless_judged judged.now reading.now }
-{
-    match *judged {
-        None => end_in(reading),
-        Some(_) => None,
-    }
 }
 
 /// Tells the receivers at all destinations where the stream ends, where the input has ended, all was sent, and it wasn't told for
@@ -315,7 +302,8 @@ fn number<D, E: Write>(
         return;
     }
     destination.id = Some(OUTSIDE);
-    let _ = tell_left_out(errors, destination.peer, wait / NANOSECONDS_PER_SECOND);
+    let seconds = wait / NANOSECONDS_PER_SECOND;
+    let _ = tell(errors, None, Line::LeftOut(destination.peer, seconds));
 }
 
 /// The number that comes behind this destination's.
@@ -435,7 +423,7 @@ pub(crate) fn send_all<R: Wait + Clock, D: Datagrams, E: Write>(
             return Ok(judged);
         }
         begun = begin_with_heard(sender, errors, begun, context.plan.wait, now);
-        let end = end_unless_judged(&judged, &context.state.reading());
+        let end = end_in(&context.state.reading());
         tell_end_where_due(sender, &mut progress, end, now);
         idle.after(context.rt, busy);
     }

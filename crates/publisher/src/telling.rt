@@ -3,45 +3,19 @@
 ghost use Rattle.std.specs.Prelude.{◌≡◌, ◌≢◌, IsTrue, OnOk, Some};
 ghost use Rattle.std.specs.Io.KnownBytes.{Appends};
 ghost use Rattle.frames.specs.FaultCounts.{uncounted};
-ghost use Rattle.publisher.specs.Texts.{alone_line, change_text, counters_line, empty_line, fault_line, gave_up_line, gave_up_text, joined_text, left_text, refused_line, shortfall_of, stream_text, totals_line, totals_text, traffic_text, whole_text};
+ghost use Rattle.publisher.specs.Texts.{change_in, counters_text, gave_up_line, gave_up_text, line_at, line_text, refused_line, shortfall_of, totals_line, totals_text, traffic_text, whole_text};
 ghost use Rattle.publisher.specs.Whys.{SaysElsewhere, SaysUnclosed};
 
 use crate::fault::PublishFault;
 use frames::FaultCounts;
-use peer::{Attendance, Ending, Heard, Tally};
+use peer::{Attendance, Behind, Ending, Heard, Tally};
 use std::io::Write;
 use std::net::SocketAddr;
 use std::{fmt, io};
 use text::Pace;
 
 /// The nanoseconds of a second.
-const NANOSECONDS_PER_SECOND: u64 = 1_000_000_000;
-
-/// The receiver that was heard before, and what it told last.
-#[derive(Clone, Copy)]
-struct Left(Heard);
-
-impl fmt::Display for Left {
-    ghost output = { λ left. Some (left_text left.0) };
-
-    fn fmt<W: fmt::Write>(&self, f: &mut fmt::Formatter<W>) -> fmt::Result {
-        let (receiver, last) = (self.0.receiver, self.0.last);
-        write!(f, "receiver {receiver} left at position {last}")
-    }
-}
-
-/// The one that is heard now, and what it told first.
-#[derive(Clone, Copy)]
-struct Joined(Heard);
-
-impl fmt::Display for Joined {
-    ghost output = { λ joined. Some (joined_text joined.0) };
-
-    fn fmt<W: fmt::Write>(&self, f: &mut fmt::Formatter<W>) -> fmt::Result {
-        let (receiver, first) = (self.0.receiver, self.0.first);
-        write!(f, "receiver {receiver} joined at position {first}")
-    }
-}
+pub(crate) const NANOSECONDS_PER_SECOND: u64 = 1_000_000_000;
 
 /// The session, how many messages were accepted in all and since this was told, where they end, what was told, and what the
 /// device has counted.
@@ -54,29 +28,6 @@ pub struct Counts {
     pub told: u64,
     pub tally: Tally,
     pub lost: u64,
-}
-
-/// How far the stream is.
-#[derive(Clone, Copy)]
-struct Stream(Counts);
-
-impl fmt::Display for Stream {
-    ghost output = { λ stream. Some (stream_text stream.0) };
-
-    fn fmt<W: fmt::Write>(&self, f: &mut fmt::Formatter<W>) -> fmt::Result {
-        let Counts {
-            session,
-            messages,
-            recent,
-            tail,
-            told,
-            ..
-        } = self.0;
-        write!(
-            f,
-            "session {session} messages {messages} recent {recent} tail {tail} told {told}"
-        )
-    }
 }
 
 /// What went over the device.
@@ -97,16 +48,17 @@ impl fmt::Display for Traffic {
     }
 }
 
-/// Another receiver is heard than before, if one is.
-#[tactic(auto, using(crate::proofs::Lines::on_change))]
-pub fn tell_change<E: Write>(errors: &mut E, attendance: &Attendance) -> io::Result<()>
-    ensures { OnOk result (Appends (E.contents errors.old) (E.contents errors.new) (change_text attendance.now)) }
-{
-    let (Some(left), Some(present)) = (attendance.left, attendance.present) else {
-        return Ok(());
-    };
-    let (left, present) = (Left(left), Joined(present));
-    writeln!(errors, "{left}, {present}")
+impl fmt::Display for Counts {
+    ghost output = { λ counts. Some (counters_text counts) };
+
+    fn fmt<W: fmt::Write>(&self, f: &mut fmt::Formatter<W>) -> fmt::Result {
+        let traffic = Traffic(*self);
+        write!(
+            f,
+            "session {} messages {} recent {} tail {} told {} {traffic}",
+            self.session, self.messages, self.recent, self.tail, self.told
+        )
+    }
 }
 
 /// Why a publisher gave up on a subscriber.
@@ -132,7 +84,7 @@ pub enum Shortfall {
 
 /// A publisher's end towards a subscriber: its address, and why it gave up on it.
 #[derive(Clone, Copy)]
-struct GaveUp(SocketAddr, Shortfall);
+pub struct GaveUp(SocketAddr, Shortfall);
 
 impl fmt::Display for GaveUp {
     ghost output = { λ gave_up. Some (gave_up_text gave_up.0 gave_up.1) };
@@ -167,6 +119,115 @@ impl fmt::Display for GaveUp {
     }
 }
 
+/// What a publisher has done at its end.
+#[derive(Clone, Copy)]
+pub struct Totals {
+    /// How many messages were accepted, and for how long it published.
+    pub pace: Pace,
+    /// How many bytes of the stream they are, with headers and alignment.
+    pub bytes: u64,
+    /// How many datagrams were sent again.
+    pub resends: u64,
+}
+
+impl fmt::Display for Totals {
+    ghost output = { λ totals. Some (totals_text totals) };
+
+    fn fmt<W: fmt::Write>(&self, f: &mut fmt::Formatter<W>) -> fmt::Result {
+        let Totals {
+            pace,
+            bytes,
+            resends,
+        } = *self;
+        let messages = pace.count;
+        write!(
+            f,
+            "published {messages} messages, {bytes} bytes of stream, {pace}; {resends} datagrams sent again"
+        )
+    }
+}
+
+/// A line.
+#[derive(Clone, Copy)]
+pub enum Line {
+    /// The one that was heard before, with what it told last, and the one that is heard now, with what it told first.
+    Changed(Heard, Heard),
+    /// Nobody was heard for five seconds.
+    Alone,
+    /// The one that was heard is silent for five seconds, and is one of several.
+    Quiet,
+    /// The one that was heard there last is left behind, so far.
+    CameBack(SocketAddr, Behind),
+    /// Nobody was heard there for so many seconds, and the others begin.
+    LeftOut(SocketAddr, u64),
+    /// Why no message comes any more.
+    Faulted(PublishFault),
+    /// Why it gave up on the subscriber there.
+    GaveUp(GaveUp),
+    /// The input was empty.
+    Empty,
+    /// The counters.
+    Counters(Counts),
+    /// What it has done, in all.
+    Done(Totals),
+    /// How many datagrams were refused, by their faults.
+    Refused(FaultCounts),
+}
+
+impl fmt::Display for Line {
+    ghost output = { λ line. Some (line_text line) };
+
+    fn fmt<W: fmt::Write>(&self, f: &mut fmt::Formatter<W>) -> fmt::Result {
+        match *self {
+            Line::Changed(left, present) => write!(
+                f,
+                "receiver {} left at position {}, receiver {} joined at position {}",
+                left.receiver, left.last, present.receiver, present.first
+            ),
+            Line::Alone => write!(
+                f,
+                "nobody was heard for 5 s: no subscriber is there, or it follows another publisher, or takes another stream or session, or only shorter terms"
+            ),
+            Line::Quiet => write!(f, "nothing was heard for 5 s: the others go on without it"),
+            Line::CameBack(peer, behind) => write!(
+                f,
+                "{peer} came back {} bytes behind, of which {} can be sent again: left behind",
+                behind.missing, behind.reach
+            ),
+            Line::LeftOut(peer, seconds) => write!(
+                f,
+                "nobody was heard at {peer} for {seconds} s: the others begin without it"
+            ),
+            Line::Faulted(fault) => write!(f, "{fault}; what came before it is delivered first"),
+            Line::GaveUp(gave_up) => write!(f, "{gave_up}"),
+            Line::Empty => write!(f, "the input was empty: nothing was published"),
+            Line::Counters(counts) => write!(f, "{counts}"),
+            Line::Done(totals) => write!(f, "{totals}"),
+            Line::Refused(refused) => write!(f, "refused{refused}"),
+        }
+    }
+}
+
+/// Tells a line. Where it is about one of several destinations, the address of that stands before it.
+pub fn tell<E: Write>(errors: &mut E, label: Option<SocketAddr>, line: Line) -> io::Result<()>
+    ensures { OnOk result (Appends (E.contents errors.old) (E.contents errors.new) (line_at label line)) }
+{
+    match label {
+        None => writeln!(errors, "{line}"),
+        Some(peer) => writeln!(errors, "{peer}: {line}"),
+    }
+}
+
+/// Another receiver is heard than before, if one is.
+pub fn change_in(attendance: &Attendance) -> Option<Line>
+    ensures { result ≡ change_in attendance.now }
+{
+    match (attendance.left, attendance.present) {
+        (Some(left), Some(present)) => Some(Line::Changed(left, present)),
+        _ => None,
+    }
+}
+
 /// What a publisher that ends short lacks of a subscriber, by whom it has heard, where its stream ends, if its input has
 /// ended, how far that has come, and for how many nanoseconds no status message came.
 pub fn shortfall_of(
@@ -190,18 +251,6 @@ pub fn shortfall_of(
     }
 }
 
-/// Why it gave up on the subscriber there.
-pub fn tell_shortfall<E: Write>(
-    errors: &mut E,
-    peer: SocketAddr,
-    shortfall: Shortfall,
-) -> io::Result<()>
-    ensures { OnOk result (Appends (E.contents errors.old) (E.contents errors.new) (gave_up_line peer shortfall)) }
-{
-    let gave_up = GaveUp(peer, shortfall);
-    writeln!(errors, "{gave_up}")
-}
-
 /// A line that was given to an output: why a publisher gave up on the subscriber there. Only who gives it makes one.
 #[derive(Clone, Copy)]
 pub struct ToldShortfall {
@@ -216,7 +265,8 @@ pub fn tell_why<E: Write>(errors: &mut E, peer: SocketAddr, shortfall: Shortfall
     ensures why { (result.peer ≡ peer) × (result.shortfall ≡ shortfall) }
     ensures line { IsTrue result.taken → Appends (E.contents errors.old) (E.contents errors.new) (gave_up_line peer shortfall) }
 {
-    let taken = tell_shortfall(errors, peer, shortfall).is_ok();
+    let line = Line::GaveUp(GaveUp(peer, shortfall));
+    let taken = tell(errors, None, line).is_ok();
     ToldShortfall {
         peer,
         shortfall,
@@ -224,19 +274,12 @@ pub fn tell_why<E: Write>(errors: &mut E, peer: SocketAddr, shortfall: Shortfall
     }
 }
 
-/// The input was empty.
-fn tell_empty<E: Write>(errors: &mut E) -> io::Result<()>
-    ensures { OnOk result (Appends (E.contents errors.old) (E.contents errors.new) empty_line) }
-{
-    writeln!(errors, "the input was empty: nothing was published")
-}
-
 /// That a publisher ends whole of a stream from `start` to `tail` is told where nothing was published.
 pub fn tell_whole<E: Write>(errors: &mut E, start: u64, tail: u64) -> io::Result<()>
     ensures { OnOk result (Appends (E.contents errors.old) (E.contents errors.new) (whole_text start tail)) }
 {
     if tail == start {
-        return tell_empty(errors);
+        return tell(errors, None, Line::Empty);
     }
     Ok(())
 }
@@ -273,59 +316,6 @@ pub fn tell_if_unclosed<E: Write>(
     }
 }
 
-/// Nobody was heard for five seconds.
-pub fn tell_alone<E: Write>(errors: &mut E) -> io::Result<()>
-    ensures { OnOk result (Appends (E.contents errors.old) (E.contents errors.new) alone_line) }
-{
-    writeln!(
-        errors,
-        "nobody was heard for 5 s: no subscriber is there, or it follows another publisher, or takes another stream or session, or only shorter terms"
-    )
-}
-
-/// Why no message comes any more.
-pub fn tell_fault<E: Write>(errors: &mut E, fault: PublishFault) -> io::Result<()>
-    ensures { OnOk result (Appends (E.contents errors.old) (E.contents errors.new) (fault_line fault)) }
-{
-    writeln!(errors, "{fault}; what came before it is delivered first")
-}
-
-/// The counters.
-pub fn tell_counters<E: Write>(errors: &mut E, counts: Counts) -> io::Result<()>
-    ensures { OnOk result (Appends (E.contents errors.old) (E.contents errors.new) (counters_line counts)) }
-{
-    let (stream, traffic) = (Stream(counts), Traffic(counts));
-    writeln!(errors, "{stream} {traffic}")
-}
-
-/// What a publisher has done at its end.
-#[derive(Clone, Copy)]
-pub struct Totals {
-    /// How many messages were accepted, and for how long it published.
-    pub pace: Pace,
-    /// How many bytes of the stream they are, with headers and alignment.
-    pub bytes: u64,
-    /// How many datagrams were sent again.
-    pub resends: u64,
-}
-
-impl fmt::Display for Totals {
-    ghost output = { λ totals. Some (totals_text totals) };
-
-    fn fmt<W: fmt::Write>(&self, f: &mut fmt::Formatter<W>) -> fmt::Result {
-        let Totals {
-            pace,
-            bytes,
-            resends,
-        } = *self;
-        let messages = pace.count;
-        write!(
-            f,
-            "published {messages} messages, {bytes} bytes of stream, {pace}; {resends} datagrams sent again"
-        )
-    }
-}
-
 /// What it has done, in all, where it was any message.
 pub fn tell_totals<E: Write>(errors: &mut E, totals: Totals) -> io::Result<()>
     ensures some { totals.pace.count ≢ 0 → OnOk result (Appends (E.contents errors.old) (E.contents errors.new) (totals_line totals)) }
@@ -334,16 +324,20 @@ pub fn tell_totals<E: Write>(errors: &mut E, totals: Totals) -> io::Result<()>
     if totals.pace.count == 0 {
         return Ok(());
     }
-    writeln!(errors, "{totals}")
+    tell(errors, None, Line::Done(totals))
 }
 
 /// How many datagrams were refused, by their faults, where any was.
-pub fn tell_refused<E: Write>(errors: &mut E, refused: FaultCounts) -> io::Result<()>
-    ensures told { refused ≢ uncounted → OnOk result (Appends (E.contents errors.old) (E.contents errors.new) (refused_line refused)) }
+pub fn tell_refused<E: Write>(
+    errors: &mut E,
+    label: Option<SocketAddr>,
+    refused: FaultCounts,
+) -> io::Result<()>
+    ensures told { refused ≢ uncounted → OnOk result (Appends (E.contents errors.old) (E.contents errors.new) (refused_line label refused)) }
     ensures quiet { refused ≡ uncounted → OnOk result (E.contents errors.new ≡ E.contents errors.old) }
 {
     if refused.is_none() {
         return Ok(());
     }
-    writeln!(errors, "refused{refused}")
+    tell(errors, label, Line::Refused(refused))
 }

@@ -3,28 +3,25 @@
 ghost use Rattle.std.specs.Prelude.{◌≡◌, Err, IfOk, IfSome, Ok, length, map, true};
 ghost use Rattle.agents.specs.LogSenders.{SendsLog};
 ghost use Rattle.sender_meaning.specs.StreamLives.{StreamLived};
-ghost use Rattle.peer.specs.declared.ending.Ending.TheVariants.{Short, Whole};
+ghost use Rattle.peer.specs.declared.attendance.Ending.TheVariants.{Short, Whole};
 ghost use Rattle.publisher.specs.Ended.{AllHaveArrived, reading_left};
 ghost use Rattle.publisher.specs.Endings.{heard_along};
 ghost use Rattle.publisher.specs.Farewells.{AreTold, TellsFarewell, are_told_alone, are_told_no_other, ending_told, ending_unless_another, ends_along, farewell_in, has_told_alone, has_told_no_other, noted, told_times};
-ghost use Rattle.publisher.specs.InputEnds.{EndsInput};
+ghost use Rattle.offering.specs.InputEnds.{EndsInput};
 ghost use Rattle.publisher.specs.Judging.{end_in, ended_by, fault_in, is_read};
 ghost use Rattle.publisher.specs.Openings.{ArePasses, IsKept};
 ghost use Rattle.publisher.specs.Turns.{SaysWhy};
 ghost use Rattle.publisher.specs.Whys.{told_by};
 
-use crate::destination::Destination;
+use crate::destination::{ChannelDevice, Destination};
 use crate::destination_lines::tell_each_refused;
 use crate::fault::PublishFault;
-use crate::judged::Judged;
-use crate::judging::{end_in, fault_in};
-use crate::looking::ChannelDevice;
-use crate::offering::{InputEnd, Reader, Reading, ReadingEnd};
-use crate::publisher_context::PublisherContext;
-use crate::sender_thread::{ChannelSender, Destinations, send_all};
+use crate::judging::{Judged, end_in, fault_in};
+use crate::sender_thread::{ChannelSender, Destinations, PublisherContext, send_all};
 use crate::telling::{ToldShortfall, tell_if_elsewhere};
 use agents::Duty;
 use endpoint::{Datagrams, DeviceError};
+use offering::{InputEnd, Reader, Reading, ReadingEnd};
 use peer::{Attendance, Ending, ToldEnds};
 use position::Geometry;
 use std::alloc::{AllocError, Global};
@@ -188,11 +185,10 @@ fn attendances_of<D: Datagrams>(
 ) -> Result<Vec<Attendance>, AllocError>
     ensures { IfOk result (λ all. all.items ≡ map heard_along destinations.now) }
 {
-    let mut all = Vec::new(alloc);
-    for destination in destinations {
-        all.push(destination.device.attendance())?;
-    }
-    Ok(all)
+    destinations
+        .iter()
+        .map(|destination| destination.device.attendance())
+        .collect(alloc)
 }
 
 /// The ends of the stream that the device of each destination was given to tell.
@@ -202,33 +198,25 @@ fn ends_of<D: Datagrams>(
 ) -> Result<Vec<Option<ToldEnds>>, AllocError>
     ensures { IfOk result (λ all. all.items ≡ map ends_along destinations.now) }
 {
-    let mut all = Vec::new(alloc);
-    for destination in destinations {
-        all.push(destination.device.ends())?;
-    }
-    Ok(all)
+    destinations
+        .iter()
+        .map(|destination| destination.device.ends())
+        .collect(alloc)
 }
 
 /// Whether each device told this end alone.
 fn are_told_alone(ends: &[Option<ToldEnds>], geometry: &Geometry, end: Option<u64>) -> bool
     ensures { result ≡ are_told_alone geometry.now end ends.now }
 {
-    let mut all = true;
-    for told in ends {
-        all = all && has_told_alone(*told, geometry, end);
-    }
-    all
+    ends.iter().all(|told| has_told_alone(*told, geometry, end))
 }
 
 /// Whether no device told an end but this one.
 fn are_told_no_other(ends: &[Option<ToldEnds>], geometry: &Geometry, end: Option<u64>) -> bool
     ensures { result ≡ are_told_no_other geometry.now end ends.now }
 {
-    let mut all = true;
-    for told in ends {
-        all = all && has_told_no_other(*told, geometry, end);
-    }
-    all
+    ends.iter()
+        .all(|told| has_told_no_other(*told, geometry, end))
 }
 
 /// Tells the receiver along a destination where the stream ends.

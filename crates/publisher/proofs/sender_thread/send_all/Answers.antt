@@ -1,7 +1,7 @@
 use Rattle.std.proofs.Common.{◌≡◌, ◌∙◌, zero, suc, IfSome, List, Option, length, ap, refl, subst}
 use Rattle.sender_meaning.proofs.StreamLiving.{lived_any, lived_on, lived_same, lived_to_any, lived_to_on}
 use Rattle.publisher.specs.Progress.{end_to_tell}
-use Rattle.publisher.specs.declared.judged.Judged.{Judged}
+use Rattle.publisher.specs.declared.judging.Judged.{Judged}
 use Rattle.publisher.specs.Judges.{HasToldWhy}
 use Rattle.publisher.specs.Seeing.{ChannelDestination}
 use Rattle.publisher.proofs.Begun.{passes_on, sends_on, turn_lived}
@@ -61,7 +61,7 @@ loop-preserved g c =
             cycles = c.in_ok-busy.ensures.cycles;
             beginning = beginning;
             begins = c.begin_with_heard-begun.ensures.begins;
-            end = end_to_tell c.judge.new.progress c.end_unless_judged-end.result beginning.agent.core.handler.at c.in_ok-now.now;
+            end = end_to_tell c.judge.new.progress c.end_in-end.result beginning.agent.core.handler.at c.in_ok-now.now;
             told = c.tell_end_where_due.ensures.told;
             agent = c.tell_end_where_due.ensures.agent;
           },

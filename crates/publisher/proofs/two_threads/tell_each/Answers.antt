@@ -1,4 +1,5 @@
-use Rattle.std.proofs.Common.{◌<◌, length, arith}
+use Rattle.std.proofs.Common.{◌<◌, ◌≤◌, ◌∙◌, ap, length, map, arith, sym}
+use Rattle.std.proofs.lemmas.List.{take_all}
 use Rattle.publisher.specs.Farewells.{noted, told_times}
 use Rattle.publisher.proofs.Written.{shown, written_rest}
 use Rattle.publisher.proofs.two_threads.tell_each.Goals as goal
@@ -16,3 +17,9 @@ loop-destination-preserved g c =
       told = shown noted (λ w. told_times 1 c.args.tail (noted w)) xs ys i c.tell.new.destination w lx ly c.loop-destination.invariant.told c.loop-destination.invariant.rest c.tell.ensures;
       rest = written_rest xs ys i c.tell.new.destination w lx ly c.loop-destination.invariant.rest;
     }
+
+pub returns : goal.returns
+returns g c =
+    let i = c.loop-destination.destination-index in let same = c.loop-destination.auto.destinations in let end = c.loop-destination-test.false in
+    let all : length c.loop-destination.destinations ≤ i = omega (arith, same, end) in
+    ap (map noted) (sym (take_all i c.loop-destination.destinations all)) ∙ c.loop-destination.invariant.told ∙ ap (map (λ w. told_times 1 c.args.tail (noted w))) (take_all i c.args.destinations.now end)

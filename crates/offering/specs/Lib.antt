@@ -1,0 +1,4 @@
+pub mod Inputs
+pub mod Refusals
+pub mod Offers
+pub mod InputEnds

@@ -1,0 +1,7 @@
+use Rattle.publisher.proofs.telling.LineDisplay.fmt.Goals as goal
+
+pub returns-in-Changed-clause-writes : goal.returns-in-Changed-clause-writes
+returns-in-Changed-clause-writes g c = rw c.in-Changed.is c.write.ensures.writes
+
+pub returns-in-CameBack-clause-writes : goal.returns-in-CameBack-clause-writes
+returns-in-CameBack-clause-writes g c = rw c.in-CameBack.is c.write-in-CameBack.ensures.writes
