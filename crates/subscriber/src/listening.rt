@@ -12,13 +12,14 @@ ghost use Rattle.frames.specs.Frames.{header_of, setup_of, status_of};
 ghost use Rattle.subscriber.specs.Calls.{Heeds, IsCall, IsCallWith, IsJoined, IsJoinedBy};
 ghost use Rattle.subscriber.specs.Meetings.{Opens, id_of};
 ghost use Rattle.subscriber.specs.Texts.{waiting_counts, waiting_line};
-ghost use Rattle.subscriber.specs.Watches.{IsQuiet, TellsWhereDue, after_call};
+ghost use Rattle.subscriber.specs.Watches.{HasWaited, TellsWhereDue, after_call};
 
 pub(crate) mod setup_offer;
 
 use crate::images::follower::Follower;
 use crate::images::session::Session;
 use crate::images::session_device::{SessionDevice, SubscriberDevice};
+use crate::images::session_watch::SessionWatch;
 use crate::images::{Images, Unheard};
 use crate::listening::setup_offer::{
     SetupOffer, header_in, id_of, meeting_of, opened, takes_session,
@@ -161,6 +162,7 @@ fn join(
             end: None,
         },
         duty,
+        watch: SessionWatch::new(now),
         lost: false,
         silent: false,
         warned: false,
@@ -199,7 +201,7 @@ pub fn listen<R: Wait + Clock, E: Write>(
     watch: &mut Watch,
 ) -> Result<Option<Session>, DeviceError>
     ensures joined { IfOk result (λ found. IfSome found (IsJoined plan.now watch.new)) }
-    ensures quiet { IfOk result (λ found. IfNone found (IsQuiet plan.now watch.new)) }
+    ensures quiet { IfOk result (λ found. IfNone found (HasWaited plan.now watch.new)) }
     // For each datagram that calls for a SETUP its sender was asked.
     ensures asks { listener.asks ≡ watch.old.calls → IfOk result (λ found. IfSome found (λ j. j.duty.device.inner.inner.inner.socket.asks ≡ watch.new.calls)) }
 {

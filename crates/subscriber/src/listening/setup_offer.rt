@@ -13,7 +13,6 @@ ghost use Rattle.theory.specs.Wire.{IsFrame, IsHeader, SETUP, spelling};
 
 use crate::images::session::Session;
 use crate::images::{Loss, loss_between};
-use crate::watch::Watch;
 use frames::{Frame, Header, Setup, read_frame, write_frame};
 use options::SubscribePlan;
 use peer::end_told;
@@ -102,27 +101,30 @@ impl SetupOffer {
     }
 
     /// Whether an image gives way to it: to the next publisher's where it has ended, else where it is silent or lost.
-    pub(crate) fn takes_the_place(&self, session: &Session, watch: &Watch, rebuilt: u64) -> bool
-        ensures { IsTrue result ↔ GivesWay watch.now self.now rebuilt session.now }
+    pub(crate) fn takes_the_place(&self, session: &Session, rebuilt: u64) -> bool
+        ensures { IsTrue result ↔ GivesWay self.now rebuilt session.now }
     {
         if session.ended {
             return self.is_next(session);
         }
-        watch.is_silent() || (watch.is_behind() && self.is_ahead(session, rebuilt))
+        session.watch.is_silent()
+            || (session.watch.is_behind() && self.is_ahead(session, rebuilt))
     }
 
     /// Whether it is the session's own again, which was silent and hasn't ended, where the image is rebuilt up to here.
-    pub(crate) fn is_again(&self, session: &Session, watch: &Watch, rebuilt: u64) -> bool
-        ensures { IsTrue result ↔ IsAgain watch.now self.now rebuilt session.now }
+    pub(crate) fn is_again(&self, session: &Session, rebuilt: u64) -> bool
+        ensures { IsTrue result ↔ IsAgain self.now rebuilt session.now }
     {
-        !session.ended && watch.is_silent() && self.opening.goes_on(&session.opening, rebuilt)
+        !session.ended
+            && session.watch.is_silent()
+            && self.opening.goes_on(&session.opening, rebuilt)
     }
 
     /// What is missing behind an image that gives way to it: where what it lacks didn't come, all between its consumer and this.
-    pub(crate) fn loss_behind(&self, session: &Session, watch: &Watch) -> Option<Loss>
-        ensures { IsLoss watch.now self.now session.now result }
+    pub(crate) fn loss_behind(&self, session: &Session) -> Option<Loss>
+        ensures { IsLoss self.now session.now result }
     {
-        if session.ended || !watch.is_behind() {
+        if session.ended || !session.watch.is_behind() {
             return None;
         }
         loss_between(session.place(), self.opening.position)
