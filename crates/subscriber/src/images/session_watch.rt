@@ -13,7 +13,7 @@ const SILENCE: u64 = 10_000_000_000;
 /// When a session was heard, and when its image got on. All moments are in nanoseconds from the subscriber's begin.
 ///
 /// It is heard by a DATA frame, a padding or a heartbeat of its stream from its peer, and by the SETUP that opened its image.
-#[derive(Clone, Copy, Drop)]
+#[derive(Drop)]
 pub struct SessionWatch {
     moment: u64,
     heard: u64,
