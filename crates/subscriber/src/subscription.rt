@@ -375,11 +375,7 @@ impl Subscription<'_> {
     /// while the session isn't silent, only its peer's own does, if what the image lacks doesn't come and it lies above what is
     /// rebuilt. Of a silent session one of the same shape that isn't behind what was rebuilt makes who sent it the peer, and the
     /// image goes on; any other opens a new one. The fault is that memory was refused; then nothing was opened.
-    fn attend<E: Write>(
-        &self,
-        session: &mut Session,
-        errors: &mut E,
-    ) -> Result<(), SubscribeFault>
+    fn attend<E: Write>(&self, session: &mut Session, errors: &mut E) -> Result<(), SubscribeFault>
         ensures attends { OnOk result (Attends self.now.plan session.old session.new) }
         ensures kept { OnErr result (session.new.follower.subscriber ≡ session.old.follower.subscriber) }
         ensures size { session.new.duty.mtu ≡ session.old.duty.mtu }

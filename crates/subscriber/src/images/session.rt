@@ -296,7 +296,8 @@ impl Session {
             return Ok(stand);
         }
         let frames = self.duty.device().notes().frames;
-        self.tell_place(self.watch.moment())?;
+        let now = self.watch.moment();
+        self.tell_place(now)?;
         self.note_heard(frames);
         Ok(self.stand())
     }
@@ -408,7 +409,8 @@ impl Session {
         let ended = watch.moment();
         let mut idle = IdleStrategy::new();
         for _ in rt.forever() {
-            let busy = self.tell_place(watch.moment())?;
+            let now = watch.moment();
+            let busy = self.tell_place(now)?;
             watch.see(rt)?;
             if watch.moment().saturating_sub(ended) >= FAREWELL {
                 return Ok(());

@@ -107,8 +107,7 @@ impl SetupOffer {
         if session.ended {
             return self.is_next(session);
         }
-        session.watch.is_silent()
-            || (session.watch.is_behind() && self.is_ahead(session, rebuilt))
+        session.watch.is_silent() || (session.watch.is_behind() && self.is_ahead(session, rebuilt))
     }
 
     /// Whether it is the session's own again, which was silent and hasn't ended, where the image is rebuilt up to here.

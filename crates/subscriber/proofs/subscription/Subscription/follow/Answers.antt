@@ -1,4 +1,4 @@
-use Rattle.std.proofs.Common.{◌∙◌, ap, subst, refl, sym}
+use Rattle.std.proofs.Common.{◌∙◌, ◌≡◌, ap, subst, refl, sym}
 use Rattle.std.proofs.lemmas.Result.{err_from_is_err_and}
 use Rattle.subscriber.proofs.Answered.{attended_answered, attended_judged, has_judged, same_answered, same_judged, turn_ahead, turn_attended, turn_judged}
 use Rattle.subscriber.proofs.Breaking.{life_broken, life_kept}
