@@ -13,7 +13,7 @@ ghost use Rattle.theory.specs.Wire.{IsFrame, IsHeader, SETUP, spelling};
 
 use crate::images::session::Session;
 use crate::images::{Loss, loss_between};
-use frames::{Frame, Header, Setup, read_frame, write_frame};
+use frames::{Frame, Setup, write_frame};
 use options::SubscribePlan;
 use peer::end_told;
 use position::Geometry;
@@ -127,30 +127,6 @@ impl SetupOffer {
             return None;
         }
         loss_between(session.place(), self.opening.position)
-    }
-}
-
-/// The header of a DATA frame, a padding or a heartbeat.
-fn header_told(frame: &Frame<'_>) -> Option<Header>
-    ensures told { option_map header_of result ≡ header_told (wire frame.now) }
-    ensures legal { IsFrame (wire frame.now) → IfSome result (λ h. IsHeader (header_of h)) }
-{
-    match *frame {
-        Frame::Data { header, .. } | Frame::Pad { header, .. } | Frame::Heartbeat { header } => {
-            Some(header)
-        }
-        _ => None,
-    }
-}
-
-/// The header of the frame at a datagram's front, where that is a DATA frame, a padding or a heartbeat.
-pub fn header_in(datagram: &[u8]) -> Option<Header>
-    ensures told { TellsHeader datagram.now (option_map header_of result) }
-    ensures legal { IfSome result (λ h. IsHeader (header_of h)) }
-{
-    match read_frame(datagram) {
-        Ok((frame, _)) => header_told(&frame),
-        Err(_) => None,
     }
 }
 
