@@ -12,7 +12,7 @@ use Rattle.receiver.specs.Subscribing.{Subscribing}
 use Rattle.peer.specs.Ties.{Offer}
 use Rattle.subscriber.specs.Offers.{setup_taken}
 use Rattle.subscriber.specs.Losing.{with_device, JudgesTurn}
-use Rattle.subscriber.specs.Watches.{AttendsEach, IsWithinTurn, JudgesEach, Seen, looking}
+use Rattle.subscriber.specs.Watches.{AttendsEach, IsWithinTurn, JudgesEach, Seen, Timing, looking}
 use Rattle.subscriber.specs.declared.images.Images.{Images}
 use Rattle.subscriber.specs.declared.images.session.Session.{Session}
 use Rattle.subscriber.specs.declared.listening.setup_offer.SetupOffer.{SetupOffer}
@@ -88,36 +88,43 @@ ends_answered form count more at before after j k l x same w ticked on a answere
 pub same_answered : (j k : Session) → k.ended ≡ j.ended → k.follower.subscriber ≡ j.follower.subscriber → (IsTrue j.ended → HasAnswered j.follower.subscriber) → IsTrue k.ended → HasAnswered k.follower.subscriber
 same_answered j k ended same answered so = subst HasAnswered (sym same) (answered (subst (λ (b : Bool). IsTrue b) ended so))
 
-turned : (plan : SubscribePlan) (s t : Seen) (m : SetupOffer) (rebuilt : ℕ) (j k : Session) → Passes s m rebuilt j k t ⊎ Resumes s m rebuilt j k t ⊎ Renews plan s m rebuilt j k t → (IsTrue j.ended → HasAnswered j.follower.subscriber) → IsTrue k.ended → HasAnswered k.follower.subscriber
-turned plan s t m rebuilt j k (inl p) h = same_answered j k (ap (λ x. x.ended) p.warns.kept) (ap (λ x. x.follower.subscriber) p.warns.kept) h
-turned plan s t m rebuilt j k (inr (inl p)) h = same_answered j k (ap (λ x. x.ended) p.tied) (ap (λ x. x.follower.subscriber) p.tied) h
-turned plan s t m rebuilt j k (inr (inr p)) h = λ so. let not = p.replaced.renewed.ended in cc
+turned : (plan : SubscribePlan) (m : SetupOffer) (rebuilt : ℕ) (j k : Session) → Passes m rebuilt j k ⊎ Resumes m rebuilt j k ⊎ Renews plan m rebuilt j k → (IsTrue j.ended → HasAnswered j.follower.subscriber) → IsTrue k.ended → HasAnswered k.follower.subscriber
+turned plan m rebuilt j k (inl p) h = same_answered j k (ap (λ x. x.ended) p.warns.kept) (ap (λ x. x.follower.subscriber) p.warns.kept) h
+turned plan m rebuilt j k (inr (inl p)) h = same_answered j k (ap (λ x. x.ended) p.tied) (ap (λ x. x.follower.subscriber) p.tied) h
+turned plan m rebuilt j k (inr (inr p)) h = λ so. let not = p.replaced.renewed.ended in cc
 
-considered : (plan : SubscribePlan) (from : SocketAddr) (f : Setup) (s t : Seen) (j k : Session) → Considers plan s from f j k t → (IsTrue j.ended → HasAnswered j.follower.subscriber) → IsTrue k.ended → HasAnswered k.follower.subscriber
-considered plan from f s t j k (inl p) h = same_answered j k (ap (λ x. x.ended) p.1) (ap (λ x. x.follower.subscriber) p.1) h
-considered plan from f s t j k (inr p) h = turned plan s t p.0 p.2.0 j k p.2.2 h
+considered : (plan : SubscribePlan) (from : SocketAddr) (f : Setup) (j k : Session) → Considers plan from f j k → (IsTrue j.ended → HasAnswered j.follower.subscriber) → IsTrue k.ended → HasAnswered k.follower.subscriber
+considered plan from f j k (inl p) h = same_answered j k (ap (λ x. x.ended) p.1) (ap (λ x. x.follower.subscriber) p.1) h
+considered plan from f j k (inr p) h = turned plan p.0 p.2.0 j k p.2.2 h
 
-offered : (plan : SubscribePlan) (s t : Seen) (offer : Offer) (j k : Session) → ConsidersOffer plan s offer j k t → (IsTrue j.ended → HasAnswered j.follower.subscriber) → IsTrue k.ended → HasAnswered k.follower.subscriber
-offered plan s t None j k p h = same_answered j k (ap (λ x. x.ended) p.0) (ap (λ x. x.follower.subscriber) p.0) h
-offered plan s t (Some offer) j k p h = considered plan offer.0 offer.1 s t j k p h
+offered : (plan : SubscribePlan) (offer : Offer) (j k : Session) → ConsidersOffer plan offer j k → (IsTrue j.ended → HasAnswered j.follower.subscriber) → IsTrue k.ended → HasAnswered k.follower.subscriber
+offered plan None j k p h = same_answered j k (ap (λ x. x.ended) p) (ap (λ x. x.follower.subscriber) p) h
+offered plan (Some offer) j k p h = considered plan offer.0 offer.1 j k p h
 
-pub attended_answered : (plan : SubscribePlan) (s t : Seen) (j k : Session) → Attends plan s j k t → (IsTrue j.ended → HasAnswered j.follower.subscriber) → IsTrue k.ended → HasAnswered k.follower.subscriber
-attended_answered plan s t j k p h = offered plan s p.2 p.0 (with_device j (setup_taken j.duty.device)) k p.3 h
+pub attended_answered : (plan : SubscribePlan) (j k : Session) → Attends plan j k → (IsTrue j.ended → HasAnswered j.follower.subscriber) → IsTrue k.ended → HasAnswered k.follower.subscriber
+attended_answered plan j k p h =
+    same_answered p.2 k (ap (λ (x : Session). x.ended) p.4) (ap (λ (x : Session). x.follower.subscriber) p.4)
+    (offered plan p.0 (with_device j (setup_taken j.duty.device)) p.2 p.3 h)
 
 -- ---- turns
 
-turned_within : (plan : SubscribePlan) (s t : Seen) (m : SetupOffer) (rebuilt : ℕ) (j k : Session) → Passes s m rebuilt j k t ⊎ Resumes s m rebuilt j k t ⊎ Renews plan s m rebuilt j k t → IsWithinTurn s t
-turned_within plan s t m rebuilt j k (inl p) = record { turns = ap (λ x. x.turns) p.seen; attended = ap (λ x. x.attended) p.seen; judged = ap (λ x. x.judged) p.seen }
-turned_within plan s t m rebuilt j k (inr (inl p)) = record { turns = ap (λ x. x.turns) p.seen; attended = ap (λ x. x.attended) p.seen; judged = ap (λ x. x.judged) p.seen }
-turned_within plan s t m rebuilt j k (inr (inr p)) = record { turns = ap (λ x. x.turns) p.seen; attended = ap (λ x. x.attended) p.seen; judged = ap (λ x. x.judged) p.seen }
+same_within : (s t : Seen) → t ≡ s → IsWithinTurn s t
+same_within s t same = record { turns = ap (λ x. x.turns) same; attended = ap (λ x. x.attended) same; judged = ap (λ x. x.judged) same }
 
-considered_within : (plan : SubscribePlan) (from : SocketAddr) (f : Setup) (s t : Seen) (j k : Session) → Considers plan s from f j k t → IsWithinTurn s t
-considered_within plan from f s t j k (inl p) = record { turns = ap (λ x. x.turns) p.2; attended = ap (λ x. x.attended) p.2; judged = ap (λ x. x.judged) p.2 }
-considered_within plan from f s t j k (inr p) = turned_within plan s t p.0 p.2.0 j k p.2.2
+turned_within : (plan : SubscribePlan) (m : SetupOffer) (rebuilt : ℕ) (j k : Session) → Passes m rebuilt j k ⊎ Resumes m rebuilt j k ⊎ Renews plan m rebuilt j k → IsWithinTurn j.watch k.watch
+turned_within plan m rebuilt j k (inl p) = same_within j.watch k.watch (ap (λ (x : Session). x.watch) p.warns.kept)
+turned_within plan m rebuilt j k (inr (inl p)) = same_within j.watch k.watch (ap (λ (x : Session). x.watch) p.tied)
+turned_within plan m rebuilt j k (inr (inr p)) =
+    let w = p.replaced.renewed.watch in
+    record { turns = ap (λ x. x.turns) w; attended = ap (λ x. x.attended) w; judged = ap (λ x. x.judged) w }
 
-offered_within : (plan : SubscribePlan) (s t : Seen) (offer : Offer) (j k : Session) → ConsidersOffer plan s offer j k t → IsWithinTurn s t
-offered_within plan s t None j k p = record { turns = ap (λ x. x.turns) p.1; attended = ap (λ x. x.attended) p.1; judged = ap (λ x. x.judged) p.1 }
-offered_within plan s t (Some offer) j k p = considered_within plan offer.0 offer.1 s t j k p
+considered_within : (plan : SubscribePlan) (from : SocketAddr) (f : Setup) (j k : Session) → Considers plan from f j k → IsWithinTurn j.watch k.watch
+considered_within plan from f j k (inl p) = same_within j.watch k.watch (ap (λ (x : Session). x.watch) p.1)
+considered_within plan from f j k (inr p) = turned_within plan p.0 p.2.0 j k p.2.2
+
+offered_within : (plan : SubscribePlan) (offer : Offer) (j k : Session) → ConsidersOffer plan offer j k → IsWithinTurn j.watch k.watch
+offered_within plan None j k p = same_within j.watch k.watch (ap (λ (x : Session). x.watch) p)
+offered_within plan (Some offer) j k p = considered_within plan offer.0 offer.1 j k p
 
 -- in a turn it was judged once whether the image is lost, and nothing was attended yet
 pub record HasJudged (s t : Seen) : Type 0 where
@@ -125,21 +132,22 @@ pub record HasJudged (s t : Seen) : Type 0 where
   pub attended : t.attended ≡ s.attended
   pub judged : t.judged ≡ (s.judged + 1) % 2 ^ 64
 
--- and then nothing else was but that lines were told
-pub has_judged : (s t u : Seen) (j k : Session) → JudgesTurn s j k t → IsWithinTurn t u → HasJudged s u
-has_judged s t u j k h told = record {
-  turns = told.turns ∙ ap (λ x. x.turns) h.counted ∙ h.within.turns;
-  attended = told.attended ∙ ap (λ x. x.attended) h.counted ∙ h.within.attended;
-  judged = told.judged ∙ ap (λ x. x.judged) h.counted ∙ ap (λ (b : Bool). if b then (h.noted.judged + 1) % 2 ^ 64 else h.noted.judged) h.still ∙ ap (λ (n : ℕ). (n + 1) % 2 ^ 64) h.within.judged;
-}
+pub has_judged : (s t : Timing) (j k : Session) → JudgesTurn s j k t → HasJudged j.watch k.watch
+has_judged s t j k h =
+    let w = ap (λ (x : Session). x.watch) h.kept_else in
+    record {
+      turns = ap (λ x. x.turns) w ∙ h.within.turns;
+      attended = ap (λ x. x.attended) w ∙ h.within.attended;
+      judged = ap (λ x. x.judged) w ∙ ap (λ (b : Bool). if b then (h.answered.watch.judged + 1) % 2 ^ 64 else h.answered.watch.judged) h.still ∙ ap (λ (n : ℕ). (n + 1) % 2 ^ 64) h.within.judged;
+    }
 
 -- a turn begins, and what came of SETUPs in it is attended
-pub turn_attended : (plan : SubscribePlan) (r s a t : Seen) (now : ℕ) (j k : Session) → r.turns ≡ r.attended → s ≡ looking r now → HasJudged s a → Attends plan a j k t → t.turns ≡ t.attended
-turn_attended plan r s a t now j k before looks once p =
-    let u = p.2 in
-    let so = offered_within plan a u p.0 (with_device j (setup_taken j.duty.device)) k p.3 in
-    ap (λ x. x.turns) p.4 ∙ so.turns ∙ once.turns ∙ ap (λ x. x.turns) looks
-    ∙ ap (λ (n : ℕ). (n + 1) % 2 ^ 64) (before ∙ sym (ap (λ x. x.attended) looks) ∙ sym once.attended ∙ sym so.attended) ∙ sym (ap (λ x. x.attended) p.4)
+pub turn_attended : (plan : SubscribePlan) (r s : Seen) (now : ℕ) (j k : Session) → r.turns ≡ r.attended → s ≡ looking r now → HasJudged s j.watch → Attends plan j k → k.watch.turns ≡ k.watch.attended
+turn_attended plan r s now j k before looks once p =
+    let so = offered_within plan p.0 (with_device j (setup_taken j.duty.device)) p.2 p.3 in
+    let w = ap (λ (x : Session). x.watch) p.4 in
+    ap (λ x. x.turns) w ∙ so.turns ∙ once.turns ∙ ap (λ x. x.turns) looks
+    ∙ ap (λ (n : ℕ). (n + 1) % 2 ^ 64) (before ∙ sym (ap (λ x. x.attended) looks) ∙ sym once.attended ∙ sym so.attended) ∙ sym (ap (λ x. x.attended) w)
 
 -- before that it is one turn ahead
 pub turn_ahead : (r s a : Seen) (now : ℕ) → r.turns ≡ r.attended → s ≡ looking r now → HasJudged s a → AttendsEach a
@@ -152,13 +160,15 @@ turn_judged r s a now before looks once =
     once.turns ∙ ap (λ x. x.turns) looks ∙ ap (λ (n : ℕ). (n + 1) % 2 ^ 64) (before ∙ sym (ap (λ x. x.judged) looks)) ∙ sym once.judged
 
 -- what comes of SETUPs is no judgement of that
-pub attended_judged : (plan : SubscribePlan) (s t : Seen) (j k : Session) → JudgesEach s → Attends plan s j k t → JudgesEach t
-attended_judged plan s t j k each p =
-    let so = offered_within plan s p.2 p.0 (with_device j (setup_taken j.duty.device)) k p.3 in
-    ap (λ x. x.turns) p.4 ∙ so.turns ∙ each ∙ sym so.judged ∙ sym (ap (λ x. x.judged) p.4)
+pub attended_judged : (plan : SubscribePlan) (j k : Session) → JudgesEach j.watch → Attends plan j k → JudgesEach k.watch
+attended_judged plan j k each p =
+    let so = offered_within plan p.0 (with_device j (setup_taken j.duty.device)) p.2 p.3 in
+    let w = ap (λ (x : Session). x.watch) p.4 in
+    ap (λ x. x.turns) w ∙ so.turns ∙ each ∙ sym so.judged ∙ sym (ap (λ x. x.judged) w)
 
 pub within_on : (s t u : Seen) → IsWithinTurn s t → IsWithinTurn t u → IsWithinTurn s u
 within_on s t u a b = record { turns = b.turns ∙ a.turns; attended = b.attended ∙ a.attended; judged = b.judged ∙ a.judged }
 
-pub within_told : (s t : Seen) → t ≡ record s { told = t.told; written = t.written } → IsWithinTurn s t
-within_told s t same = record { turns = ap (λ x. x.turns) same; attended = ap (λ x. x.attended) same; judged = ap (λ x. x.judged) same }
+-- one that has the same watch has judged it too
+pub same_judged : (s : Seen) (j k : Session) → k.watch ≡ j.watch → HasJudged s j.watch → HasJudged s k.watch
+same_judged s j k same h = subst (HasJudged s) (sym same) h

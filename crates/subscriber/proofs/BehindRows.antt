@@ -2,7 +2,7 @@
 use Rattle.std.proofs.Common.{◌≡◌, pos, negsuc, true, false, refl, arith}
 use Rattle.subscriber.specs.Images.{first_image, has_lost, loss_between, next_images}
 use Rattle.subscriber.specs.Standing.{lies_above}
-use Rattle.subscriber.specs.Watches.{IsBehind, IsSilent, JudgesEach, Seen, attending, beginning, begun, hearing, judging, keeping, looking, noting}
+use Rattle.subscriber.specs.Watches.{IsBehind, IsSilent, JudgesEach, Seen, attending, beginning, hearing, judging, keeping, looking, noting}
 
 -- a nanosecond before ten seconds it isn't behind, and then it is
 not_yet : (s : Seen) → s.moment ≡ 12000000000 → s.kept ≡ 2000000001 → IsBehind s → ⊥
@@ -19,42 +19,42 @@ never_both : (s : Seen) → IsBehind s → IsSilent s → ⊥
 never_both s b silent = let last = b.heard in omega (arith, last, silent)
 
 -- a second without it, and the time in which something is lacking begins anew; less than a second doesn't
-anew : (hearing (record begun { moment = 1000000000 })).kept ≡ 1000000000
+anew : (hearing (record (beginning 0) { moment = 1000000000 })).kept ≡ 1000000000
 anew = refl
 
-goes_on : (hearing (record begun { moment = 999999999 })).kept ≡ 0
+goes_on : (hearing (record (beginning 0) { moment = 999999999 })).kept ≡ 0
 goes_on = refl
 
 -- time in which it didn't look at the clock is none
-unseen : (looking (record begun { moment = 5 }) 20000000005).kept ≡ 20000000000
+unseen : (looking (record (beginning 0) { moment = 5 }) 20000000005).kept ≡ 20000000000
 unseen = refl
 
-kept_now : (keeping (record begun { moment = 7 })).kept ≡ 7
+kept_now : (keeping (record (beginning 0) { moment = 7 })).kept ≡ 7
 kept_now = refl
 
 -- two turns, in each of which it was noted and judged; a third that begins, and in which neither was
-judged_twice : JudgesEach (judging (noting false (looking (attending (judging (noting true (looking (beginning begun) 5)))) 9)))
+judged_twice : JudgesEach (judging (noting false (looking (attending (judging (noting true (looking (beginning 0) 5)))) 9)))
 judged_twice = refl
 
-third_unjudged : JudgesEach (noting true (looking (judging (noting false (looking (attending (judging (noting true (looking (beginning begun) 5)))) 9))) 12)) → ⊥
+third_unjudged : JudgesEach (noting true (looking (judging (noting false (looking (attending (judging (noting true (looking (beginning 0) 5)))) 9))) 12)) → ⊥
 third_unjudged h = omega (arith, h)
 
 -- a turn that judged and didn't note what is lacking, or noted that in the turn before
-unnoted : JudgesEach (judging (looking (beginning begun) 5)) → ⊥
+unnoted : JudgesEach (judging (looking (beginning 0) 5)) → ⊥
 unnoted h = omega (arith, h)
 
-noted_before : JudgesEach (judging (looking (judging (noting true (looking (beginning begun) 5))) 9)) → ⊥
+noted_before : JudgesEach (judging (looking (judging (noting true (looking (beginning 0) 5))) 9)) → ⊥
 noted_before h = omega (arith, h)
 
 -- one that only attended
-attended_only : JudgesEach (attending (noting true (looking (beginning begun) 5))) → ⊥
+attended_only : JudgesEach (attending (noting true (looking (beginning 0) 5))) → ⊥
 attended_only h = omega (arith, h)
 
 -- nothing is lacking at the moment, or something still is
-noted_whole : (noting true (record begun { moment = 7 })).kept ≡ 7
+noted_whole : (noting true (record (beginning 0) { moment = 7 })).kept ≡ 7
 noted_whole = refl
 
-noted_behind : (noting false (record begun { moment = 7 })).kept ≡ 0
+noted_behind : (noting false (record (beginning 0) { moment = 7 })).kept ≡ 0
 noted_behind = refl
 
 -- a frame at what is rebuilt, or below it, lies above nothing; one before the first term neither

@@ -32,7 +32,7 @@ use Rattle.peer.specs.Ties.{Offer}
 use Rattle.subscriber.proofs.Ends.{ends_on, greatest_end}
 use Rattle.subscriber.specs.Followers.{HasNoted, IsGreatestEnd, NotesEnds}
 use Rattle.subscriber.specs.declared.images.follower.Follower.{Follower}
-use Rattle.subscriber.specs.Watches.{Seen}
+use Rattle.subscriber.specs.Watches.{Seen, Timing}
 use Rattle.subscriber.specs.declared.images.delivery.Delivered.{Delivered}
 use Rattle.subscriber.specs.declared.images.session.Session.{Session}
 use Rattle.subscriber.specs.declared.listening.setup_offer.SetupOffer.{SetupOffer}
@@ -135,7 +135,7 @@ pub spelled_on : (form : Form) (xs ys : List (List ℕ)) → spelling form (xs +
 spelled_on form xs ys = flat_map-append (spelled form) xs ys
 
 -- the first image
-pub joined_life : (plan : SubscribePlan) (s : Seen) (j : Session) (before : Option (List ℕ)) → IsJoined plan s j → Follows plan before 0 j.images j.follower before
+pub joined_life : (plan : SubscribePlan) (s : Timing) (j : Session) (before : Option (List ℕ)) → IsJoined plan s j → Follows plan before 0 j.images j.follower before
 joined_life plan s j before h = record {
   life = record {
     newest = record { setup = setup_of h.meeting.setup; opening = h.meeting.opening; number = 0; moment = s.moment; acts = []; loss = None };
@@ -190,29 +190,29 @@ follows_on plan a b c count more number f g h w = record {
 }
 
 -- what is missing behind an image
-lost_from : (s : Seen) (m : SetupOffer) (j : Session) (loss : Option Loss) → IsLoss s m j loss → IsLossFrom j.follower.subscriber loss
-lost_from s m j loss (inl (left, (place, stands, is))) = subst (IsLossFrom j.follower.subscriber) (sym is) (by_order (nat_lt place m.opening.position) refl)
+lost_from : (m : SetupOffer) (j : Session) (loss : Option Loss) → IsLoss m j loss → IsLossFrom j.follower.subscriber loss
+lost_from m j loss (inl (left, (place, stands, is))) = subst (IsLossFrom j.follower.subscriber) (sym is) (by_order (nat_lt place m.opening.position) refl)
   where
     by_order : (b : Bool) → nat_lt place m.opening.position ≡ b → IsLossFrom j.follower.subscriber (if b then Some (record { from = place; to = m.opening.position }) else None)
     by_order true less = (stands, ltb-true place m.opening.position less)
     by_order false more = tt
-lost_from s m j loss (inr (stays, is)) = subst (IsLossFrom j.follower.subscriber) (sym is) tt
+lost_from m j loss (inr (stays, is)) = subst (IsLossFrom j.follower.subscriber) (sym is) tt
 
-lost_to : (s : Seen) (m : SetupOffer) (j : Session) (loss : Option Loss) → IsLoss s m j loss → IsLossTo loss m.opening.position
-lost_to s m j loss (inl (left, (place, stands, is))) = subst (λ x. IsLossTo x m.opening.position) (sym is) (by_order (nat_lt place m.opening.position))
+lost_to : (m : SetupOffer) (j : Session) (loss : Option Loss) → IsLoss m j loss → IsLossTo loss m.opening.position
+lost_to m j loss (inl (left, (place, stands, is))) = subst (λ x. IsLossTo x m.opening.position) (sym is) (by_order (nat_lt place m.opening.position))
   where
     by_order : (b : Bool) → IsLossTo (if b then Some (record { from = place; to = m.opening.position }) else None) m.opening.position
     by_order true = refl
     by_order false = tt
-lost_to s m j loss (inr (stays, is)) = subst (λ x. IsLossTo x m.opening.position) (sym is) tt
+lost_to m j loss (inr (stays, is)) = subst (λ x. IsLossTo x m.opening.position) (sym is) tt
 
 -- a SETUP opened another image in its place
-renewed : (plan : SubscribePlan) (from : SocketAddr) (f : Setup) (s : Seen) (m : SetupOffer) (a b : Option (List ℕ)) (count : ℕ) (j k : Session) → IsMeeting plan from f m → Replaces plan s m j k → Follows plan a count j.images j.follower b → Follows plan a count k.images k.follower b
-renewed plan from f s m a b count j k meeting x follows =
+renewed : (plan : SubscribePlan) (from : SocketAddr) (f : Setup) (m : SetupOffer) (a b : Option (List ℕ)) (count : ℕ) (j k : Session) → IsMeeting plan from f m → Replaces plan m j k → Follows plan a count j.images j.follower b → Follows plan a count k.images k.follower b
+renewed plan from f m a b count j k meeting x follows =
     let h = follows.life in
     let r = x.renewed in
     let last : Life = record h.newest { loss = x.loss } in
-    let l : Life = record { setup = setup_of m.setup; opening = m.opening; number = next j.images.number; moment = s.moment; acts = []; loss = None } in
+    let l : Life = record { setup = setup_of m.setup; opening = m.opening; number = next j.images.number; moment = j.watch.moment; acts = []; loss = None } in
     let given : given_through (l ∷ last ∷ h.older) ≡ given_through (h.newest ∷ h.older) = append-nil (given_through (h.newest ∷ h.older)) in
     record {
       life = record {
@@ -222,8 +222,8 @@ renewed plan from f s m a b count j k meeting x follows =
         number_is = sym (ap (λ i. i.number) r.images);
         missing_is = ap (λ i. i.missing) r.images ∙ ap (λ n. missing_with n x.loss) h.missing_is;
         unlost = refl;
-        numbered = (ap next (sym h.number_is), lost_to s m j x.loss x.is);
-        lives = (j.follower.subscriber, record { opens = h.is.opens; first = h.is.first; met = h.is.met; lived = h.is.lived; lacks = lost_from s m j x.loss x.is }, numbered_on h.older h.numbered, h.lives);
+        numbered = (ap next (sym h.number_is), lost_to m j x.loss x.is);
+        lives = (j.follower.subscriber, record { opens = h.is.opens; first = h.is.first; met = h.is.met; lived = h.is.lived; lacks = lost_from m j x.loss x.is }, numbered_on h.older h.numbered, h.lives);
         counted = h.counted ∙ sym (ap length given);
         written = subst (λ xs. Appends a b (spelling plan.end.form xs)) (sym given) h.written;
       };
@@ -243,22 +243,24 @@ same_life plan a b count j k number same h = subst (λ n. Follows plan a count n
 kept_life : (plan : SubscribePlan) (a b : Option (List ℕ)) (count : ℕ) (j k : Session) → k ≡ j → Follows plan a count j.images j.follower b → Follows plan a count k.images k.follower b
 kept_life plan a b count j k kept h = same_life plan a b count j k (ap (λ x. x.images) kept) (ap (λ x. x.follower) kept) h
 
-turned_life : (plan : SubscribePlan) (from : SocketAddr) (f : Setup) (s t : Seen) (m : SetupOffer) (a b : Option (List ℕ)) (count rebuilt : ℕ) (j k : Session) → IsMeeting plan from f m → Passes s m rebuilt j k t ⊎ Resumes s m rebuilt j k t ⊎ Renews plan s m rebuilt j k t → Follows plan a count j.images j.follower b → Follows plan a count k.images k.follower b
-turned_life plan from f s t m a b count rebuilt j k meeting (inl p) h = same_life plan a b count j k (ap (λ x. x.images) p.warns.kept) (ap (λ x. x.follower) p.warns.kept) h
-turned_life plan from f s t m a b count rebuilt j k meeting (inr (inl p)) h = same_life plan a b count j k (ap (λ x. x.images) p.tied) (ap (λ x. x.follower) p.tied) h
-turned_life plan from f s t m a b count rebuilt j k meeting (inr (inr p)) h = renewed plan from f s m a b count j k meeting p.replaced h
+turned_life : (plan : SubscribePlan) (from : SocketAddr) (f : Setup) (m : SetupOffer) (a b : Option (List ℕ)) (count rebuilt : ℕ) (j k : Session) → IsMeeting plan from f m → Passes m rebuilt j k ⊎ Resumes m rebuilt j k ⊎ Renews plan m rebuilt j k → Follows plan a count j.images j.follower b → Follows plan a count k.images k.follower b
+turned_life plan from f m a b count rebuilt j k meeting (inl p) h = same_life plan a b count j k (ap (λ x. x.images) p.warns.kept) (ap (λ x. x.follower) p.warns.kept) h
+turned_life plan from f m a b count rebuilt j k meeting (inr (inl p)) h = same_life plan a b count j k (ap (λ x. x.images) p.tied) (ap (λ x. x.follower) p.tied) h
+turned_life plan from f m a b count rebuilt j k meeting (inr (inr p)) h = renewed plan from f m a b count j k meeting p.replaced h
 
-considered_life : (plan : SubscribePlan) (from : SocketAddr) (f : Setup) (s t : Seen) (a b : Option (List ℕ)) (count : ℕ) (j k : Session) → Considers plan s from f j k t → Follows plan a count j.images j.follower b → Follows plan a count k.images k.follower b
-considered_life plan from f s t a b count j k (inl p) h = kept_life plan a b count j k p.1 h
-considered_life plan from f s t a b count j k (inr p) h = turned_life plan from f s t p.0 a b count p.2.0 j k p.1 p.2.2 h
+considered_life : (plan : SubscribePlan) (from : SocketAddr) (f : Setup) (a b : Option (List ℕ)) (count : ℕ) (j k : Session) → Considers plan from f j k → Follows plan a count j.images j.follower b → Follows plan a count k.images k.follower b
+considered_life plan from f a b count j k (inl p) h = kept_life plan a b count j k p.1 h
+considered_life plan from f a b count j k (inr p) h = turned_life plan from f p.0 a b count p.2.0 j k p.1 p.2.2 h
 
-offered_life : (plan : SubscribePlan) (s t : Seen) (offer : Offer) (a b : Option (List ℕ)) (count : ℕ) (j k : Session) → ConsidersOffer plan s offer j k t → Follows plan a count j.images j.follower b → Follows plan a count k.images k.follower b
-offered_life plan s t None a b count j k p h = kept_life plan a b count j k p.0 h
-offered_life plan s t (Some offer) a b count j k p h = considered_life plan offer.0 offer.1 s t a b count j k p h
+offered_life : (plan : SubscribePlan) (offer : Offer) (a b : Option (List ℕ)) (count : ℕ) (j k : Session) → ConsidersOffer plan offer j k → Follows plan a count j.images j.follower b → Follows plan a count k.images k.follower b
+offered_life plan None a b count j k p h = kept_life plan a b count j k p h
+offered_life plan (Some offer) a b count j k p h = considered_life plan offer.0 offer.1 a b count j k p h
 
 -- whatever came of the SETUP that came in a cycle
-pub attended_life : (plan : SubscribePlan) (s t : Seen) (a b : Option (List ℕ)) (count : ℕ) (j k : Session) → Attends plan s j k t → Follows plan a count j.images j.follower b → Follows plan a count k.images k.follower b
-attended_life plan s t a b count j k p h = offered_life plan s p.2 p.0 a b count (with_device j (setup_taken j.duty.device)) k p.3 h
+pub attended_life : (plan : SubscribePlan) (a b : Option (List ℕ)) (count : ℕ) (j k : Session) → Attends plan j k → Follows plan a count j.images j.follower b → Follows plan a count k.images k.follower b
+attended_life plan a b count j k p h =
+    same_life plan a b count p.2 k (ap (λ (x : Session). x.images) p.4) (ap (λ (x : Session). x.follower) p.4)
+    (offered_life plan p.0 a b count (with_device j (setup_taken j.duty.device)) p.2 p.3 h)
 
 -- what was new of its status messages was told
 pub told_life : (plan : SubscribePlan) (a b : Option (List ℕ)) (count : ℕ) (j k : Session) (d : SubscriberDevice) → k ≡ with_device j d → Follows plan a count j.images j.follower b → Follows plan a count k.images k.follower b

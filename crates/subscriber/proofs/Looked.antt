@@ -65,10 +65,16 @@ pub looked_life : (plan : SubscribePlan) (a b c : Option (List ℕ)) (count more
 looked_life plan a b c count more j k same h w = subst (λ (n : Images). Follows plan a more n k.follower c) (sym same) (follows_on plan a b c count more j.images j.follower k.follower h w)
 
 -- that a silence was told changes nothing else
-pub same_else : (c a s : Session) → a ≡ record c { follower = a.follower; duty = a.duty; ended = a.ended } → s ≡ record a { silent = s.silent } → s ≡ record c { follower = s.follower; duty = s.duty; ended = s.ended; silent = s.silent }
+pub same_else : (c a s : Session) → a ≡ record c { follower = a.follower; duty = a.duty; ended = a.ended; watch = a.watch } → s ≡ record a { silent = s.silent } → s ≡ record c { follower = s.follower; duty = s.duty; ended = s.ended; silent = s.silent; watch = s.watch }
 same_else c a s same told =
-    subst (λ (j : Session). j ≡ record c { follower = j.follower; duty = j.duty; ended = j.ended; silent = j.silent }) (sym told)
+    subst (λ (j : Session). j ≡ record c { follower = j.follower; duty = j.duty; ended = j.ended; silent = j.silent; watch = j.watch }) (sym told)
     (ap (λ (j : Session). record j { silent = s.silent }) same)
+
+-- that it was noted what it lacks neither
+pub noted_same : (a b c : Session) → b ≡ record a { follower = b.follower; duty = b.duty; watch = b.watch } → c ≡ record b { watch = c.watch } → c ≡ record a { follower = c.follower; duty = c.duty; watch = c.watch }
+noted_same a b c once noted =
+    subst (λ (j : Session). j ≡ record a { follower = j.follower; duty = j.duty; watch = j.watch }) (sym noted)
+    (ap (λ (j : Session). record j { watch = c.watch }) once)
 
 pub same_or_not : (a b : ℕ) → (a ≡ b) ⊎ (a ≢ b)
 same_or_not a b = ⊎_elim (λ p. inl p.1) (λ p. inr p.1) (eqb_tells a b)

@@ -34,23 +34,23 @@ kept_in s t is = subst IsKept (sym is) refl
 pub lacking : LacksWhereLost
 lacking s t old new h lost fresh = by_loss (h.judges.0 lost)
   where
-    behind : IsTrue h.answered.lost ⊎ IsLeft h.noted h.answered → IsBehind h.noted
+    behind : IsTrue h.answered.lost ⊎ IsLeft h.answered → IsBehind h.answered.watch
     behind (inl was) = absurd (fresh (subst IsTrue (ap (λ (j : Session). j.lost) h.same ∙ ap (λ (j : Session). j.lost) h.cycle.same) was))
     behind (inr left) = left.behind
 
-    never : IsBehind h.noted → IsKept h.kept → ⊥
-    never b k = not_behind h.noted (still_kept _ _ h.kept h.noted h.hears k) b
+    never : IsBehind h.answered.watch → IsKept h.cycled.watch → ⊥
+    never b k = not_behind h.answered.watch (still_kept _ _ h.cycled.watch h.answered.watch h.hears k) b
 
-    by_lack : (b : Bool) → lacks h.cycled.opening.geometry h.cycled.duty.device.notes.last h.cycle.keeps.0 ≡ b → IsBehind h.noted → IsTrue (lacks h.cycled.opening.geometry h.cycled.duty.device.notes.last h.cycle.keeps.0)
+    by_lack : (b : Bool) → lacks h.cycled.opening.geometry h.cycled.duty.device.notes.last h.cycle.keeps.0 ≡ b → IsBehind h.answered.watch → IsTrue (lacks h.cycled.opening.geometry h.cycled.duty.device.notes.last h.cycle.keeps.0)
     by_lack true is b = is
-    by_lack false is b = absurd (never b (kept_in h.cycle.worked h.kept (h.cycle.keeps.1.whole (λ so. let not = is in cc))))
+    by_lack false is b = absurd (never b (kept_in h.cycle.heard h.cycled.watch (h.cycle.keeps.1.whole (λ so. let not = is in cc))))
 
-    by_place : IsBehind h.noted → (h.cycle.keeps.0 ≡ h.cycle.before) ⊎ (h.cycle.keeps.0 ≢ h.cycle.before) → RebuiltTo h.cycled.follower.subscriber h.cycle.before × IsTrue (lacks h.cycled.opening.geometry h.cycled.duty.device.notes.last h.cycle.before)
+    by_place : IsBehind h.answered.watch → (h.cycle.keeps.0 ≡ h.cycle.before) ⊎ (h.cycle.keeps.0 ≢ h.cycle.before) → RebuiltTo h.cycled.follower.subscriber h.cycle.before × IsTrue (lacks h.cycled.opening.geometry h.cycled.duty.device.notes.last h.cycle.before)
     by_place b (inl same) = (
       subst (RebuiltTo h.cycled.follower.subscriber) same h.cycle.keeps.1.stands,
       subst (λ (n : ℕ). IsTrue (lacks h.cycled.opening.geometry h.cycled.duty.device.notes.last n)) same (by_lack _ refl b),
     )
-    by_place b (inr other) = absurd (never b (kept_in h.cycle.worked h.kept (h.cycle.keeps.1.moved other)))
+    by_place b (inr other) = absurd (never b (kept_in h.cycle.heard h.cycled.watch (h.cycle.keeps.1.moved other)))
 
-    by_loss : IsTrue h.answered.lost ⊎ IsLeft h.noted h.answered → RebuiltTo h.cycled.follower.subscriber h.cycle.before × IsTrue (lacks h.cycled.opening.geometry h.cycled.duty.device.notes.last h.cycle.before)
+    by_loss : IsTrue h.answered.lost ⊎ IsLeft h.answered → RebuiltTo h.cycled.follower.subscriber h.cycle.before × IsTrue (lacks h.cycled.opening.geometry h.cycled.duty.device.notes.last h.cycle.before)
     by_loss x = by_place (behind x) (same_or_not h.cycle.keeps.0 h.cycle.before)

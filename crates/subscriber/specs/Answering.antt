@@ -2,7 +2,7 @@
 use Rattle.std.specs.Prelude.{◌≡◌, ◌⊎◌, ◌≤◌, ◌+◌, ◌-◌, ◌^◌, ◌↔◌, ℕ, min, List, IsTrue}
 use Rattle.receiver.specs.Lives.{Act, ActsSo, Lives, Ticks}
 use Rattle.receiver.specs.Subscribing.{Subscribing}
-use Rattle.subscriber.specs.Watches.{IsSilent, Seen}
+use Rattle.subscriber.specs.Watches.{IsSilent}
 use Rattle.subscriber.specs.declared.images.session.Session.{Session}
 use Rattle.subscriber.specs.Leavings.{AreUnpolled, LivesUnpolled}
 use Rattle.subscriber.specs.Standing.{HasAll, Stands}
@@ -60,6 +60,6 @@ pub record AnswersEnd (moment : ℕ) (old new : Session) (x : Stand) : Type 0 wh
   pub told : IsTrue new.ended → IsTrue old.ended ⊎ TellsPlace moment old.follower.subscriber new.follower.subscriber
 
 -- that a session is silent is noted while its stream hasn't ended
-pub record NotesSilence (s : Seen) (old new : Session) : Type 0 where
+pub record NotesSilence (old new : Session) : Type 0 where
   pub ended : IsTrue old.ended → new.silent ≡ old.silent
-  pub going : ¬ IsTrue old.ended → IsTrue new.silent ↔ IsSilent s
+  pub going : ¬ IsTrue old.ended → IsTrue new.silent ↔ IsSilent old.watch

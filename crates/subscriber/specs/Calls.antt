@@ -14,7 +14,7 @@ use Rattle.subscriber.specs.Followers.{IsFresh}
 use Rattle.subscriber.specs.Images.{first_image}
 use Rattle.subscriber.specs.Hearings.{following}
 use Rattle.subscriber.specs.Meetings.{HasMet, Opens, OpensNothing, TakesSession, TellsHeader, id_of}
-use Rattle.subscriber.specs.Watches.{Seen, called, hearing, with_stranger}
+use Rattle.subscriber.specs.Watches.{Timing, awaking, beginning, called, with_stranger}
 use Rattle.subscriber.specs.declared.images.session.Session.{Session}
 use Rattle.subscriber.specs.declared.listening.Call.{Call}
 use Rattle.subscriber.specs.declared.listening.Call.TheVariants.{Opens as OpensBy, Asks, Stranger}
@@ -59,8 +59,8 @@ met_by (Asks h) = None
 met_by Stranger = None
 
 -- a stranger's are counted, and all others heard
-abbrev pub seen_by : Call → Seen → Seen
-seen_by (OpensBy m) s = hearing s
+abbrev pub seen_by : Call → Timing → Timing
+seen_by (OpensBy m) s = awaking s
 seen_by (Asks h) s = called s
 seen_by Stranger s = with_stranger s
 
@@ -73,7 +73,7 @@ answered plan from Stranger l = l
 -- a subscriber without an image: its socket, and what it has seen
 pub record Waiting : Type 0 where
   pub socket : Listening
-  pub seen : Seen
+  pub seen : Timing
 
 pub record HeedsCall (plan : SubscribePlan) (came : Came) (old : Waiting) (found : Option SetupOffer) (new : Waiting) : Type 0 where
   pub call : Call
@@ -94,6 +94,7 @@ pub record IsJoinedBy (plan : SubscribePlan) (moment : ℕ) (m : SetupOffer) (so
   pub met : HasMet plan 0 (setup_of m.setup) moment j.follower.subscriber
   pub fresh : IsFresh j.follower m.opening.session plan.end.stream
   pub duty : j.duty ≡ record { device = following (begun (patient (tied_to socket m.from)) plan.end.rates plan.end.seed) m.opening.session plan.end.stream; mtu = 40 }
+  pub watch : j.watch ≡ beginning moment
   pub lost : j.lost ≡ false
   pub silent : j.silent ≡ false
   pub warned : j.warned ≡ false
@@ -101,7 +102,7 @@ pub record IsJoinedBy (plan : SubscribePlan) (moment : ℕ) (m : SetupOffer) (so
   pub unheard : j.unheard ≡ []
 
 -- the SETUP opens an image for the plan, and came at the moment
-pub record IsJoined (plan : SubscribePlan) (s : Seen) (j : Session) : Type 0 where
+pub record IsJoined (plan : SubscribePlan) (s : Timing) (j : Session) : Type 0 where
   pub meeting : SetupOffer
   pub socket : Listening
   pub opens : Opens plan (setup_of meeting.setup) meeting.opening

@@ -5,7 +5,7 @@ use Rattle.receiver.specs.Lives.{heard_in}
 use Rattle.receiver.specs.Subscribing.{Subscribing}
 use Rattle.subscriber.specs.Followers.{IsGreatestEnd}
 use Rattle.subscriber.specs.declared.images.follower.Follower.{Follower}
-use Rattle.subscriber.specs.Watches.{IsQuiet, Seen}
+use Rattle.subscriber.specs.Watches.{HasWaited, Seen, Timing}
 use Rattle.subscriber.specs.Answering.{HasAnswered}
 use Rattle.subscriber.specs.Leavings.{IsEnding, IsQuietEnding}
 use Rattle.subscriber.specs.Living.{AreUnlost, Follows}
@@ -21,11 +21,11 @@ use Rattle.subscriber.specs.declared.images.session.Stand.{Stand}
 pub record EndsWithoutImage (plan : SubscribePlan) (before : Option (List ℕ)) (done : Subscribed) (after : Option (List ℕ)) : Type 0 where
   pub none : done.messages ≡ 0
   pub unwritten : after ≡ before
-  pub seen : Seen
-  pub quiet : IsQuiet plan seen
+  pub seen : Timing
+  pub quiet : HasWaited plan seen
   pub ending : IsQuietEnding plan done.ending
 
--- it ends so behind so many messages, by what it has seen, where it stands, the end that it was told, and whether it has lost an
+-- it ends so behind so many messages, by what it has seen of its session, where it stands, the end that it was told, and whether it has lost an
 -- image; where it has all of its stream it has told that
 pub record EndsSo (plan : SubscribePlan) (written : ℕ) (s : Seen) (t : Subscribing) (end : Option ℕ) (lost : Bool) (how : Ending) : Type 0 where
   pub stand : Stand

@@ -8,7 +8,7 @@ use Rattle.receiver.specs.Receiving.{Opened, Receiver}
 use Rattle.receiver.specs.Subscribing.{RepresentsSubscriber, Subscribing}
 use Rattle.subscriber.specs.Followers.{HasNoted}
 use Rattle.subscriber.specs.declared.images.follower.Follower.{Follower}
-use Rattle.subscriber.specs.Watches.{IsQuiet, Seen, hearing, working}
+use Rattle.subscriber.specs.Watches.{IsQuiet, Seen, Timing, hearing, working}
 use Rattle.subscriber.specs.Standing.{HasAll}
 use Rattle.subscriber.specs.declared.fault.SubscribeFault.{SubscribeFault}
 use Rattle.subscriber.specs.declared.fault.SubscribeFault.TheVariants.{Taken, NotHere, NoSocket, NoThread, Failed}
@@ -24,7 +24,7 @@ pub record NotesHeard (before after : ℕ) (old new : Seen) : Type 0 where
   pub heard : (after ≡ before → ⊥) → new ≡ hearing old
 
 -- calls of its socket that worked were counted before a cycle and behind it; where that is another number, one did at the moment
-pub record NotesWork (before after : ℕ) (old new : Seen) : Type 0 where
+pub record NotesWork (before after : ℕ) (old new : Timing) : Type 0 where
   pub still : after ≡ before → new ≡ old
   pub worked : (after ≡ before → ⊥) → new ≡ working old
 

@@ -20,3 +20,4 @@ pub mod Losing
 pub mod Breaking
 pub mod Endings
 pub mod Telling
+pub mod FirstFrames

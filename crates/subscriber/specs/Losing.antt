@@ -9,7 +9,7 @@ use Rattle.subscriber.specs.Images.{next}
 use Rattle.subscriber.specs.Meetings.{id_of}
 use Rattle.subscriber.specs.Offers.{SubscriberDevice, asked_by}
 use Rattle.subscriber.specs.Standing.{RebuiltTo, lacks}
-use Rattle.subscriber.specs.Watches.{IsHearing, IsWithinTurn, Seen, judging, IsBehind, noting}
+use Rattle.subscriber.specs.Watches.{IsHearing, IsWithinTurn, Seen, Timing, judging, IsBehind, noting}
 use Rattle.subscriber.specs.declared.images.session.Session.{Session}
 use Rattle.subscriber.specs.Answering.{IsTicked}
 use Rattle.subscriber.specs.Leavings.{ListensOn, NotesHeard, NotesWork}
@@ -25,50 +25,46 @@ abbrev pub NotesKept : ℕ → Session → Seen → Seen → Type 0
 NotesKept before j old new = (rebuilt : ℕ) × NotesKeptAt before rebuilt j old new
 
 -- an image whose stream hasn't ended lacks what doesn't come
-pub record IsLeft (s : Seen) (j : Session) : Type 0 where
+pub record IsLeft (j : Session) : Type 0 where
   pub going : ¬ IsTrue j.ended
-  pub behind : IsBehind s
+  pub behind : IsBehind j.watch
 
 -- an image that is left so is noted as lost, once and for all
-abbrev pub NotesLoss : Seen → Session → Session → Type 0
-NotesLoss s old new = IsTrue new.lost ↔ (IsTrue old.lost ⊎ IsLeft s old)
+abbrev pub NotesLoss : Session → Session → Type 0
+NotesLoss old new = IsTrue new.lost ↔ (IsTrue old.lost ⊎ IsLeft old)
 
 -- a turn's cycle: what its image's subscriber lived through, last the moment, and what was noted of it. First whether its session
--- was heard, and a call of its socket worked; then, by how far the image was rebuilt before it and how far it is now, whether the
--- image lacks nothing, or something that it lacked came
-pub record NotesCycle (s : Seen) (old cycled : Session) (kept : Seen) : Type 0 where
+-- was heard; then, by how far the image was rebuilt before it and how far it is now, whether the image lacks nothing, or something
+-- that it lacked came
+pub record NotesCycle (old cycled : Session) : Type 0 where
   pub acts : List Act
   pub lived : Lives old.follower.subscriber acts cycled.follower.subscriber
-  pub ticked : IsTicked s.moment cycled.follower.subscriber
-  pub same : cycled ≡ record old { follower = cycled.follower; duty = cycled.duty }
+  pub ticked : IsTicked old.watch.moment cycled.follower.subscriber
+  pub same : cycled ≡ record old { follower = cycled.follower; duty = cycled.duty; watch = cycled.watch }
   pub heard : Seen
-  pub hears : NotesHeard old.duty.device.notes.frames cycled.duty.device.notes.frames s heard
-  pub worked : Seen
-  pub works : NotesWork old.duty.device.inner.inner.worked cycled.duty.device.inner.inner.worked heard worked
+  pub hears : NotesHeard old.duty.device.notes.frames cycled.duty.device.notes.frames old.watch heard
   pub before : ℕ
   pub rebuilt : RebuiltTo old.follower.subscriber before
-  pub keeps : NotesKept before cycled worked kept
+  pub keeps : NotesKept before cycled heard cycled.watch
 
--- and then, behind the answer to the stream's end, in which the session may be heard again, it is judged once, by what was noted,
--- whether the image is lost
-pub record JudgesTurn (s : Seen) (old new : Session) (t : Seen) : Type 0 where
+-- whether a call of the socket worked in that is noted; and then, behind the answer to the stream's end, in which the session may be
+-- heard again, it is judged once, by what was noted, whether the image is lost
+pub record JudgesTurn (s : Timing) (old new : Session) (t : Timing) : Type 0 where
   pub cycled : Session
-  pub kept : Seen
-  pub cycle : NotesCycle s old cycled kept
+  pub cycle : NotesCycle old cycled
+  pub works : NotesWork old.duty.device.inner.inner.worked cycled.duty.device.inner.inner.worked s t
   pub answered : Session
   pub listens : ListensOn cycled.follower answered.follower
-  pub same : answered ≡ record cycled { follower = answered.follower; duty = answered.duty; ended = answered.ended; silent = answered.silent }
-  pub noted : Seen
-  pub hears : NotesHeard cycled.duty.device.notes.frames answered.duty.device.notes.frames kept noted
-  pub within : IsWithinTurn s noted
-  pub still : IsTrue noted.noted
-  pub judges : NotesLoss noted answered new
-  pub kept_else : new ≡ record answered { lost = new.lost }
-  pub counted : t ≡ judging noted
+  pub same : answered ≡ record cycled { follower = answered.follower; duty = answered.duty; ended = answered.ended; silent = answered.silent; watch = answered.watch }
+  pub hears : NotesHeard cycled.duty.device.notes.frames answered.duty.device.notes.frames cycled.watch answered.watch
+  pub within : IsWithinTurn old.watch answered.watch
+  pub still : IsTrue answered.watch.noted
+  pub judges : NotesLoss answered new
+  pub kept_else : new ≡ record answered { lost = new.lost; watch = judging answered.watch }
 
 -- so an image is newly taken for lost only where its cycle rebuilt nothing more, and what it lacks was heard of
 abbrev pub LacksWhereLost : Type 0
-LacksWhereLost = (s t : Seen) (old new : Session) → (h : JudgesTurn s old new t) → IsTrue new.lost → ¬ IsTrue old.lost
+LacksWhereLost = (s t : Timing) (old new : Session) → (h : JudgesTurn s old new t) → IsTrue new.lost → ¬ IsTrue old.lost
     → RebuiltTo h.cycled.follower.subscriber h.cycle.before × IsTrue (lacks h.cycled.opening.geometry h.cycled.duty.device.notes.last h.cycle.before)
 
 -- a session with this device
@@ -76,14 +72,14 @@ abbrev pub with_device : Session → SubscriberDevice → Session
 with_device j d = record j { duty = record (j.duty) { device = d } }
 
 -- at each frame of its session its peer is asked for a SETUP, with the frame's place, under the id of the next image
-pub record IsAskedFor (s : Seen) (j : Session) : Type 0 where
-  pub left : IsLeft s j
-  pub hearing : IsHearing s
+pub record IsAskedFor (j : Session) : Type 0 where
+  pub left : IsLeft j
+  pub hearing : IsHearing j.watch
 
 abbrev pub Asks : SubscribePlan → Option Header → Session → Session → Type 0
 Asks plan None old new = new ≡ old
 Asks plan (Some h) old new = new ≡ with_device old (asked_by old.duty.device (asking_at (header_of h) (id_of plan (next old.images.number))))
 
-pub record AsksAnew (plan : SubscribePlan) (s : Seen) (old new : Session) : Type 0 where
-  pub asks : IsAskedFor s old → Asks plan old.duty.device.notes.last old new
-  pub quiet : ¬ IsAskedFor s old → new ≡ old
+pub record AsksAnew (plan : SubscribePlan) (old new : Session) : Type 0 where
+  pub asks : IsAskedFor old → Asks plan old.duty.device.notes.last old new
+  pub quiet : ¬ IsAskedFor old → new ≡ old

@@ -6,7 +6,7 @@ use Rattle.receiver.specs.Receiving.{Receiver}
 use Rattle.receiver.specs.Subscribing.{RepresentsSubscriber}
 use Rattle.receiver.specs.declared.positions.Positions.{Positions}
 use Rattle.subscriber.specs.Texts.{counters_line}
-use Rattle.subscriber.specs.Watches.{Seen}
+use Rattle.subscriber.specs.Watches.{Timing}
 use Rattle.subscriber.specs.declared.images.session.Session.{Session}
 use Rattle.subscriber.specs.declared.reporting.Counts.{Counts}
 use Rattle.subscriber.specs.declared.reporting.Totals.{Totals}
@@ -14,7 +14,7 @@ use Rattle.subscriber.specs.Standing.{StandsHere}
 use Rattle.subscriber.specs.declared.reporting.Unfinished.{Unfinished}
 
 -- what it has counted behind so many messages, of which so many are new; in all where it has counted before an image and with one
-pub record AreCounts (j : Session) (s : Seen) (written more : ℕ) (c : Counts) : Type 0 where
+pub record AreCounts (j : Session) (s : Timing) (written more : ℕ) (c : Counts) : Type 0 where
   pub messages : c.messages ≡ written
   pub since : c.since ≡ more
   pub naks : c.naks ≡ j.duty.device.naks
@@ -28,7 +28,7 @@ TellsLine None session c before after = after ≡ before
 TellsLine (Some p) session c before after = Appends before after (counters_line session p c)
 
 -- where its image stands, and what it has counted behind so many messages, of which so many are new
-pub record TellsNow (j : Session) (s : Seen) (written more : ℕ) (tells : Option Positions → Counts → Type 0) : Type 0 where
+pub record TellsNow (j : Session) (s : Timing) (written more : ℕ) (tells : Option Positions → Counts → Type 0) : Type 0 where
   pub positions : Option Positions
   pub stands : (r : Receiver) → RepresentsSubscriber j.follower.subscriber r → TellsPositions r positions
   pub counts : Counts
@@ -36,11 +36,11 @@ pub record TellsNow (j : Session) (s : Seen) (written more : ℕ) (tells : Optio
   pub told : tells positions counts
 
 -- those that came since the counters were told last are new
-abbrev pub TellsCounters : Session → Seen → ℕ → (Option Positions → Counts → Type 0) → Type 0
+abbrev pub TellsCounters : Session → Timing → ℕ → (Option Positions → Counts → Type 0) → Type 0
 TellsCounters j s written tells = TellsNow j s written (written - s.written) tells
 
 -- what it has done in all, in so many messages, since a moment
-pub record AreTotals (j : Session) (s : Seen) (messages opened : ℕ) (t : Totals) : Type 0 where
+pub record AreTotals (j : Session) (s : Timing) (messages opened : ℕ) (t : Totals) : Type 0 where
   pub count : t.pace.count ≡ messages
   pub time : t.pace.nanoseconds ≡ s.moment - opened
   pub session : t.session ≡ j.opening.session

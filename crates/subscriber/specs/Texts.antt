@@ -7,7 +7,7 @@ use Rattle.frames.specs.FaultCounts.{counts_text, uncounted}
 use Rattle.frames.specs.declared.fault_counts.FaultCounts.{FaultCounts}
 use Rattle.receiver.specs.declared.positions.Positions.{Positions}
 use Rattle.peer.specs.Texts.{joined}
-use Rattle.subscriber.specs.Watches.{Seen}
+use Rattle.subscriber.specs.Watches.{Timing}
 use Rattle.subscriber.specs.declared.images.Loss.{Loss}
 use Rattle.text.specs.Paces.{pace_text}
 use Rattle.subscriber.specs.declared.reporting.Counted.{Counted}
@@ -123,7 +123,7 @@ abbrev pub waiting_line : Counts → List ℕ
 waiting_line c = line_of (lines.Waiting (record { 0 = nowhere; 1 = c }))
 
 -- what one without an image has counted
-abbrev pub waiting_counts : Seen → Counts
+abbrev pub waiting_counts : Timing → Counts
 waiting_counts s = record { messages = 0; since = 0; naks = 0; lost = s.lost; strangers = s.strangers; refused = uncounted }
 
 -- nothing was refused, and no stranger came

@@ -19,7 +19,7 @@ use Rattle.peer.specs.Ties.{Offer}
 use Rattle.subscriber.specs.Offers.{IsOffered, setup_taken, tied_anew}
 use Rattle.subscriber.specs.Losing.{with_device, IsLeft}
 use Rattle.subscriber.specs.Images.{IsUnnamed, loss_between, next, next_images}
-use Rattle.subscriber.specs.Watches.{IsBehind, IsSilent, Seen, attending, hearing, keeping}
+use Rattle.subscriber.specs.Watches.{IsBehind, IsSilent, attending, hearing, keeping}
 use Rattle.subscriber.specs.Standing.{RebuiltTo, StandsHere}
 use Rattle.subscriber.specs.Texts.{missing_line}
 use Rattle.subscriber.specs.declared.images.Loss.{Loss}
@@ -62,14 +62,14 @@ pub record IsAhead (m : SetupOffer) (rebuilt : ℕ) (j : Session) : Type 0 where
 
 -- an image whose stream has ended gives way to the next publisher's, and one that hasn't ended while its session is silent, or
 -- where what it lacks doesn't come, to its own
-abbrev pub GivesWay : Seen → SetupOffer → ℕ → Session → Type 0
-GivesWay s m rebuilt j = (IsTrue j.ended × IsNext m j) ⊎ ((¬ IsTrue j.ended) × (IsSilent s ⊎ (IsBehind s × IsAhead m rebuilt j)))
+abbrev pub GivesWay : SetupOffer → ℕ → Session → Type 0
+GivesWay m rebuilt j = (IsTrue j.ended × IsNext m j) ⊎ ((¬ IsTrue j.ended) × (IsSilent j.watch ⊎ (IsBehind j.watch × IsAhead m rebuilt j)))
 
 -- what is missing behind an image that gives way: where what it lacks didn't come, all between its consumer and the SETUP
-abbrev pub IsLoss : Seen → SetupOffer → Session → Option Loss → Type 0
-IsLoss s m j loss =
-    (IsLeft s j × ((place : ℕ) × StandsHere j.follower.subscriber place × (loss ≡ loss_between place m.opening.position)))
-    ⊎ ((¬ IsLeft s j) × (loss ≡ None))
+abbrev pub IsLoss : SetupOffer → Session → Option Loss → Type 0
+IsLoss m j loss =
+    (IsLeft j × ((place : ℕ) × StandsHere j.follower.subscriber place × (loss ≡ loss_between place m.opening.position)))
+    ⊎ ((¬ IsLeft j) × (loss ≡ None))
 
 -- that is told, if anything is missing
 abbrev pub TellsLoss : ℤ → Option Loss → Option (List ℕ) → Option (List ℕ) → Type 0
@@ -80,13 +80,14 @@ TellsLoss session (Some loss) before after = Appends before after (missing_line 
 abbrev pub IsTiedTo : SocketAddr → Session → Session → Type 0
 IsTiedTo from old new = new ≡ with_device old (tied_anew old.duty.device from)
 
--- a SETUP has opened a new image, whose peer is the one that sent it, and before which this is missing
-pub record IsRenewed (plan : SubscribePlan) (moment : ℕ) (m : SetupOffer) (loss : Option Loss) (old new : Session) : Type 0 where
+-- a SETUP has opened a new image at the moment, whose peer is the one that sent it, and before which this is missing
+pub record IsRenewed (plan : SubscribePlan) (m : SetupOffer) (loss : Option Loss) (old new : Session) : Type 0 where
   pub images : new.images ≡ next_images old.images loss
-  pub met : HasMet plan (next old.images.number) (setup_of m.setup) moment new.follower.subscriber
+  pub met : HasMet plan (next old.images.number) (setup_of m.setup) old.watch.moment new.follower.subscriber
   pub fresh : IsFresh new.follower m.opening.session plan.end.stream
   pub opening : new.opening ≡ m.opening
   pub device : new.duty ≡ record (old.duty) { device = turned_to (tied_anew old.duty.device m.from) m.opening.session }
+  pub watch : new.watch ≡ keeping (hearing old.watch)
   pub lost : new.lost ≡ false
   pub silent : new.silent ≡ false
   pub warned : new.warned ≡ false
@@ -94,53 +95,51 @@ pub record IsRenewed (plan : SubscribePlan) (moment : ℕ) (m : SetupOffer) (los
   pub unheard : new.unheard ≡ []
 
 -- and what is missing is what was between them
-pub record Replaces (plan : SubscribePlan) (s : Seen) (m : SetupOffer) (old new : Session) : Type 0 where
+pub record Replaces (plan : SubscribePlan) (m : SetupOffer) (old new : Session) : Type 0 where
   pub loss : Option Loss
-  pub is : IsLoss s m old loss
-  pub renewed : IsRenewed plan s.moment m loss old new
+  pub is : IsLoss m old loss
+  pub renewed : IsRenewed plan m loss old new
 
 -- the image doesn't give way: nothing is made of it, but that another sender or session is noted
-pub record Passes (s : Seen) (m : SetupOffer) (rebuilt : ℕ) (old new : Session) (t : Seen) : Type 0 where
-  pub stays : ¬ GivesWay s m rebuilt old
+pub record Passes (m : SetupOffer) (rebuilt : ℕ) (old new : Session) : Type 0 where
+  pub stays : ¬ GivesWay m rebuilt old
   pub warns : Warns m old new
-  pub seen : t ≡ s
 
 -- it is the own again of a session that was silent, whose stream hasn't ended, where the image is rebuilt up to here
-pub record IsAgain (s : Seen) (m : SetupOffer) (rebuilt : ℕ) (j : Session) : Type 0 where
+pub record IsAgain (m : SetupOffer) (rebuilt : ℕ) (j : Session) : Type 0 where
   pub going : ¬ IsTrue j.ended
-  pub silent : IsSilent s
+  pub silent : IsSilent j.watch
   pub own : GoesOn j.opening rebuilt m.opening
 
 -- the image would give way, and goes on
-pub record Resumes (s : Seen) (m : SetupOffer) (rebuilt : ℕ) (old new : Session) (t : Seen) : Type 0 where
-  pub way : GivesWay s m rebuilt old
-  pub again : IsAgain s m rebuilt old
+pub record Resumes (m : SetupOffer) (rebuilt : ℕ) (old new : Session) : Type 0 where
+  pub way : GivesWay m rebuilt old
+  pub again : IsAgain m rebuilt old
   pub tied : IsTiedTo m.from old new
-  pub seen : t ≡ s
 
 -- the image gives way
-pub record Renews (plan : SubscribePlan) (s : Seen) (m : SetupOffer) (rebuilt : ℕ) (old new : Session) (t : Seen) : Type 0 where
-  pub way : GivesWay s m rebuilt old
-  pub other : ¬ IsAgain s m rebuilt old
-  pub replaced : Replaces plan s m old new
-  pub seen : t ≡ keeping (hearing s)
+pub record Renews (plan : SubscribePlan) (m : SetupOffer) (rebuilt : ℕ) (old new : Session) : Type 0 where
+  pub way : GivesWay m rebuilt old
+  pub other : ¬ IsAgain m rebuilt old
+  pub replaced : Replaces plan m old new
 
 -- what is made of a SETUP that would open an image
-abbrev pub Turns : SubscribePlan → Seen → SetupOffer → Session → Session → Seen → Type 0
-Turns plan s m old new t =
-    (rebuilt : ℕ) × RebuiltTo old.follower.subscriber rebuilt × (Passes s m rebuilt old new t ⊎ Resumes s m rebuilt old new t ⊎ Renews plan s m rebuilt old new t)
+abbrev pub Turns : SubscribePlan → SetupOffer → Session → Session → Type 0
+Turns plan m old new =
+    (rebuilt : ℕ) × RebuiltTo old.follower.subscriber rebuilt × (Passes m rebuilt old new ⊎ Resumes m rebuilt old new ⊎ Renews plan m rebuilt old new)
 
 -- what is made of any SETUP
-abbrev pub Considers : SubscribePlan → Seen → SocketAddr → Setup → Session → Session → Seen → Type 0
-Considers plan s from f old new t =
-    (OpensNothing plan (setup_of f) × (new ≡ old) × (t ≡ s)) ⊎ ((m : SetupOffer) × IsMeeting plan from f m × Turns plan s m old new t)
+abbrev pub Considers : SubscribePlan → SocketAddr → Setup → Session → Session → Type 0
+Considers plan from f old new =
+    (OpensNothing plan (setup_of f) × (new ≡ old)) ⊎ ((m : SetupOffer) × IsMeeting plan from f m × Turns plan m old new)
 
 -- and of the one that came in a cycle, if one did
-abbrev pub ConsidersOffer : SubscribePlan → Seen → Offer → Session → Session → Seen → Type 0
-ConsidersOffer plan s None old new t = (new ≡ old) × (t ≡ s)
-ConsidersOffer plan s (Some offer) old new t = Considers plan s offer.0 offer.1 old new t
+abbrev pub ConsidersOffer : SubscribePlan → Offer → Session → Session → Type 0
+ConsidersOffer plan None old new = new ≡ old
+ConsidersOffer plan (Some offer) old new = Considers plan offer.0 offer.1 old new
 
-abbrev pub Attends : SubscribePlan → Seen → Session → Session → Seen → Type 0
-Attends plan s old new t =
+abbrev pub Attends : SubscribePlan → Session → Session → Type 0
+Attends plan old new =
     (offer : Offer) × IsOffered old.duty.device.notes.setup old.duty.device.inner.inner.inner offer
-    × (u : Seen) × ConsidersOffer plan s offer (with_device old (setup_taken old.duty.device)) new u × (t ≡ attending u)
+    × (considered : Session) × ConsidersOffer plan offer (with_device old (setup_taken old.duty.device)) considered
+    × (new ≡ record considered { watch = attending considered.watch })

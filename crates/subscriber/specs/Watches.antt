@@ -1,17 +1,15 @@
--- What a subscriber has seen of the time, and what comes of it.
+-- What a subscriber has seen of the time, in all and of each session, and what comes of it.
 use Rattle.std.specs.Prelude.{◌≡◌, Result, Ok, Err, ◌+◌, ◌-◌, ◌%◌, ◌^◌, ◌≤◌, ◌<◌, ℕ, nat_lt, Bool, true, false, IsTrue, min, if◌then◌else◌}
 use Rattle.endpoint.specs.Devices.{counted}
 use Rattle.endpoint.specs.declared.datagrams.DeviceFailed.{DeviceFailed}
 use Rattle.options.specs.declared.ends.plans.SubscribePlan.{SubscribePlan}
 
--- moments are nanoseconds from its begin
-pub record Seen : Type 0 where
+-- moments are nanoseconds from its begin: what a subscriber has seen, whatever its sessions
+pub record Timing : Type 0 where
   -- the moment that it noted last
   pub moment : ℕ
-  -- when what it waits for came last
+  -- when what it waits for without an image came last
   pub heard : ℕ
-  -- when nothing was lacking last, something that was lacking came last, or it was heard again behind a second or more
-  pub kept : ℕ
   -- when a call of its socket worked last
   pub worked : ℕ
   -- when it told its counters last
@@ -24,38 +22,99 @@ pub record Seen : Type 0 where
   pub calls : ℕ
   -- how many calls of its socket failed before an image
   pub lost : ℕ
-  -- how often it has looked at the clock since the first image's turns began, how often what came of SETUPs was attended
-  -- since, and how often it was judged whether the image is lost; modulo 2 ^ 64
+
+-- it has seen its begin
+abbrev pub begun : Timing
+begun = record { moment = 0; heard = 0; worked = 0; told = 0; written = 0; strangers = 0; calls = 0; lost = 0 }
+
+-- a second or more in which it didn't look at the clock is no silence of others, and no failing of its socket: it heard nobody
+-- then and called nothing, and couldn't have. So what was earlier counts as later by that time, where it looked at this moment last
+abbrev pub later_by : ℕ → ℕ → ℕ → ℕ
+later_by moment now earlier = if nat_lt (now - moment) 1000000000 then earlier else min now (earlier + (now - moment))
+
+-- it looks at the clock
+abbrev pub seeing : Timing → ℕ → Timing
+seeing s now = record s { moment = now; heard = later_by s.moment now s.heard; worked = later_by s.moment now s.worked }
+
+-- what it waits for came at the moment
+abbrev pub awaking : Timing → Timing
+awaking s = record s { heard = s.moment }
+
+-- what came at the moment calls for a SETUP
+abbrev pub called : Timing → Timing
+called s = record (awaking s) { calls = counted s.calls }
+
+-- a call of its socket worked at the moment
+abbrev pub working : Timing → Timing
+working s = record s { worked = s.moment }
+
+-- one failed
+abbrev pub losing : Timing → Timing
+losing s = record s { lost = counted s.lost }
+
+-- by what it answered
+abbrev pub after_call : Result (Unit {0}) DeviceFailed → Timing → Timing
+after_call (Ok done) s = working s
+after_call (Err failed) s = losing s
+
+-- a datagram was a stranger's
+abbrev pub with_stranger : Timing → Timing
+with_stranger s = record s { strangers = counted s.strangers }
+
+-- without an image it has waited for as long as the plan says
+abbrev pub HasWaited : SubscribePlan → Timing → Type 0
+HasWaited plan s = plan.quiet ≤ s.moment - s.heard
+
+-- no call of its socket has worked for so long that it's given up
+abbrev pub IsBroken : Timing → Type 0
+IsBroken s = 5000000000 ≤ s.moment - s.worked
+
+-- the counters are shown, and were told a second ago or earlier
+pub record IsDue (plan : SubscribePlan) (s : Timing) : Type 0 where
+  pub shown : IsTrue plan.end.counters
+  pub second : 1000000000 ≤ s.moment - s.told
+
+-- where they are due they are told at the moment, behind so many messages; else nothing is
+pub record TellsWhereDue (plan : SubscribePlan) (written : ℕ) (s t : Timing) (told quiet : Type 0) : Type 0 where
+  pub due : IsDue plan s → (t ≡ record s { told = s.moment; written = written }) × told
+  pub early : ¬ IsDue plan s → (t ≡ s) × quiet
+
+-- they are told at the moment, behind so many messages, or not
+abbrev pub told_if : Bool → ℕ → Timing → Timing
+told_if tells written s = if tells then record s { told = s.moment; written = written } else s
+
+-- ---- of one session
+
+pub record Seen : Type 0 where
+  -- the moment that was noted last
+  pub moment : ℕ
+  -- when a frame of it came last
+  pub heard : ℕ
+  -- when nothing was lacking last, something that was lacking came last, or it was heard again behind a second or more
+  pub kept : ℕ
+  -- how often the clock was looked at since its image was opened, how often what came of SETUPs was attended since, and how often
+  -- it was judged whether the image is lost; modulo 2 ^ 64
   pub turns : ℕ
   pub attended : ℕ
   pub judged : ℕ
   -- whether it was noted in this turn what the image lacks
   pub noted : Bool
 
--- it has seen its begin
-abbrev pub begun : Seen
-begun = record { moment = 0; heard = 0; kept = 0; worked = 0; told = 0; written = 0; strangers = 0; calls = 0; lost = 0; turns = 0; attended = 0; judged = 0; noted = false }
+-- its image was opened at this moment, of which nothing is lacking, and no turn has begun
+abbrev pub beginning : ℕ → Seen
+beginning moment = record { moment = moment; heard = moment; kept = moment; turns = 0; attended = 0; judged = 0; noted = false }
 
--- a second or more in which it didn't look at the clock is no silence of others, and no failing of its socket: it heard nobody
--- then and called nothing, and couldn't have. So what was earlier counts as later by that time
-abbrev pub later_by : Seen → ℕ → ℕ → ℕ
-later_by s now earlier = if nat_lt (now - s.moment) 1000000000 then earlier else min now (earlier + (now - s.moment))
-
--- it looks at the clock
+-- the clock was looked at, and a turn begins
 abbrev pub looking : Seen → ℕ → Seen
-looking s now = record s { moment = now; heard = later_by s now s.heard; kept = later_by s now s.kept; worked = later_by s now s.worked; turns = (s.turns + 1) % 2 ^ 64; noted = false }
+looking s now = record s { moment = now; heard = later_by s.moment now s.heard; kept = later_by s.moment now s.kept; turns = (s.turns + 1) % 2 ^ 64; noted = false }
 
--- what it waits for came at the moment; a second or more without it doesn't count as time in which something is lacking
+-- a frame of it came at the moment; a second or more without one doesn't count as time in which something is lacking
 abbrev pub hearing : Seen → Seen
 hearing s = record s { heard = s.moment; kept = if nat_lt (s.moment - s.heard) 1000000000 then s.kept else s.moment }
 
 -- nothing is lacking at the moment, or something that was lacking came at it
 abbrev pub keeping : Seen → Seen
 keeping s = record s { kept = s.moment }
-
--- an image is there, and its turns begin
-abbrev pub beginning : Seen → Seen
-beginning s = record s { kept = s.moment; turns = 0; attended = 0; judged = 0; noted = false }
 
 -- in a turn
 abbrev pub attending : Seen → Seen
@@ -83,28 +142,7 @@ pub record IsWithinTurn (s t : Seen) : Type 0 where
   pub attended : t.attended ≡ s.attended
   pub judged : t.judged ≡ s.judged
 
--- what came at the moment calls for a SETUP
-abbrev pub called : Seen → Seen
-called s = record (hearing s) { calls = counted s.calls }
-
--- a call of its socket worked at the moment
-abbrev pub working : Seen → Seen
-working s = record s { worked = s.moment }
-
--- one failed
-abbrev pub losing : Seen → Seen
-losing s = record s { lost = counted s.lost }
-
--- by what it answered
-abbrev pub after_call : Result (Unit {0}) DeviceFailed → Seen → Seen
-after_call (Ok done) s = working s
-after_call (Err failed) s = losing s
-
--- a datagram was a stranger's
-abbrev pub with_stranger : Seen → Seen
-with_stranger s = record s { strangers = counted s.strangers }
-
--- for how long what it waits for hasn't come
+-- for how long no frame of it has come
 abbrev pub silence_of : Seen → ℕ
 silence_of s = s.moment - s.heard
 
@@ -116,29 +154,11 @@ IsQuiet plan s = plan.quiet ≤ silence_of s
 abbrev pub IsSilent : Seen → Type 0
 IsSilent s = 10000000000 ≤ silence_of s
 
--- for ten seconds nothing that is lacking has come, in which what it waits for was heard each second
+-- for ten seconds nothing that is lacking has come, in which a frame of it was heard each second
 pub record IsBehind (s : Seen) : Type 0 where
   pub long : 10000000000 ≤ s.moment - s.kept
   pub heard : s.moment - s.heard < 1000000000
 
--- it came at the moment
+-- one came at the moment
 abbrev pub IsHearing : Seen → Type 0
 IsHearing s = s.heard ≡ s.moment
-
--- no call of its socket has worked for so long that it's given up
-abbrev pub IsBroken : Seen → Type 0
-IsBroken s = 5000000000 ≤ s.moment - s.worked
-
--- the counters are shown, and were told a second ago or earlier
-pub record IsDue (plan : SubscribePlan) (s : Seen) : Type 0 where
-  pub shown : IsTrue plan.end.counters
-  pub second : 1000000000 ≤ s.moment - s.told
-
--- where they are due they are told at the moment, behind so many messages; else nothing is
-pub record TellsWhereDue (plan : SubscribePlan) (written : ℕ) (s t : Seen) (told quiet : Type 0) : Type 0 where
-  pub due : IsDue plan s → (t ≡ record s { told = s.moment; written = written }) × told
-  pub early : ¬ IsDue plan s → (t ≡ s) × quiet
-
--- they are told at the moment, behind so many messages, or not
-abbrev pub told_if : Bool → ℕ → Seen → Seen
-told_if tells written s = if tells then record s { told = s.moment; written = written } else s

@@ -8,6 +8,7 @@ pub(crate) mod delivery;
 pub(crate) mod follower;
 pub(crate) mod session;
 pub(crate) mod session_device;
+pub(crate) mod session_watch;
 
 use std::fmt;
 use std::marker::Model;

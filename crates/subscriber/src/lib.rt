@@ -15,7 +15,8 @@
 //!   have gone by without a newer one, and nothing else ever (`repeats_the_last`). So a publisher goes on hearing a subscriber
 //!   whose output blocks.
 //! - `reporting`: the lines of the error output, each with its exact text (`Line`).
-//! - `watch`: the time that was seen: what is silent, quiet, behind or broken.
+//! - `watch`: the time that was seen, whatever the sessions: how long it has waited without an image, when its socket is broken, when
+//!   counters are due. When a session is silent, quiet or behind, its own watch says (`SessionWatch`, in `images`).
 //!
 //! Where `subscribe` ends without a fault, a writer that tells what it holds has grown by whole messages, at most as many as
 //! were wanted: those that the polls of its images gave, image by image (`WritesLives`). How it ends, `HasEnded` says. Behind a

@@ -1,6 +1,6 @@
 //! A subscriber without an image.
 
-ghost use Rattle.std.specs.Prelude.{◌≡◌, None, IfNone, IfOk, IfSome, OnOk};
+ghost use Rattle.std.specs.Prelude.{◌≡◌, IfNone, IfOk, IfSome, OnOk, option_map};
 ghost use Rattle.std.specs.Io.KnownBytes.{Appends};
 ghost use Rattle.theory.specs.Control.{asking_at};
 ghost use Rattle.theory.specs.Wire.{IsHeader, SM};
@@ -9,20 +9,21 @@ ghost use Rattle.peer.specs.Patience.{patient};
 ghost use Rattle.peer.specs.Ties.{tied_to};
 ghost use Rattle.subscriber.specs.Hearings.{following};
 ghost use Rattle.frames.specs.Frames.{header_of, setup_of, status_of};
-ghost use Rattle.subscriber.specs.Calls.{Heeds, IsCall, IsCallWith, IsJoined, IsJoinedBy};
+ghost use Rattle.subscriber.specs.Calls.{Heeds, IsCall, IsFrameCall, IsJoined, IsJoinedBy};
 ghost use Rattle.subscriber.specs.Meetings.{Opens, id_of};
 ghost use Rattle.subscriber.specs.Texts.{waiting_counts, waiting_line};
-ghost use Rattle.subscriber.specs.Watches.{IsQuiet, TellsWhereDue, after_call};
+ghost use Rattle.subscriber.specs.Watches.{HasWaited, TellsWhereDue, after_call};
 
+pub(crate) mod first_frame;
 pub(crate) mod setup_offer;
 
 use crate::images::follower::Follower;
 use crate::images::session::Session;
 use crate::images::session_device::{SessionDevice, SubscriberDevice};
+use crate::images::session_watch::SessionWatch;
 use crate::images::{Images, Unheard};
-use crate::listening::setup_offer::{
-    SetupOffer, header_in, id_of, meeting_of, opened, takes_session,
-};
+use crate::listening::first_frame::first_frame;
+use crate::listening::setup_offer::{SetupOffer, id_of, meeting_of, opened, takes_session};
 use crate::reporting::{Counted, Counts, Line, NOWHERE, tell as tell_line};
 use crate::watch::Watch;
 use agents::{Duty, IdleStrategy, REPLY};
@@ -30,7 +31,7 @@ use endpoint::{DeviceError, DeviceFailed};
 use frames::{FaultCounts, Header, Status};
 use loss_injector::Lossy;
 use options::SubscribePlan;
-use peer::{Listener, PatientDevice, TiedDevice, setup_in};
+use peer::{Listener, PatientDevice, TiedDevice};
 use receiver::asking;
 use std::alloc::{AllocError, Global};
 use std::io;
@@ -51,10 +52,11 @@ pub(crate) enum Call {
 }
 
 /// What a frame of a stream is, by its header.
-fn frame_call(plan: &SubscribePlan, from: SocketAddr, datagram: &[u8]) -> Call
-    ensures { IsCallWith plan.now from datagram.now None result }
+fn frame_call(plan: &SubscribePlan, header: Option<Header>) -> Call
+    requires legal { IfSome header (λ h. IsHeader (header_of h)) }
+    ensures { IsFrameCall plan.now (option_map header_of header) result }
 {
-    match header_in(datagram) {
+    match header {
         Some(header) if header.stream == plan.end.stream && takes_session(plan, header.session) => {
             Call::Asks(header)
         }
@@ -66,8 +68,9 @@ fn frame_call(plan: &SubscribePlan, from: SocketAddr, datagram: &[u8]) -> Call
 fn call_of(plan: &SubscribePlan, from: SocketAddr, datagram: &[u8]) -> Call
     ensures { IsCall plan.now from datagram.now result }
 {
-    match setup_in(datagram) {
-        None => frame_call(plan, from, datagram),
+    let first = first_frame(datagram);
+    match first.setup() {
+        None => frame_call(plan, first.header()),
         Some(setup) => match meeting_of(plan, from, &setup) {
             None => Call::Stranger,
             Some(meeting) => Call::Opens(meeting),
@@ -161,6 +164,7 @@ fn join(
             end: None,
         },
         duty,
+        watch: SessionWatch::new(now),
         lost: false,
         silent: false,
         warned: false,
@@ -199,7 +203,7 @@ pub fn listen<R: Wait + Clock, E: Write>(
     watch: &mut Watch,
 ) -> Result<Option<Session>, DeviceError>
     ensures joined { IfOk result (λ found. IfSome found (IsJoined plan.now watch.new)) }
-    ensures quiet { IfOk result (λ found. IfNone found (IsQuiet plan.now watch.new)) }
+    ensures quiet { IfOk result (λ found. IfNone found (HasWaited plan.now watch.new)) }
     // For each datagram that calls for a SETUP its sender was asked.
     ensures asks { listener.asks ≡ watch.old.calls → IfOk result (λ found. IfSome found (λ j. j.duty.device.inner.inner.inner.socket.asks ≡ watch.new.calls)) }
 {

@@ -17,7 +17,7 @@ ghost use Rattle.subscriber.specs.Telling.{TellsCounters, TellsLine, TellsUnfini
 ghost use Rattle.subscriber.specs.Standing.{HasAll, Stands};
 ghost use Rattle.subscriber.specs.Texts.{nobody_line, not_whole_line, unfinished_line};
 ghost use Rattle.subscriber.specs.Turning.{Attends, Considers, IsRenewed, Replaces, TellsLoss, Turns};
-ghost use Rattle.subscriber.specs.Watches.{AttendsEach, IsWithinTurn, JudgesEach, TellsWhereDue};
+ghost use Rattle.subscriber.specs.Watches.{AttendsEach, IsWithinTurn, JudgesEach, TellsWhereDue, beginning};
 ghost use Rattle.subscriber.specs.declared.ending.Ending.TheVariants.{Lost, Short, Whole};
 ghost use Rattle.subscriber.specs.declared.fault.SubscribeFault.TheVariants.{Failed};
 ghost use Rattle.subscriber.specs.declared.images.session.Stand.{Stand as Standing};
@@ -117,7 +117,6 @@ impl Subscription<'_> {
         &self,
         session: &mut Session,
         output: &mut W,
-        watch: &mut Watch,
         written: u64,
     ) -> Result<(u64, bool), SubscribeFault>
         requires size { session.old.duty.mtu ≡ REPLY }
@@ -125,16 +124,16 @@ impl Subscription<'_> {
         ensures size { session.new.duty.mtu ≡ REPLY }
         // No fault of the socket ends it.
         ensures patient { IfErr result (λ fault. fault ≢ Failed Device) }
-        ensures heard { OnOk result (NotesHeard session.old.duty.device.notes.frames session.new.duty.device.notes.frames watch.old watch.new) }
+        ensures heard { OnOk result (NotesHeard session.old.duty.device.notes.frames session.new.duty.device.notes.frames session.old.watch session.new.watch) }
         ensures writes { IfOk result (λ r. (r.0 ≤ self.now.plan.messages) × Writes self.now.plan.end.form written (W.contents output.old) r.0 (W.contents output.new)) }
         ensures lives { IfOk result (λ r. LivesOn self.now.plan.end.form written session.old.follower (W.contents output.old) r.0 session.new.follower (W.contents output.new)) }
         // At a fault all that was told is written.
         ensures broken { OnErr result (BreaksActs self.now.plan.end.form session.old.follower.subscriber (W.contents output.old) session.new.follower.subscriber (W.contents output.new)) }
         // Last it was told the moment.
-        ensures ticked { IfOk result (λ _. IsTicked watch.old.moment session.new.follower.subscriber) }
-        ensures moment { watch.new.moment ≡ watch.old.moment }
-        ensures turn { IsWithinTurn watch.old watch.new }
-        ensures same { session.new ≡ record session.old { follower = session.new.follower; duty = session.new.duty } }
+        ensures ticked { IfOk result (λ _. IsTicked session.old.watch.moment session.new.follower.subscriber) }
+        ensures moment { session.new.watch.moment ≡ session.old.watch.moment }
+        ensures turn { IsWithinTurn session.old.watch session.new.watch }
+        ensures same { session.new ≡ record session.old { follower = session.new.follower; duty = session.new.duty; watch = session.new.watch } }
     {
         let before = session.duty.device().notes().frames;
         let passed = session.duty.device().tied().strangers();
@@ -146,9 +145,9 @@ impl Subscription<'_> {
             &mut session.follower,
             output,
             &mut session.duty,
-            watch.moment(),
+            session.watch.moment(),
         )?;
-        session.note_heard(watch, before);
+        session.note_heard(before);
         let all = written + done.messages as u64;
         let moved = session.follower.subscriber.positions() != stood;
         let stirred = session.duty.device().tied().strangers() != passed;
@@ -181,12 +180,12 @@ impl Subscription<'_> {
     {
         let worked = session.calls_worked();
         let rebuilt = session.rebuilt();
-        let (all, busy) = self.cycle_once(session, output, watch, written)?;
+        let (all, busy) = self.cycle_once(session, output, written)?;
         session.check_works(watch, worked)?;
-        session.note_kept(watch, rebuilt);
-        let stand = session.answer_end(errors, watch)?;
-        let _ = session.tell_silence(errors, watch);
-        let _ = session.tell_loss(errors, watch);
+        session.note_kept(rebuilt);
+        let stand = session.answer_end(errors)?;
+        let _ = session.tell_silence(errors);
+        let _ = session.tell_loss(errors);
         Ok((all, busy, stand))
     }
 
@@ -208,18 +207,18 @@ impl Subscription<'_> {
         }
     }
 
-    /// How it ends at the moment, behind so many messages, if it does.
-    fn ending_of(&self, watch: &Watch, written: u64, stand: &Stand, lost: bool) -> Option<Ending>
-        ensures { IsEnding self.now.plan written watch.now stand.now lost result }
+    /// How it ends with a session at the moment, behind so many messages, if it does.
+    fn ending_of(&self, session: &Session, written: u64, stand: &Stand) -> Option<Ending>
+        ensures { IsEnding self.now.plan written session.now.watch stand.now (has_lost session.now.lost session.now.images) result }
     {
         if self.is_done(written, stand) {
-            return Some(enough_ending(lost));
+            return Some(enough_ending(session.has_lost()));
         }
-        if !watch.is_quiet(&self.plan) {
+        if !session.watch.is_quiet(&self.plan) {
             return None;
         }
         match self.quiet_ending() {
-            Ending::Whole => Some(enough_ending(lost)),
+            Ending::Whole => Some(enough_ending(session.has_lost())),
             Ending::Short | Ending::Lost => Some(Ending::Short),
         }
     }
@@ -259,11 +258,11 @@ impl Subscription<'_> {
     }
 
     /// Asks the peer, at a frame, for a SETUP under the id of the next image, where what the image lacks doesn't come.
-    fn ask_anew(&self, session: &mut Session, watch: &Watch)
-        ensures asks { AsksAnew self.now.plan watch.now session.old session.new }
+    fn ask_anew(&self, session: &mut Session)
+        ensures asks { AsksAnew self.now.plan session.old session.new }
         ensures same { session.new ≡ with_device session.old session.new.duty.device }
     {
-        if session.ended || !watch.is_behind() || !watch.is_hearing() {
+        if session.ended || !session.watch.is_behind() || !session.watch.is_hearing() {
             return;
         }
         let Some(frame) = session.duty.device().notes().last else {
@@ -280,13 +279,13 @@ impl Subscription<'_> {
         session: &mut Session,
         meeting: &SetupOffer,
         loss: Option<Loss>,
-        now: u64,
     ) -> Result<(), SubscribeFault>
-        ensures renewed { OnOk result (IsRenewed self.now.plan now meeting.now loss session.old session.new) }
+        ensures renewed { OnOk result (IsRenewed self.now.plan meeting.now loss session.old session.new) }
         ensures kept { OnErr result (session.new.follower.subscriber ≡ session.old.follower.subscriber) }
         ensures size { session.new.duty.mtu ≡ session.old.duty.mtu }
     {
         let images = session.images.next(loss);
+        let now = session.watch.moment();
         let subscriber = opened(self.alloc, &self.plan, images.number, &meeting.setup, now)?;
         session.follower = Follower {
             subscriber,
@@ -301,6 +300,8 @@ impl Subscription<'_> {
         session.warned = false;
         session.ended = false;
         session.unheard = Unheard::new();
+        session.watch.hear();
+        session.watch.keep();
         let device = session.duty.device_mut();
         device.turn(meeting.from, meeting.opening.session);
         Ok(())
@@ -312,17 +313,16 @@ impl Subscription<'_> {
         session: &mut Session,
         meeting: &SetupOffer,
         errors: &mut E,
-        watch: &Watch,
     ) -> Result<(), SubscribeFault>
-        ensures renewed { OnOk result (Replaces self.now.plan watch.now meeting.now session.old session.new) }
+        ensures renewed { OnOk result (Replaces self.now.plan meeting.now session.old session.new) }
         ensures kept { OnErr result (session.new.follower.subscriber ≡ session.old.follower.subscriber) }
         ensures size { session.new.duty.mtu ≡ session.old.duty.mtu }
     {
         let refused = session.follower.subscriber.refused();
         let id = SessionId(session.opening.session);
         let _ = tell(errors, Line::Closed(id, session.place(), refused));
-        let loss = meeting.loss_behind(session, watch);
-        self.renew(session, meeting, loss, watch.moment())?;
+        let loss = meeting.loss_behind(session);
+        self.renew(session, meeting, loss)?;
         let id = SessionId(session.opening.session);
         let _ = tell(errors, Line::Joined(id, session.place()));
         let _ = tell_loss(errors, session.opening.session, loss);
@@ -335,25 +335,21 @@ impl Subscription<'_> {
         session: &mut Session,
         meeting: &SetupOffer,
         errors: &mut E,
-        watch: &mut Watch,
     ) -> Result<(), SubscribeFault>
-        ensures turns { OnOk result (Turns self.now.plan watch.old meeting.now session.old session.new watch.new) }
+        ensures turns { OnOk result (Turns self.now.plan meeting.now session.old session.new) }
         ensures kept { OnErr result (session.new.follower.subscriber ≡ session.old.follower.subscriber) }
         ensures size { session.new.duty.mtu ≡ session.old.duty.mtu }
     {
         let rebuilt = session.rebuilt();
-        if !meeting.takes_the_place(session, watch, rebuilt) {
+        if !meeting.takes_the_place(session, rebuilt) {
             let _ = session.warn(meeting, errors);
             return Ok(());
         }
-        if meeting.is_again(session, watch, rebuilt) {
+        if meeting.is_again(session, rebuilt) {
             session.duty.device_mut().tie(meeting.from);
             return Ok(());
         }
-        self.replace(session, meeting, errors, watch)?;
-        watch.hear();
-        watch.keep();
-        Ok(())
+        self.replace(session, meeting, errors)
     }
 
     /// What is made of a SETUP, which this one sent.
@@ -362,15 +358,14 @@ impl Subscription<'_> {
         session: &mut Session,
         offer: (SocketAddr, Setup),
         errors: &mut E,
-        watch: &mut Watch,
     ) -> Result<(), SubscribeFault>
-        ensures considers { OnOk result (Considers self.now.plan watch.old offer.0 offer.1 session.old session.new watch.new) }
+        ensures considers { OnOk result (Considers self.now.plan offer.0 offer.1 session.old session.new) }
         ensures kept { OnErr result (session.new.follower.subscriber ≡ session.old.follower.subscriber) }
         ensures size { session.new.duty.mtu ≡ session.old.duty.mtu }
     {
         match meeting_of(&self.plan, offer.0, &offer.1) {
             None => Ok(()),
-            Some(meeting) => self.turns(session, &meeting, errors, watch),
+            Some(meeting) => self.turns(session, &meeting, errors),
         }
     }
 
@@ -380,20 +375,15 @@ impl Subscription<'_> {
     /// while the session isn't silent, only its peer's own does, if what the image lacks doesn't come and it lies above what is
     /// rebuilt. Of a silent session one of the same shape that isn't behind what was rebuilt makes who sent it the peer, and the
     /// image goes on; any other opens a new one. The fault is that memory was refused; then nothing was opened.
-    fn attend<E: Write>(
-        &self,
-        session: &mut Session,
-        errors: &mut E,
-        watch: &mut Watch,
-    ) -> Result<(), SubscribeFault>
-        ensures attends { OnOk result (Attends self.now.plan watch.old session.old session.new watch.new) }
+    fn attend<E: Write>(&self, session: &mut Session, errors: &mut E) -> Result<(), SubscribeFault>
+        ensures attends { OnOk result (Attends self.now.plan session.old session.new) }
         ensures kept { OnErr result (session.new.follower.subscriber ≡ session.old.follower.subscriber) }
         ensures size { session.new.duty.mtu ≡ session.old.duty.mtu }
     {
         if let Some(offer) = session.duty.device_mut().offered() {
-            self.consider(session, offer, errors, watch)?;
+            self.consider(session, offer, errors)?;
         }
-        watch.attend();
+        session.watch.attend();
         Ok(())
     }
 
@@ -419,31 +409,32 @@ impl Subscription<'_> {
         requires size { session.old.duty.mtu ≡ REPLY }
         requires begun { Follows self.now.plan (W.contents output.old) 0 session.old.images session.old.follower (W.contents output.old) }
         requires going { session.old.ended ≡ false }
+        requires fresh { session.old.watch ≡ beginning session.old.watch.moment }
         ensures size { session.new.duty.mtu ≡ REPLY }
         ensures few { IfOk result (λ r. r.0 ≤ self.now.plan.messages) }
-        ensures ended { IfOk result (λ r. EndsSo self.now.plan r.0 watch.new session.new.follower.subscriber session.new.follower.end (has_lost session.new.lost session.new.images) r.1) }
+        ensures ended { IfOk result (λ r. EndsSo self.now.plan r.0 session.new.watch session.new.follower.subscriber session.new.follower.end (has_lost session.new.lost session.new.images) r.1) }
         ensures writes { IfOk result (λ r. Writes self.now.plan.end.form 0 (W.contents output.old) r.0 (W.contents output.new)) }
         // In each turn, but in the last one, what came of SETUPs was attended.
-        ensures attended { IfOk result (λ _. AttendsEach watch.new) }
+        ensures attended { IfOk result (λ _. AttendsEach session.new.watch) }
         // In each turn, the last one too, it was noted what the image lacks, and judged by that whether it is lost.
-        ensures judged { IfOk result (λ _. JudgesEach watch.new) }
+        ensures judged { IfOk result (λ _. JudgesEach session.new.watch) }
         // What its images gave, each in its turn.
         ensures lives { IfOk result (λ r. Follows self.now.plan (W.contents output.old) r.0 session.new.images session.new.follower (W.contents output.new)) }
         ensures broken { OnErr result (BreaksLife self.now.plan (W.contents output.old) session.new.follower.subscriber (W.contents output.new)) }
     {
         let mut written: u64 = 0;
         let mut idle = IdleStrategy::new();
-        watch.begin();
         for _ in rt.forever() {
             watch.see(rt)?;
+            session.watch.begin_turn(watch.moment());
             let (all, busy, stand) = self.look(session, output, errors, watch, written)?;
             written = all;
             let _ = self.tell(session, errors, watch, written);
-            if let Some(ending) = self.ending_of(watch, written, &stand, session.has_lost()) {
+            if let Some(ending) = self.ending_of(session, written, &stand) {
                 return Ok((written, ending));
             }
-            self.ask_anew(session, watch);
-            self.attend(session, errors, watch)?;
+            self.ask_anew(session);
+            self.attend(session, errors)?;
             self.tell_news(rt, session);
             idle.after(rt, busy);
         }
@@ -451,10 +442,10 @@ impl Subscription<'_> {
     }
 
     /// Whether it has all of the stream, and was quiet since.
-    fn is_settled(&self, watch: &Watch, stand: &Stand) -> bool
-        ensures { IsTrue result ↔ IsSettled self.now.plan watch.now stand.now }
+    fn is_settled(&self, session: &Session, stand: &Stand) -> bool
+        ensures { IsTrue result ↔ IsSettled self.now.plan session.now.watch stand.now }
     {
-        stand.has_all() && watch.is_quiet(&self.plan)
+        stand.has_all() && session.watch.is_quiet(&self.plan)
     }
 
     /// Leaves a session: unless all of its stream is there, and it was quiet since, it is told where the subscriber stands.
@@ -468,9 +459,9 @@ impl Subscription<'_> {
         ensures unpolled { LivesUnpolled session.old.follower.subscriber session.new.follower.subscriber }
         ensures still { StandsStill session.old.follower.subscriber session.new.follower.subscriber }
         ensures images { session.new.images ≡ session.old.images }
-        ensures leaves { (x : Standing) × Stands session.old.follower.subscriber session.old.follower.end x × LeavesFrom self.now.plan watch.old x (session.new ≡ session.old) (OnOk result (BidsFarewell session.old.follower.subscriber watch.old.moment session.new.follower.subscriber watch.new.moment)) }
+        ensures leaves { (x : Standing) × Stands session.old.follower.subscriber session.old.follower.end x × LeavesFrom self.now.plan session.old.watch x (session.new ≡ session.old) (OnOk result (BidsFarewell session.old.follower.subscriber watch.old.moment session.new.follower.subscriber watch.new.moment)) }
     {
-        if self.is_settled(watch, &session.stand()) {
+        if self.is_settled(session, &session.stand()) {
             return Ok(());
         }
         session.bid_farewell(rt, watch)
@@ -520,6 +511,7 @@ impl Subscription<'_> {
         requires size { session.old.duty.mtu ≡ REPLY }
         requires begun { Follows self.now.plan (W.contents output.old) 0 session.old.images session.old.follower (W.contents output.old) }
         requires going { session.old.ended ≡ false }
+        requires fresh { session.old.watch ≡ beginning session.old.watch.moment }
         ensures few { IfOk result (λ s. s.messages ≤ self.now.plan.messages) }
         ensures short { IfOk result (λ s. s.ending ≡ Short → IsTrue self.now.plan.once) }
         ensures writes { IfOk result (λ s. Writes self.now.plan.end.form 0 (W.contents output.old) s.messages (W.contents output.new)) }

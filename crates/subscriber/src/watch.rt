@@ -1,8 +1,8 @@
-//! The time that a subscriber has seen.
+//! The time that a subscriber has seen, whatever its sessions.
 
 ghost use Rattle.std.specs.Prelude.{◌≡◌, ◌≤◌, ◌-◌, ◌↔◌, is_some, IfErr, IfSome, IsSome, IsTrue, OnOk};
 ghost use Rattle.endpoint.specs.declared.device_error.DeviceError.TheVariants.{Device};
-ghost use Rattle.subscriber.specs.Watches.{IsBehind, IsBroken, IsDue, IsHearing, IsQuiet, IsSilent, attending, beginning, begun, called, hearing, judging, keeping, later_by, looking, losing, noting, told_if, with_stranger, working};
+ghost use Rattle.subscriber.specs.Watches.{HasWaited, IsBroken, IsDue, awaking, begun, called, later_by, losing, seeing, told_if, with_stranger, working};
 
 use agents::nanoseconds;
 use endpoint::DeviceError;
@@ -11,42 +11,44 @@ use std::marker::Model;
 use std::time::{Clock, Instant};
 
 /// Nanoseconds from one line of counters to the next. A longer time in which nobody looked at the clock is no silence.
-const SECOND: u64 = 1_000_000_000;
-
-/// Nanoseconds after which a session is silent, and after which an image that lacks something is lost.
-const SILENCE: u64 = 10_000_000_000;
+pub(crate) const SECOND: u64 = 1_000_000_000;
 
 /// Nanoseconds after which a socket is given up all of whose calls fail.
 const PATIENCE: u64 = 5_000_000_000;
 
-/// When a subscriber began, and what it has seen since. All moments are in nanoseconds from the begin.
+/// When a subscriber began, and what it has seen since, whatever its sessions. All moments are in nanoseconds from the begin.
 ///
-/// What it waits for is: without an image a datagram that its plan takes, with one a DATA frame, a padding or a heartbeat of
-/// that stream from its peer.
+/// What it waits for is, without an image, a datagram that its plan takes.
 #[derive(Drop)]
 pub struct Watch {
     began: Instant,
     moment: u64,
     heard: u64,
-    kept: u64,
     worked: u64,
     told: u64,
     written: u64,
     strangers: u64,
     calls: u64,
     lost: u64,
-    turns: u64,
-    attended: u64,
-    judged: u64,
-    noted: bool,
 }
 
 impl Model for Watch {
-    ghost use Rattle.subscriber.specs.Watches.{Seen};
+    ghost use Rattle.subscriber.specs.Watches.{Timing};
 
-    ghost Value = { Seen };
+    ghost Value = { Timing };
 
-    ghost view = { λ w. record { moment = w.moment; heard = w.heard; kept = w.kept; worked = w.worked; told = w.told; written = w.written; strangers = w.strangers; calls = w.calls; lost = w.lost; turns = w.turns; attended = w.attended; judged = w.judged; noted = w.noted } };
+    ghost view = { λ w. record { moment = w.moment; heard = w.heard; worked = w.worked; told = w.told; written = w.written; strangers = w.strangers; calls = w.calls; lost = w.lost } };
+}
+
+/// What an earlier moment counts as now, where the clock was looked at last at `moment`.
+pub(crate) fn later_by(moment: u64, now: u64, earlier: u64) -> u64
+    ensures { result ≡ later_by moment now earlier }
+{
+    let unseen = now.saturating_sub(moment);
+    if unseen < SECOND {
+        return earlier;
+    }
+    now.min(earlier.saturating_add(unseen))
 }
 
 impl Watch {
@@ -57,60 +59,18 @@ impl Watch {
             began,
             moment: 0,
             heard: 0,
-            kept: 0,
             worked: 0,
             told: 0,
             written: 0,
             strangers: 0,
             calls: 0,
             lost: 0,
-            turns: 0,
-            attended: 0,
-            judged: 0,
-            noted: false,
-        }
-    }
-
-    /// An image is there at the moment, of which nothing is lacking. Its turns begin.
-    pub fn begin(&mut self)
-        ensures { self.new ≡ beginning self.old }
-    {
-        self.kept = self.moment;
-        self.turns = 0;
-        self.attended = 0;
-        self.judged = 0;
-        self.noted = false;
-    }
-
-    /// What came of SETUPs in this turn was attended.
-    pub fn attend(&mut self)
-        ensures { self.new ≡ attending self.old }
-    {
-        self.attended = self.attended.wrapping_add(1);
-    }
-
-    /// It was noted in this turn what the image lacks: nothing at the moment, or something that was lacking came at it, or neither.
-    pub(crate) fn note(&mut self, kept: bool)
-        ensures { self.new ≡ noting kept self.old }
-    {
-        if kept {
-            self.kept = self.moment;
-        }
-        self.noted = true;
-    }
-
-    /// Whether the image is lost was judged in this turn. That counts where it was noted before what the image lacks.
-    pub(crate) fn judge(&mut self)
-        ensures { self.new ≡ judging self.old }
-    {
-        if self.noted {
-            self.judged = self.judged.wrapping_add(1);
         }
     }
 
     /// Notes the moment, which never falls. A clock that can't be read is a device that failed.
     pub fn see<R: Clock>(&mut self, rt: &R) -> Result<(), DeviceError>
-        ensures seen { OnOk result (self.new ≡ looking self.old self.new.moment) }
+        ensures seen { OnOk result (self.new ≡ seeing self.old self.new.moment) }
         ensures later { self.old.moment ≤ self.new.moment }
         ensures failed { IfErr result (λ fault. (fault ≡ Device) × (self.new ≡ self.old)) }
     {
@@ -118,24 +78,10 @@ impl Watch {
             return Err(DeviceError::Device);
         };
         let now = nanoseconds(time).max(self.moment);
-        self.heard = self.later_by(now, self.heard);
-        self.kept = self.later_by(now, self.kept);
-        self.worked = self.later_by(now, self.worked);
+        self.heard = later_by(self.moment, now, self.heard);
+        self.worked = later_by(self.moment, now, self.worked);
         self.moment = now;
-        self.turns = self.turns.wrapping_add(1);
-        self.noted = false;
         Ok(())
-    }
-
-    /// What an earlier moment counts as, where it looks at the clock now.
-    fn later_by(&self, now: u64, earlier: u64) -> u64
-        ensures { result ≡ later_by self.now now earlier }
-    {
-        let unseen = now.saturating_sub(self.moment);
-        if unseen < SECOND {
-            return earlier;
-        }
-        now.min(earlier.saturating_add(unseen))
     }
 
     /// The moment that it noted last.
@@ -159,21 +105,11 @@ impl Watch {
         self.lost
     }
 
-    /// What it waits for came at the moment. Behind a second without it the time in which something is lacking begins anew.
+    /// What it waits for came at the moment.
     pub fn hear(&mut self)
-        ensures { self.new ≡ hearing self.old }
+        ensures { self.new ≡ awaking self.old }
     {
-        if self.moment.saturating_sub(self.heard) >= SECOND {
-            self.kept = self.moment;
-        }
         self.heard = self.moment;
-    }
-
-    /// Nothing is lacking at the moment, or something that was lacking came at it.
-    pub fn keep(&mut self)
-        ensures { self.new ≡ keeping self.old }
-    {
-        self.kept = self.moment;
     }
 
     /// A datagram that came at the moment, before an image, calls for a SETUP.
@@ -207,31 +143,9 @@ impl Watch {
 
     /// Whether what it waits for hasn't come for as long as the plan says.
     pub fn is_quiet(&self, plan: &SubscribePlan) -> bool
-        ensures { IsTrue result ↔ IsQuiet plan.now self.now }
+        ensures { IsTrue result ↔ HasWaited plan.now self.now }
     {
         self.moment.saturating_sub(self.heard) >= plan.quiet
-    }
-
-    /// Whether it hasn't come for 10 seconds.
-    pub fn is_silent(&self) -> bool
-        ensures { IsTrue result ↔ IsSilent self.now }
-    {
-        self.moment.saturating_sub(self.heard) >= SILENCE
-    }
-
-    /// Whether nothing that is lacking has come for 10 seconds, in which what it waits for was heard each second.
-    pub fn is_behind(&self) -> bool
-        ensures { IsTrue result ↔ IsBehind self.now }
-    {
-        self.moment.saturating_sub(self.kept) >= SILENCE
-            && self.moment.saturating_sub(self.heard) < SECOND
-    }
-
-    /// Whether what it waits for came at the moment.
-    pub fn is_hearing(&self) -> bool
-        ensures { IsTrue result ↔ IsHearing self.now }
-    {
-        self.heard == self.moment
     }
 
     /// The fault where every call of the socket has failed for 5 seconds.

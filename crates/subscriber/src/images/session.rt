@@ -18,6 +18,7 @@ ghost use Rattle.subscriber.specs.Watches.{IsBroken, IsWithinTurn, judging};
 use crate::fault::SubscribeFault;
 use crate::images::follower::Follower;
 use crate::images::session_device::SubscriberDevice;
+use crate::images::session_watch::SessionWatch;
 use crate::images::{Images, Unheard};
 use crate::listening::setup_offer::{ImageParams, SetupOffer};
 use crate::reporting::{Counted, Counts, Line, SessionId, Totals, Unfinished, tell};
@@ -66,6 +67,8 @@ pub struct Session {
     pub images: Images,
     pub follower: Follower,
     pub duty: Duty<SubscriberDevice>,
+    /// When it was heard, and when its image got on.
+    pub watch: SessionWatch,
     /// Whether it was told that the image is lost.
     pub lost: bool,
     /// Whether its session's silence was told.
@@ -141,13 +144,14 @@ impl Session {
     }
 
     /// Notes that a frame of the session came, where the device has counted another number than before.
-    pub(crate) fn note_heard(&self, watch: &mut Watch, before: u64)
-        ensures heard { NotesHeard before self.now.duty.device.notes.frames watch.old watch.new }
-        ensures moment { watch.new.moment ≡ watch.old.moment }
-        ensures turn { IsWithinTurn watch.old watch.new }
+    pub(crate) fn note_heard(&mut self, before: u64)
+        ensures heard { NotesHeard before self.old.duty.device.notes.frames self.old.watch self.new.watch }
+        ensures moment { self.new.watch.moment ≡ self.old.watch.moment }
+        ensures turn { IsWithinTurn self.old.watch self.new.watch }
+        ensures same { self.new ≡ record self.old { watch = self.new.watch } }
     {
         if self.duty.device().notes().frames != before {
-            watch.hear();
+            self.watch.hear();
         }
     }
 
@@ -162,7 +166,6 @@ impl Session {
     pub(crate) fn check_works(&self, watch: &mut Watch, before: u64) -> Result<(), DeviceError>
         ensures noted { NotesWork before self.now.duty.device.inner.inner.worked watch.old watch.new }
         ensures moment { watch.new.moment ≡ watch.old.moment }
-        ensures turn { IsWithinTurn watch.old watch.new }
         ensures works { OnOk result (¬ IsBroken watch.new) }
         ensures broken { IfErr result (λ fault. (fault ≡ Device) × IsBroken watch.new) }
     {
@@ -173,14 +176,16 @@ impl Session {
     }
 
     /// Notes whether nothing is lacking, or something that was lacking came: the image was rebuilt up to here before.
-    pub fn note_kept(&self, watch: &mut Watch, before: u64)
-        ensures notes { NotesKept before self.now watch.old watch.new }
-        ensures noted { IsTrue watch.new.noted }
-        ensures moment { watch.new.moment ≡ watch.old.moment }
-        ensures turn { IsWithinTurn watch.old watch.new }
+    pub fn note_kept(&mut self, before: u64)
+        ensures notes { NotesKept before self.new self.old.watch self.new.watch }
+        ensures noted { IsTrue self.new.watch.noted }
+        ensures moment { self.new.watch.moment ≡ self.old.watch.moment }
+        ensures turn { IsWithinTurn self.old.watch self.new.watch }
+        ensures same { self.new ≡ record self.old { watch = self.new.watch } }
     {
         let rebuilt = self.rebuilt();
-        watch.note(rebuilt != before || !self.lacks(rebuilt));
+        let kept = rebuilt != before || !self.lacks(rebuilt);
+        self.watch.note(kept);
     }
 
     /// Whether the last frame that was heard of its session begins above this position, up to which its image is rebuilt.
@@ -199,14 +204,13 @@ impl Session {
     }
 
     /// Judges, behind `note_kept`, whether the image is lost. The answer is whether that is new.
-    pub fn judge(&mut self, watch: &mut Watch) -> bool
-        ensures noted { NotesLoss watch.old self.old self.new }
+    pub fn judge(&mut self) -> bool
+        ensures noted { NotesLoss self.old self.new }
         ensures is_new { IsTrue result ↔ (self.new.lost ≢ self.old.lost) }
-        ensures same { self.new ≡ record self.old { lost = self.new.lost } }
-        ensures counted { watch.new ≡ judging watch.old }
+        ensures same { self.new ≡ record self.old { lost = self.new.lost; watch = judging self.old.watch } }
     {
-        watch.judge();
-        if self.lost || self.ended || !watch.is_behind() {
+        self.watch.judge();
+        if self.lost || self.ended || !self.watch.is_behind() {
             return false;
         }
         self.lost = true;
@@ -214,18 +218,13 @@ impl Session {
     }
 
     /// Judges whether the image is lost, and tells that once. That is the judgement of this turn.
-    pub(crate) fn tell_loss<E: Write>(
-        &mut self,
-        errors: &mut E,
-        watch: &mut Watch,
-    ) -> io::Result<()>
-        ensures noted { NotesLoss watch.old self.old self.new }
-        ensures judged { watch.new ≡ judging watch.old }
-        ensures same { self.new ≡ record self.old { lost = self.new.lost } }
+    pub(crate) fn tell_loss<E: Write>(&mut self, errors: &mut E) -> io::Result<()>
+        ensures noted { NotesLoss self.old self.new }
+        ensures same { self.new ≡ record self.old { lost = self.new.lost; watch = judging self.old.watch } }
         ensures told { self.new.lost ≢ self.old.lost → (place : ℕ) × StandsHere self.old.follower.subscriber place × OnOk result (Appends (E.contents errors.old) (E.contents errors.new) (lost_line self.old.opening.session place)) }
         ensures quiet { self.new.lost ≡ self.old.lost → OnOk result (E.contents errors.new ≡ E.contents errors.old) }
     {
-        if !self.judge(watch) {
+        if !self.judge() {
             return Ok(());
         }
         tell(
@@ -235,13 +234,13 @@ impl Session {
     }
 
     /// Tells once that the session is silent, and once that it goes on; of a stream that has ended neither.
-    pub(crate) fn tell_silence<E: Write>(&mut self, errors: &mut E, watch: &Watch) -> io::Result<()>
-        ensures noted { NotesSilence watch.now self.old self.new }
+    pub(crate) fn tell_silence<E: Write>(&mut self, errors: &mut E) -> io::Result<()>
+        ensures noted { NotesSilence self.old self.new }
         ensures same { self.new ≡ record self.old { silent = self.new.silent } }
         ensures told { self.new.silent ≢ self.old.silent → (place : ℕ) × StandsHere self.old.follower.subscriber place × OnOk result (Appends (E.contents errors.old) (E.contents errors.new) (silence_line self.new.silent self.old.opening.session place)) }
         ensures quiet { self.new.silent ≡ self.old.silent → OnOk result (E.contents errors.new ≡ E.contents errors.old) }
     {
-        let silent = watch.is_silent();
+        let silent = self.watch.is_silent();
         if self.ended || silent == self.silent {
             return Ok(());
         }
@@ -249,16 +248,16 @@ impl Session {
         tell_change(errors, silent, self.opening.session, self.place())
     }
 
-    /// A cycle without polls at a moment that is ahead by 200 ms, so that a status message is due. Whether it was busy.
-    fn tell_place(&mut self, watch: &Watch) -> Result<bool, SubscribeFault>
+    /// A cycle without polls at a moment that is ahead of this one by 200 ms, so that a status message is due. Whether it was busy.
+    fn tell_place(&mut self, moment: u64) -> Result<bool, SubscribeFault>
         requires { self.old.duty.mtu ≡ REPLY }
         ensures size { self.new.duty.mtu ≡ self.old.duty.mtu }
         ensures same { self.new ≡ record self.old { follower = self.new.follower; duty = self.new.duty } }
         ensures unpolled { LivesUnpolled self.old.follower.subscriber self.new.follower.subscriber }
         ensures listens { OnOk result (ListensOn self.old.follower self.new.follower) }
-        ensures told { OnOk result (TellsPlace watch.now.moment self.old.follower.subscriber self.new.follower.subscriber) }
+        ensures told { OnOk result (TellsPlace moment self.old.follower.subscriber self.new.follower.subscriber) }
     {
-        let ahead = watch.moment().saturating_add(STATUS_INTERVAL);
+        let ahead = moment.saturating_add(STATUS_INTERVAL);
         Ok(self.duty.cycle(&mut self.follower, ahead)?)
     }
 
@@ -279,20 +278,16 @@ impl Session {
     }
 
     /// Where all of the stream is newly written up to its told end, that is told, and to the publisher, too, at once.
-    pub(crate) fn answer_end<E: Write>(
-        &mut self,
-        errors: &mut E,
-        watch: &mut Watch,
-    ) -> Result<Stand, SubscribeFault>
+    pub(crate) fn answer_end<E: Write>(&mut self, errors: &mut E) -> Result<Stand, SubscribeFault>
         requires { self.old.duty.mtu ≡ REPLY }
         ensures size { self.new.duty.mtu ≡ self.old.duty.mtu }
         ensures images { self.new.images ≡ self.old.images }
-        ensures same { self.new ≡ record self.old { follower = self.new.follower; duty = self.new.duty; ended = self.new.ended } }
+        ensures same { self.new ≡ record self.old { follower = self.new.follower; duty = self.new.duty; ended = self.new.ended; watch = self.new.watch } }
         ensures unpolled { LivesUnpolled self.old.follower.subscriber self.new.follower.subscriber }
         ensures listens { OnOk result (ListensOn self.old.follower self.new.follower) }
-        ensures answers { IfOk result (AnswersEnd watch.old.moment self.old self.new) }
-        ensures heard { OnOk result (NotesHeard self.old.duty.device.notes.frames self.new.duty.device.notes.frames watch.old watch.new) }
-        ensures turn { IsWithinTurn watch.old watch.new }
+        ensures answers { IfOk result (AnswersEnd self.old.watch.moment self.old self.new) }
+        ensures heard { OnOk result (NotesHeard self.old.duty.device.notes.frames self.new.duty.device.notes.frames self.old.watch self.new.watch) }
+        ensures turn { IsWithinTurn self.old.watch self.new.watch }
     {
         let stand = self.stand();
         let before = self.ended;
@@ -301,8 +296,9 @@ impl Session {
             return Ok(stand);
         }
         let frames = self.duty.device().notes().frames;
-        self.tell_place(watch)?;
-        self.note_heard(watch, frames);
+        let now = self.watch.moment();
+        self.tell_place(now)?;
+        self.note_heard(frames);
         Ok(self.stand())
     }
 
@@ -413,7 +409,8 @@ impl Session {
         let ended = watch.moment();
         let mut idle = IdleStrategy::new();
         for _ in rt.forever() {
-            let busy = self.tell_place(watch)?;
+            let now = watch.moment();
+            let busy = self.tell_place(now)?;
             watch.see(rt)?;
             if watch.moment().saturating_sub(ended) >= FAREWELL {
                 return Ok(());

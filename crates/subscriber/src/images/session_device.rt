@@ -8,54 +8,16 @@ ghost use Rattle.frames.specs.Frames.{header_of, setup_of, status_of};
 ghost use Rattle.subscriber.specs.Hearings.{HearsFound, NotesDatagram, after_sending, following, frames_after, is_own, last_after, latest, noted_after, turned_to};
 ghost use Rattle.subscriber.specs.Offers.{IsOffered, asked_by, news_of, news_taken, offer_taken, setup_taken, tied_anew};
 
-use crate::listening::setup_offer::header_in;
+use crate::listening::first_frame::{HeardFrame, first_frame};
 use endpoint::{Datagrams, DeviceFailed};
 use frames::{Header, Setup, Status};
 use loss_injector::Lossy;
-use peer::{PatientDevice, STATUS_BYTES, TiedDevice, setup_in};
+use peer::{PatientDevice, STATUS_BYTES, TiedDevice};
 use std::marker::Model;
 use std::net::SocketAddr;
 
 /// The bytes of a negative acknowledgement: no other frame that a receiver sends has so many.
 const NAK_BYTES: usize = 28;
-
-/// The header of a DATA frame, a padding or a heartbeat that was heard.
-#[derive(Clone, Copy, Debug, PartialEq, Eq)]
-pub struct HeardFrame {
-    header: Header,
-}
-
-impl Model for HeardFrame {
-    ghost use Rattle.theory.specs.Wire.{IsHeader};
-    ghost use Rattle.frames.specs.Frames.{header_of};
-    ghost use Rattle.frames.specs.declared.frame.Header.{Header as Heard};
-
-    ghost Value = { Heard };
-
-    ghost view = { λ f. f.header };
-
-    ghost invariant = { λ f. IsHeader (header_of f.header) };
-
-    ghost inverse = { λ h. record { header = h } };
-}
-
-impl HeardFrame {
-    /// A frame with this header.
-    fn new(header: Header) -> HeardFrame
-        requires { IsHeader (header_of header) }
-        ensures { result ≡ header }
-    {
-        HeardFrame { header }
-    }
-
-    /// Its header.
-    pub fn header(&self) -> Header
-        ensures same { result ≡ self.now }
-        ensures legal { IsHeader (header_of result) }
-    {
-        self.header
-    }
-}
 
 /// What was heard of a session.
 #[derive(Clone, Copy, Debug, PartialEq, Eq)]
@@ -196,9 +158,9 @@ impl Notes {
     fn note(&mut self, session: i32, stream: i32, datagram: &[u8])
         ensures { NotesDatagram session stream datagram.now self.old self.new }
     {
-        let header = header_in(datagram);
-        self.note_header(session, stream, header);
-        self.note_setup(setup_in(datagram));
+        let first = first_frame(datagram);
+        self.note_header(session, stream, first.header());
+        self.note_setup(first.setup());
     }
 }
 

@@ -13,8 +13,7 @@ ghost use Rattle.theory.specs.Wire.{IsFrame, IsHeader, SETUP, spelling};
 
 use crate::images::session::Session;
 use crate::images::{Loss, loss_between};
-use crate::watch::Watch;
-use frames::{Frame, Header, Setup, read_frame, write_frame};
+use frames::{Frame, Setup, write_frame};
 use options::SubscribePlan;
 use peer::end_told;
 use position::Geometry;
@@ -102,54 +101,32 @@ impl SetupOffer {
     }
 
     /// Whether an image gives way to it: to the next publisher's where it has ended, else where it is silent or lost.
-    pub(crate) fn takes_the_place(&self, session: &Session, watch: &Watch, rebuilt: u64) -> bool
-        ensures { IsTrue result ↔ GivesWay watch.now self.now rebuilt session.now }
+    pub(crate) fn takes_the_place(&self, session: &Session, rebuilt: u64) -> bool
+        ensures { IsTrue result ↔ GivesWay self.now rebuilt session.now }
     {
         if session.ended {
             return self.is_next(session);
         }
-        watch.is_silent() || (watch.is_behind() && self.is_ahead(session, rebuilt))
+        session.watch.is_silent() || (session.watch.is_behind() && self.is_ahead(session, rebuilt))
     }
 
     /// Whether it is the session's own again, which was silent and hasn't ended, where the image is rebuilt up to here.
-    pub(crate) fn is_again(&self, session: &Session, watch: &Watch, rebuilt: u64) -> bool
-        ensures { IsTrue result ↔ IsAgain watch.now self.now rebuilt session.now }
+    pub(crate) fn is_again(&self, session: &Session, rebuilt: u64) -> bool
+        ensures { IsTrue result ↔ IsAgain self.now rebuilt session.now }
     {
-        !session.ended && watch.is_silent() && self.opening.goes_on(&session.opening, rebuilt)
+        !session.ended
+            && session.watch.is_silent()
+            && self.opening.goes_on(&session.opening, rebuilt)
     }
 
     /// What is missing behind an image that gives way to it: where what it lacks didn't come, all between its consumer and this.
-    pub(crate) fn loss_behind(&self, session: &Session, watch: &Watch) -> Option<Loss>
-        ensures { IsLoss watch.now self.now session.now result }
+    pub(crate) fn loss_behind(&self, session: &Session) -> Option<Loss>
+        ensures { IsLoss self.now session.now result }
     {
-        if session.ended || !watch.is_behind() {
+        if session.ended || !session.watch.is_behind() {
             return None;
         }
         loss_between(session.place(), self.opening.position)
-    }
-}
-
-/// The header of a DATA frame, a padding or a heartbeat.
-fn header_told(frame: &Frame<'_>) -> Option<Header>
-    ensures told { option_map header_of result ≡ header_told (wire frame.now) }
-    ensures legal { IsFrame (wire frame.now) → IfSome result (λ h. IsHeader (header_of h)) }
-{
-    match *frame {
-        Frame::Data { header, .. } | Frame::Pad { header, .. } | Frame::Heartbeat { header } => {
-            Some(header)
-        }
-        _ => None,
-    }
-}
-
-/// The header of the frame at a datagram's front, where that is a DATA frame, a padding or a heartbeat.
-pub fn header_in(datagram: &[u8]) -> Option<Header>
-    ensures told { TellsHeader datagram.now (option_map header_of result) }
-    ensures legal { IfSome result (λ h. IsHeader (header_of h)) }
-{
-    match read_frame(datagram) {
-        Ok((frame, _)) => header_told(&frame),
-        Err(_) => None,
     }
 }
 

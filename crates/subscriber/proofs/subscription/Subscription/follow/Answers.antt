@@ -1,11 +1,11 @@
-use Rattle.std.proofs.Common.{◌∙◌, ap, subst, refl, Bool, Some}
+use Rattle.std.proofs.Common.{◌∙◌, ◌≡◌, ap, subst, refl, sym}
 use Rattle.std.proofs.lemmas.Result.{err_from_is_err_and}
-use Rattle.subscriber.specs.Leavings.{IsEnding}
-use Rattle.subscriber.proofs.Answered.{attended_answered, attended_judged, has_judged, same_answered, turn_ahead, turn_attended, turn_judged, within_told}
+use Rattle.subscriber.proofs.Answered.{attended_answered, attended_judged, has_judged, same_answered, same_judged, turn_ahead, turn_attended, turn_judged}
 use Rattle.subscriber.proofs.Breaking.{life_broken, life_kept}
 use Rattle.subscriber.proofs.Lived.{attended_life, life_on, told_life}
 use Rattle.subscriber.proofs.Looked.{looked_life}
 use Rattle.subscriber.proofs.Written.{writes_more}
+use Rattle.subscriber.specs.Watches.{JudgesEach, Seen}
 use Rattle.subscriber.specs.declared.images.session.Session.{Session}
 use Rattle.subscriber.proofs.subscription.Subscription.follow.Goals as goal
 
@@ -19,15 +19,16 @@ loop-preserved g c =
     let size = ap (λ (j : Session). j.duty.mtu) news ∙ c.attend.ensures.size ∙ ap (λ (j : Session). j.duty.mtu) asked ∙ c.look.ensures.size in
     let lived = looked_life _ _ _ _ _ _ c.loop.session c.look.new.session c.look.ensures.images c.loop.invariant.3 looked.lives in
     let silenced = same_answered c.look.new.session c.ask_anew.new.session (ap (λ (j : Session). j.ended) asked) (ap (λ (j : Session). j.follower.subscriber) asked) (looked.answered c.loop.invariant.4) in
-    let attended = attended_answered _ _ _ _ c.attend.new.session attends silenced in
-    let judged = has_judged c.see.new.self c.look.new.watch c.tell.new.watch _ _ looked.judges (within_told _ _ c.tell.ensures.same) in (
+    let attended = attended_answered _ _ c.attend.new.session attends silenced in
+    let judged = same_judged c.begin_turn.new.self c.look.new.session c.ask_anew.new.session (ap (λ (j : Session). j.watch) asked) (has_judged _ _ _ c.look.new.session looked.judges) in
+    let watched = ap (λ (j : Session). j.watch) news in (
       size,
       wrote.0,
       writes_more _ _ _ _ _ _ _ c.loop.invariant.2 wrote.1,
-      told_life _ _ _ _ c.attend.new.session c.tell_news.new.session _ news (attended_life _ _ _ _ _ _ _ _ attends (told_life _ _ _ _ c.look.new.session c.ask_anew.new.session _ asked lived)),
+      told_life _ _ _ _ c.attend.new.session c.tell_news.new.session _ news (attended_life _ _ _ _ _ _ attends (told_life _ _ _ _ c.look.new.session c.ask_anew.new.session _ asked lived)),
       same_answered c.attend.new.session c.tell_news.new.session (ap (λ (j : Session). j.ended) news) (ap (λ (j : Session). j.follower.subscriber) news) attended,
-      turn_attended _ c.loop.watch c.see.new.self c.tell.new.watch _ _ _ _ c.loop.invariant.5 c.in_ok-see.ensures.seen judged attends,
-      attended_judged _ _ _ _ _ (turn_judged c.loop.watch c.see.new.self c.tell.new.watch _ c.loop.invariant.6 c.in_ok-see.ensures.seen judged) attends,
+      subst (λ (s : Seen). s.turns ≡ s.attended) (sym watched) (turn_attended _ c.loop.session.watch c.begin_turn.new.self _ _ c.attend.new.session c.loop.invariant.5 c.begin_turn.ensures judged attends),
+      subst JudgesEach (sym watched) (attended_judged _ _ c.attend.new.session (turn_judged c.loop.session.watch c.begin_turn.new.self _ _ c.loop.invariant.6 c.begin_turn.ensures judged) attends),
     )
 
 pub returns-in-Some-ending_of-clause-writes : goal.returns-in-Some-ending_of-clause-writes
@@ -37,19 +38,19 @@ pub returns-in-Some-ending_of-clause-ended : goal.returns-in-Some-ending_of-clau
 returns-in-Some-ending_of-clause-ended g c = record {
   stand = c.in_ok-all.stand;
   stands = c.in_ok-all.ensures.stands;
-  ending = subst (λ (b : Bool). IsEnding c.args.self.now.plan c.in_ok-all.all c.tell.new.watch c.in_ok-all.stand b (Some c.in-Some-ending_of.ending)) c.has_lost.ensures c.in-Some-ending_of.ensures;
+  ending = c.in-Some-ending_of.ensures;
   answered = λ all. c.in_ok-all.ensures.answered c.loop.invariant.4 (c.in_ok-all.ensures.still all);
 }
 
 pub returns-in-Some-ending_of-clause-attended : goal.returns-in-Some-ending_of-clause-attended
 returns-in-Some-ending_of-clause-attended g c =
-    turn_ahead c.loop.watch c.see.new.self c.tell.new.watch _ c.loop.invariant.5 c.in_ok-see.ensures.seen
-    (has_judged c.see.new.self c.look.new.watch c.tell.new.watch _ _ c.in_ok-all.ensures.judges (within_told _ _ c.tell.ensures.same))
+    turn_ahead c.loop.session.watch c.begin_turn.new.self _ _ c.loop.invariant.5 c.begin_turn.ensures
+    (has_judged _ _ _ c.look.new.session c.in_ok-all.ensures.judges)
 
 pub returns-in-Some-ending_of-clause-judged : goal.returns-in-Some-ending_of-clause-judged
 returns-in-Some-ending_of-clause-judged g c =
-    turn_judged c.loop.watch c.see.new.self c.tell.new.watch _ c.loop.invariant.6 c.in_ok-see.ensures.seen
-    (has_judged c.see.new.self c.look.new.watch c.tell.new.watch _ _ c.in_ok-all.ensures.judges (within_told _ _ c.tell.ensures.same))
+    turn_judged c.loop.session.watch c.begin_turn.new.self _ _ c.loop.invariant.6 c.begin_turn.ensures
+    (has_judged _ _ _ c.look.new.session c.in_ok-all.ensures.judges)
 
 pub returns-in-Some-ending_of-clause-lives : goal.returns-in-Some-ending_of-clause-lives
 returns-in-Some-ending_of-clause-lives g c = looked_life _ _ _ _ _ _ c.loop.session c.look.new.session c.look.ensures.images c.loop.invariant.3 c.in_ok-all.ensures.lives

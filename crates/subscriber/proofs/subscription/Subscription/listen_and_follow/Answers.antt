@@ -1,6 +1,7 @@
-use Rattle.std.proofs.Common.{inr, subst}
+use Rattle.std.proofs.Common.{◌∙◌, ap, inr, subst, sym}
 use Rattle.std.specs.Prelude.{IfSome}
 use Rattle.subscriber.specs.Calls.{IsJoined}
+use Rattle.subscriber.specs.Watches.{Seen, beginning}
 use Rattle.std.proofs.lemmas.Result.{IfOk-weaker, on_err_weaker}
 use Rattle.subscriber.proofs.Breaking.{before_image, life_lost}
 use Rattle.subscriber.proofs.Lived.{joined_life}
@@ -12,6 +13,11 @@ follow_all-requires-clause-begun g c = joined_life c.args.self.now.plan c.listen
 
 pub follow_all-requires-clause-going : goal.follow_all-requires-clause-going
 follow_all-requires-clause-going g c = (subst (λ found. IfSome found (IsJoined c.args.self.now.plan c.listen.new.watch)) c.in-Some.is c.in_ok-listen.ensures.joined).joined.ended
+
+pub follow_all-requires-clause-fresh : goal.follow_all-requires-clause-fresh
+follow_all-requires-clause-fresh g c =
+    let watch = (subst (λ found. IfSome found (IsJoined c.args.self.now.plan c.listen.new.watch)) c.in-Some.is c.in_ok-listen.ensures.joined).joined.watch in
+    watch ∙ ap beginning (sym (ap (λ (s : Seen). s.moment) watch))
 
 pub returns-in-Some-clause-lives : goal.returns-in-Some-clause-lives
 returns-in-Some-clause-lives g c = all_written _ _ _ _ _ c.follow_all.result c.follow_all.ensures.lives

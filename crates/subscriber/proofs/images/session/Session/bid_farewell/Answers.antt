@@ -1,5 +1,6 @@
-use Rattle.std.proofs.Common.{◌∙◌, ap, arith}
+use Rattle.std.proofs.Common.{◌∙◌, ℕ, ap, arith, subst}
 use Rattle.subscriber.proofs.Leaving.{stands_still, unpolled_on}
+use Rattle.subscriber.specs.Answering.{TellsPlace}
 use Rattle.subscriber.specs.declared.images.session.Session.{Session}
 use Rattle.subscriber.proofs.images.session.Session.bid_farewell.Goals as goal
 
@@ -27,7 +28,7 @@ returns-then-saturating_sub-ge-FAREWELL-clause-farewell g c =
       unpolled = c.loop.invariant.1;
       at = c.loop.watch.moment;
       since = omega (arith, began, c.loop.invariant.3);
-      told = c.in_ok-busy.ensures.told;
+      told = subst (λ (n : ℕ). TellsPlace n c.loop.self.follower.subscriber c.tell_place.new.self.follower.subscriber) c.moment-now.ensures c.in_ok-busy.ensures.told;
       lasts = omega (arith, began, ended, here, passed, second);
     }
 

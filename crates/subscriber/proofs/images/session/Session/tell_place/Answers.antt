@@ -16,5 +16,5 @@ returns-clause-listens c = cycle_listens _ _ _ _ _ _ _ c.in_ok-cycle.ensures.cyc
 
 pub returns-clause-told : goal.returns-clause-told
 returns-clause-told c =
-    let ahead : c.saturating_add-ahead.result ≡ ahead_of c.args.watch.now.moment = let seen = c.moment.ensures in let sum = c.saturating_add-ahead.ensures in cc in
+    let ahead : c.saturating_add-ahead.result ≡ ahead_of c.args.moment = let sum = c.saturating_add-ahead.ensures in cc in
     place_told _ _ _ _ _ _ _ _ ahead (subscribers_cycle _ _ _ _ _ _ _ c.in_ok-cycle.ensures.cycle).0
