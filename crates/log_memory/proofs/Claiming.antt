@@ -35,10 +35,11 @@ use Rattle.log_memory.specs.declared.view.LogView.{LogView}
 use Rattle.log_memory.specs.declared.view.Site.{Site}
 use Rattle.log_memory.specs.Places.{slot_of}
 use Rattle.log_memory.specs.Rule.{Board, LogMemoryRuled, passes_of, ring, shape, stream_state, term, view_in}
-use Rattle.log_memory.specs.Steps.{Adds, Carries, IsIdle, IsRoomAt, Mine, TakesRoom, any_step, as_view}
+use Rattle.log_memory.specs.Steps.{Adds, AreApart, Carries, IsIdle, IsRoomAt, Mine, TakesRoom, any_step, as_view}
 use Rattle.log_memory.proofs.Adding.{added, after, takes}
 use Rattle.log_memory.proofs.Facts.{bounds, geometry, least, pass_at, width}
 use Rattle.log_memory.proofs.Lifting.{leaves, no_act, quiet_same, set_both, small_on, there_low}
+use Rattle.log_memory.proofs.OpenFrames.{apart}
 use Rattle.log_memory.proofs.Places.{in_ring}
 use Rattle.log_memory.proofs.Resting.{rests}
 use Rattle.log_memory.proofs.Rows.{TakesRow}
@@ -135,6 +136,9 @@ low_share t id v w s at stream q =
     let passes = passes_of (set s.views id w) in let here = pass_at (set s.views id w) id w (set_here s.views id w (there_low s.views id v at)) in
     let low = claimed_low (bounds t stream (set s.views id w) q) stream passes q.ruled in let mine = total_at (weight length_of) passes id w.view.pass here in let is : weight length_of w.view.pass ≡ claimed_bytes w.view.pass = total_map length_of entry_of w.view.pass.right.claims in omega arith
 
+apart_then : (t : Site) (id : ℕ) (v w : LogView) (s : Board) → get_elem? s.views id ≡ some v → (stream : List ℕ) → LogRuled t.key (stream_state stream (set s.views id w)) → AreApart w.view.pass.work.drafts
+apart_then t id v w s at stream q = apart (bounds t stream (set s.views id w) q) stream (passes_of (set s.views id w)) q.ruled id w.view.pass (pass_at (set s.views id w) id w (set_here s.views id w (there_low s.views id v at)))
+
 pub add : (t : Site) (id size : ℕ) (m : Mine) → IsIdle m.0 → 120 ≤ m.0.view.pass.right.parts → m.0.view.pass.right.armed ≡ 1 → size ≤ max_message (geometry_of m.0.view.pass)
     → (slots : ℕ) → Allows (LogMemoryRuled t) slots id m (tail_place m.0.view.pass.seen.term) (λ n. (n + framed_length (geometry_of m.0.view.pass) size) % 2 ^ 64) (Adds t size m)
 add t id size m idle able armed short slots s r homes at small =
@@ -148,7 +152,7 @@ add t id size m idle able armed short slots s r homes at small =
     let told' = subst (λ (x : ℕ). plays.playing (λ v k w. steps.Adds v size k w) (λ v k. addition v size k ∷ []) any_step (as_view m.0) x (w, [])) (sym e) told in
     let legal' = legal t id size m idle able armed short s r at small in
     let covered : span (cuts_of gm size) ≡ framed_length gm size = span_is gm legal'.mtu.unit legal'.mtu.least size in
-    let keeping = told.2.keeping in let low = low_share t id m.0 seat s at (set r.stream i (f n)) q in
+    let keeping = told.2.keeping in let low = low_share t id m.0 seat s at (set r.stream i (f n)) q in let apart' = apart_then t id m.0 seat s at (set r.stream i (f n)) q in
     dite (dec_le (term_of v) (offset_in n))
     (λ (over : term_of v ≤ offset_in n). let is = a.over over in (
       seat,
@@ -163,6 +167,7 @@ add t id size m idle able armed short slots s r homes at small =
         room = refl;
         told = told';
         low = low;
+        apart = apart';
         takes = subst (λ (x : ℕ). TakesRoom t size x m (seat, m.1)) (sym e) record { fits = λ lt. absurd (long_fits v n over lt covered legal'); trips = λ lt _. absurd (omega arith); over = λ _. refl };
       },
     ))
@@ -180,6 +185,7 @@ add t id size m idle able armed short slots s r homes at small =
         room = refl;
         told = told';
         low = low;
+        apart = apart';
         takes = subst (λ (x : ℕ). TakesRoom t size x m (seat, carried_after m.1 tk.act)) (sym e) record {
           fits = λ _. subst (λ (x : ℕ). Carries (IsRoomAt t) (slot_of (ring t) (start_in gm n) 0) (x / 4) m.1 (carried_after m.1 tk.act)) covered tk.taken;
           trips = λ _ q. absurd (omega arith);
@@ -201,6 +207,7 @@ add t id size m idle able armed short slots s r homes at small =
         room = refl;
         told = told';
         low = low;
+        apart = apart';
         takes = subst (λ (x : ℕ). TakesRoom t size x m (seat, carried_after m.1 tk.act)) (sym e) record {
           fits = λ q. absurd (omega arith);
           trips = λ _ _. subst (λ (x : ℕ). Carries (IsRoomAt t) (slot_of (ring t) (start_in gm n) 0) (x / 4) m.1 (carried_after m.1 tk.act)) covered' tk.taken;

@@ -27,5 +27,6 @@ mod UnitPlaces
 mod Frees
 mod Drafted
 mod OpenRooms
+mod OpenFrames
 pub mod ClaimRooms
 pub mod Looked

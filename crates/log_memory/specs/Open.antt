@@ -12,7 +12,7 @@ use Rattle.log_rule.specs.Shares.{claimed_bytes}
 use Rattle.log_memory.specs.declared.drafts.Draft.{Draft}
 use Rattle.log_memory.specs.declared.view.Site.{Site}
 use Rattle.log_memory.specs.Drafts.{words_of}
-use Rattle.log_memory.specs.Steps.{CarriesRange, IsIdle, IsRoomAt, Mine, any_step, as_view}
+use Rattle.log_memory.specs.Steps.{AreApart, CarriesRange, IsIdle, IsRoomAt, Mine, any_step, as_view}
 
 -- how many slots the memory of such frames has
 abbrev pub slots_in : List FrameWords → ℕ
@@ -52,6 +52,7 @@ pub record AddsOpen (size : ℕ) (m : Mine) (n : ℕ) (m' : Mine) : Type 0 where
   pub room : m'.0.room ≡ m.0.room
   pub told : playing (λ v k w. Adds v size k w) (λ v k. addition v size k ∷ []) any_step (as_view m.0) n (as_view m'.0)
   pub low : claimed_bytes m'.0.view.pass < 2 ^ 63
+  pub apart : AreApart m'.0.view.pass.work.drafts
 
 -- ---- which of them it is
 
@@ -63,11 +64,6 @@ front_of p (f ∷ fs) = if f.start == p then [] else f ∷ front_of p fs
 abbrev pub others_of : ℕ → List FrameWords → List FrameWords
 others_of p [] = []
 others_of p (f ∷ fs) = if f.start == p then fs else others_of p fs
-
--- no two begin at one position
-abbrev pub AreApart : List FrameWords → Type 0
-AreApart [] = Unit {0}
-AreApart (f ∷ fs) = ((g : FrameWords) → Among g fs → g.start ≢ f.start) × AreApart fs
 
 -- the draft is one of the pass's open frames, of which none begins where another does
 pub record IsOneOpen (t : Site) (d : Draft) (m : Mine) : Type 0 where

@@ -67,6 +67,11 @@ CarriesRange t is start bytes before mine = Carries is (slot_of (ring t) start 0
 
 -- ---- an addition takes the room of what it claims
 
+-- no two begin at one position
+abbrev pub AreApart : List FrameWords → Type 0
+AreApart [] = Unit {0}
+AreApart (f ∷ fs) = ((g : FrameWords) → Among g fs → g.start ≢ f.start) × AreApart fs
+
 pub record TakesRoom (t : Site) (size n : ℕ) (m m' : Mine) : Type 0 where
   pub fits : offset_in n + framed_length (geometry_of m.0.view.pass) size ≤ term_of m.0.view.pass → CarriesRange t (IsRoomAt t) (start_in (geometry_of m.0.view.pass) n) (framed_length (geometry_of m.0.view.pass) size) m.1 m'.1
   pub trips : offset_in n < term_of m.0.view.pass → term_of m.0.view.pass < offset_in n + framed_length (geometry_of m.0.view.pass) size → CarriesRange t (IsRoomAt t) (start_in (geometry_of m.0.view.pass) n) (term_of m.0.view.pass - offset_in n) m.1 m'.1
@@ -77,8 +82,9 @@ pub record Adds (t : Site) (size : ℕ) (m : Mine) (n : ℕ) (m' : Mine) : Type 
   pub room : m'.0.room ≡ m.0.room
   pub told : playing (λ v k w. steps.Adds v size k w) (λ v k. addition v size k ∷ []) any_step (as_view m.0) n (as_view m'.0)
   pub takes : TakesRoom t size n m m'
-  -- and what the pass has claimed by then can be counted
+  -- what the pass has claimed by then can be counted, and none of its open frames begins where another does
   pub low : claimed_bytes m'.0.view.pass < 2 ^ 63
+  pub apart : AreApart m'.0.view.pass.work.drafts
 
 -- ---- a frame is committed
 
