@@ -119,10 +119,10 @@ module _ (t : Site) (id size : ℕ) (m : Mine) (idle : IsIdle m.0) (able : 120 �
       seat = record m.0 { view = w }
 
       abbrev row_taken : TakesRow s.homes (IsRoomAt t) (slot_of (ring t) o.claim.start 0) (span o.claim.cuts / 4) m.1
-      row_taken = takes t s r id m.0 (record m.0 { view = w }) at stream q o words (small_on r.stream i (f (slice_index r.stream i)) place_low r.words.small) spared controls heads (length-set s.words i (f (slice_index s.words i))) row idle refl refl keeping m.1
+      row_taken = takes t s r id m.0 (record m.0 { view = w }) at stream q o words (small_on r.stream i (f (slice_index r.stream i)) place_low r.words.small) spared controls heads (length-set s.words i (f (slice_index s.words i))) row idle refl refl refl keeping m.1
 
-      row_added : LogMemoryRuled t (after t s r id m.0 (record m.0 { view = w }) at stream q o words (small_on r.stream i (f (slice_index r.stream i)) place_low r.words.small) spared controls heads (length-set s.words i (f (slice_index s.words i))) row idle refl refl keeping m.1)
-      row_added = added t s r id m.0 (record m.0 { view = w }) at stream q o words (small_on r.stream i (f (slice_index r.stream i)) place_low r.words.small) spared controls heads (length-set s.words i (f (slice_index s.words i))) row idle refl refl keeping m.1
+      row_added : LogMemoryRuled t (after t s r id m.0 (record m.0 { view = w }) at stream q o words (small_on r.stream i (f (slice_index r.stream i)) place_low r.words.small) spared controls heads (length-set s.words i (f (slice_index s.words i))) row idle refl refl refl keeping m.1)
+      row_added = added t s r id m.0 (record m.0 { view = w }) at stream q o words (small_on r.stream i (f (slice_index r.stream i)) place_low r.words.small) spared controls heads (length-set s.words i (f (slice_index s.words i))) row idle refl refl refl keeping m.1
 
     row_in : (n x : ℕ) → offset_in n < term_of m.0.view.pass → offset_in n + x ≤ term_of m.0.view.pass → start_in (geometry_of m.0.view.pass) n % (ring t * 32) + x ≤ ring t * 32
     row_in n x lt fits =
@@ -159,7 +159,7 @@ add t id size m idle able armed short slots s r homes at small =
       keeps,
       tt,
       rests t s r (set s.words i (f (slice_index s.words i))) (set r.stream i (f n)) (set s.views id seat)
-          (leaves t s r id m.0 seat at refl (quiet_same m.0.view w told.2 (ap (λ (x : Pass). x.right.claims) is) (ap (λ (x : Pass). x.work.frames) is)) idle refl (set s.words i (f (slice_index s.words i))) (set r.stream i (f n)) q (small_on r.stream i (f n) (omega arith) r.words.small) (length-set s.words i (f (slice_index s.words i)))
+          (leaves t s r id m.0 seat at refl (quiet_same m.0.view w told.2 (ap (λ (x : Pass). x.right.claims) is) (ap (λ (x : Pass). x.work.frames) is)) idle refl refl (set s.words i (f (slice_index s.words i))) (set r.stream i (f n)) q (small_on r.stream i (f n) (omega arith) r.words.small) (length-set s.words i (f (slice_index s.words i)))
           (controls t id size m idle able armed short s r at small) (heads t id size m idle able armed short s r at small)
           (subst (λ (x : ℕ). limit_in x + greatest_claim (shape t) * 8 < r.freed + 3 * term t) (sym (spared t id size m idle able armed short s r at small)) r.memory.ahead)),
       record {

@@ -134,7 +134,7 @@ look t id place r m is low idle slots s k homes at small =
       keeps,
       tt,
       rests t s k (set s.words h (slice_index s.words h)) k.stream (set s.views id (record v { view = w }))
-          (leaves t s k id v (record v { view = w }) at refl quiet idle refl (set s.words h (slice_index s.words h)) k.stream (ruled_on t id place r m is low s k at i w _ g.3 (record v { view = w }) refl) k.words.small (ap length same)
+          (leaves t s k id v (record v { view = w }) at refl quiet idle refl refl (set s.words h (slice_index s.words h)) k.stream (ruled_on t id place r m is low s k at i w _ g.3 (record v { view = w }) refl) k.words.small (ap length same)
           (λ j lt. ap (λ (l : List ℕ). slice_index l j) same ∙ k.words.controls j lt) (λ j lt. ap (λ (l : List ℕ). slice_index l j) same)
           (subst (λ (l : List ℕ). limit_in (slice_index l 0) + greatest_claim (shape t) * 8 < k.freed + 3 * term t) (sym same) k.memory.ahead)),
       record { room = refl; told = told'; none = λ _. (refl, refl); found = λ pos. absurd (clash' n (slice_index s.words h) zero' e pos) },

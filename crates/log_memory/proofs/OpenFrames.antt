@@ -1,6 +1,6 @@
 -- What the rule says of open frames: each is a frame of a claim, so they are whole units, and none lies over another one or over a
 -- committed one.
-use Rattle.std.proofs.Common.{◌≡◌, ◌≢◌, ℕ, suc, ◌+◌, ◌-◌, ◌*◌, ◌%◌, ◌<◌, ◌≤◌, inl, inr, min, List, [], ◌∷◌, length, sym, refl, ap, subst, lt_of_not-le, arith}
+use Rattle.std.proofs.Common.{◌≡◌, ◌≢◌, ◌⊎◌, ℕ, suc, ◌+◌, ◌-◌, ◌*◌, ◌%◌, ◌<◌, ◌≤◌, inl, inr, min, List, [], ◌∷◌, length, sym, refl, ap, subst, lt_of_not-le, arith}
 use mathlib.Core.Option.{some}
 use mathlib.Core.Logic.{dite}
 use native.Mathlib.Decide.{dec_le}
@@ -13,6 +13,7 @@ use Rattle.publication.specs.declared.pass.FrameWords.{FrameWords}
 use Rattle.publication.specs.declared.pass.Pass.{Pass}
 use Rattle.publication.specs.Steps.{Extent, extent_of, extents}
 use Rattle.log_rule.specs.Claims.Memory.{Ruled, tail_of}
+use Rattle.log_rule.specs.Claims.Events.{committed_weight}
 use Rattle.log_rule.specs.Claims.Rule.{Bounds, IsClaimEntry, entries_of, weight}
 use Rattle.log_rule.specs.Claims.Sums.{covers, total}
 use Rattle.log_rule.specs.Edges.{AreCommitted, IsAmong, begins_below, claimed_sum, committed_sum, in_entry, open_sum, open_weight}
@@ -20,7 +21,11 @@ use Rattle.log_rule.specs.Readings.{end_of}
 use Rattle.log_rule.proofs.Claimed.Totals.{both_at, total_at}
 use Rattle.log_rule.proofs.Known.{among_total, units_sum}
 use Rattle.log_rule.proofs.Sums.{all_parted, covered, covering}
+use Rattle.log_memory.specs.declared.view.LogView.{LogView}
+use Rattle.log_memory.specs.declared.view.Site.{Site}
+use Rattle.log_memory.specs.Rule.{Board, LogMemoryRuled, passes_of, tail_in}
 use Rattle.log_memory.specs.Steps.{AreApart}
+use Rattle.log_memory.proofs.Facts.{bounds, pass_at}
 
 -- ---- sums that no claim adds to
 
@@ -58,6 +63,10 @@ whole_in p (cut ∷ cuts) = none (aligned cut % 32) (total rest_of (extents (p +
     unit n = omega arith
 
 -- ---- of one pass
+
+-- a position lies before a frame or behind it, where it can't lie in it
+sides : (x p l : ℕ) → (p ≤ x → x < p + 8 * l → ⊥) → (x < p) ⊎ (p + 8 * l ≤ x)
+sides x p l not = dite (dec_le p x) (λ from. dite (dec_le (p + 8 * l) x) (λ past. inr past) (λ in_it. absurd (not from (lt_of_not-le in_it)))) (λ before. inl (lt_of_not-le before))
 
 module _ (b : Bounds) (ws : List ℕ) (ps : List Pass) (r : Ruled b ws ps) where
   entries : (i : ℕ) (v : Pass) → get_elem? ps i ≡ some v → AllByRecursion IsClaimEntry (entries_of v)
@@ -137,10 +146,42 @@ module _ (b : Bounds) (ws : List ℕ) (ps : List Pass) (r : Ruled b ws ps) where
         go : (fs : List FrameWords) → ((x : ℕ) → total (λ (f : FrameWords). covering x (extent_of f)) fs ≤ 1) → ((f : FrameWords) → Among f fs → 0 < length f.words) → AreApart fs
         go [] once all = tt
         go (f ∷ fs) once all = (
-            (λ g among e. let a = among_total (λ (x : FrameWords). covering f.start (extent_of x)) fs g among in let c = subst (λ (s : ℕ). covers f.start s (8 * length g.words) ≤ total (λ (x : FrameWords). covering f.start (extent_of x)) fs) e a in
-                clash f.start (length f.words) (length g.words) (total (λ (x : FrameWords). covering f.start (extent_of x)) fs) (all f (inl refl)) (all g (inr among)) c (once f.start)),
-            go fs (λ x. let o = once x in less (covering x (extent_of f)) (total (λ (g : FrameWords). covering x (extent_of g)) fs) o) (λ g among. all g (inr among)),
-          )
+          (λ g among e. let a = among_total (λ (x : FrameWords). covering f.start (extent_of x)) fs g among in let c = subst (λ (s : ℕ). covers f.start s (8 * length g.words) ≤ total (λ (x : FrameWords). covering f.start (extent_of x)) fs) e a in
+              clash f.start (length f.words) (length g.words) (total (λ (x : FrameWords). covering f.start (extent_of x)) fs) (all f (inl refl)) (all g (inr among)) c (once f.start)),
+          go fs (λ x. let o = once x in less (covering x (extent_of f)) (total (λ (g : FrameWords). covering x (extent_of g)) fs) o) (λ g among. all g (inr among)),
+        )
           where
             less : (a c : ℕ) → a + c ≤ 1 → c ≤ 1
             less a c o = omega arith
+
+    -- a position of an open frame is no committed frame's
+    pub beside : (g : FrameWords) → IsAmong ps g → (f : FrameWords) → Among f v.work.drafts → (x : ℕ) → f.start ≤ x → x < end_of f → (x < g.start) ⊎ (end_of g ≤ x)
+    beside g in_g f among x lo hi = sides x g.start (length g.words) (λ from to. let a = among_total (λ (y : FrameWords). covering x (extent_of y)) v.work.drafts f among in let c = total_at (open_weight (covering x)) ps i v at in let d = in_g (λ (y : FrameWords). covering x (extent_of y)) in let e = both_low (covering x) in let o = one_at_most x in
+        clash x f.start (length f.words) g.start (length g.words) (open_weight (covering x) v) (open_sum (covering x) ps) (committed_sum (covering x) ps) (claimed_sum (covering x) ps) lo hi from to a c d e o)
+      where
+        clash : (x s l p m w o c k : ℕ) → s ≤ x → x < s + 8 * l → p ≤ x → x < p + 8 * m → covers x s (8 * l) ≤ w → w ≤ o → covers x p (8 * m) ≤ c → c + o ≤ k → k ≤ 1 → ⊥
+        clash x s l p m w o c k a b d e f g h i j = omega arith
+
+    -- nor another pass's open frame's
+    pub beside_open : (k : ℕ) (u : Pass) → k ≢ i → get_elem? ps k ≡ some u → (g : FrameWords) → Among g u.work.drafts → (f : FrameWords) → Among f v.work.drafts → (x : ℕ) → f.start ≤ x → x < end_of f → (x < g.start) ⊎ (end_of g ≤ x)
+    beside_open k u ne at' g in_g f among x lo hi = sides x g.start (length g.words) (λ from to. let a = among_total (λ (y : FrameWords). covering x (extent_of y)) v.work.drafts f among in let d = among_total (λ (y : FrameWords). covering x (extent_of y)) u.work.drafts g in_g in
+        let c = both_at (open_weight (covering x)) ps i k v u ne at at' in let e = open_low (covering x) in let o = one_at_most x in
+        clash x f.start (length f.words) g.start (length g.words) (open_weight (covering x) v) (open_weight (covering x) u) (open_sum (covering x) ps) (claimed_sum (covering x) ps) lo hi from to a d c e o)
+      where
+        clash : (x s l p m w u o k : ℕ) → s ≤ x → x < s + 8 * l → p ≤ x → x < p + 8 * m → covers x s (8 * l) ≤ w → covers x p (8 * m) ≤ u → w + u ≤ o → o ≤ k → k ≤ 1 → ⊥
+        clash x s l p m w u o k a b d e f g h i j = omega arith
+
+-- ---- of the whole rule
+
+module _ (t : Site) (s : Board) (r : LogMemoryRuled t s) (i : ℕ) (v : LogView) (at : get_elem? s.views i ≡ some v) (f : FrameWords) (draft : Among f v.view.pass.work.drafts) where
+  pub open_from : r.freed + r.out ≤ f.start
+  open_from = above (bounds t r.stream s.views r.ruled) r.stream (passes_of s.views) r.ruled.ruled i v.view.pass (pass_at s.views i v at) (r.freed + r.out) r.memory.passed f draft
+
+  pub open_to : end_of f ≤ tail_in t.key (passes_of s.views)
+  open_to = end_low (bounds t r.stream s.views r.ruled) r.stream (passes_of s.views) r.ruled.ruled i v.view.pass (pass_at s.views i v at) f draft
+
+  pub open_beside : (g : FrameWords) → IsAmong (passes_of s.views) g → (x : ℕ) → f.start ≤ x → x < end_of f → (x < g.start) ⊎ (end_of g ≤ x)
+  open_beside g in_g x lo hi = beside (bounds t r.stream s.views r.ruled) r.stream (passes_of s.views) r.ruled.ruled i v.view.pass (pass_at s.views i v at) g in_g f draft x lo hi
+
+  pub open_else : (k : ℕ) (u : LogView) → k ≢ i → get_elem? s.views k ≡ some u → (g : FrameWords) → Among g u.view.pass.work.drafts → (x : ℕ) → f.start ≤ x → x < end_of f → (x < g.start) ⊎ (end_of g ≤ x)
+  open_else k u ne at' g in_g x lo hi = beside_open (bounds t r.stream s.views r.ruled) r.stream (passes_of s.views) r.ruled.ruled i v.view.pass (pass_at s.views i v at) k u.view.pass ne (pass_at s.views k u at') g in_g f draft x lo hi

@@ -149,38 +149,40 @@ module _ (t : Site) (id other : ℕ) (v x : LogView) (idle : IsIdle v) (idle' : 
   spent = spent_seat t.key.identity t.key.start
 
   pub tell : x.view.pass ≡ record (newcomer t.key.identity t.key.start 0 0) { reading = x.view.pass.reading } → Joins (LogMemoryRuled t) id v other x (seats.joining told_seat v x) (spent_with spent)
-  tell new = joins t id other v x told_seat spent idle idle' (keeps_as v.view x.view (told_seat v.view x.view) (λ r a low. inl (told_behind v.view _ v.view.pass.reading r (λ y b. b) a low)) refl) (λ r a low. a) (λ one. one_none 0 refl one)
+  tell new = joins t id other v x told_seat spent idle idle'.0 (λ f a. absurd (subst (Among f) (ap (λ (p : Pass). p.work.drafts) new) a)) (keeps_as v.view x.view (told_seat v.view x.view) (λ r a low. inl (told_behind v.view _ v.view.pass.reading r (λ y b. b) a low)) refl) (λ r a low. a) (λ one. one_none 0 refl one)
       (ap (λ (p : Pass). weight length_of v.view.pass + weight length_of p) (sym new)) (λ h. ap (λ (p : Pass). weight (in_entry h) v.view.pass + weight (in_entry h) p) (sym new)) (λ h. ap (λ (p : Pass). committed_weight h v.view.pass + committed_weight h p) (sym new))
       (dealing.tells t.key id other v.view x.view new)
 
   pub return : (c : Reading) → x.view.pass ≡ reader_alone t.key.identity t.key.start c → Joins (LogMemoryRuled t) id v other x (seats.joining returned_seat v x) (spent_with spent)
-  return c only = joins t id other v x returned_seat spent idle idle'
+  return c only = joins t id other v x returned_seat spent idle idle'.0 (λ f a. absurd (subst (Among f) (ap (λ (p : Pass). p.work.drafts) only) a))
       (keeps_as v.view x.view (returned_seat v.view x.view) (λ r a low. ⊎_elim (λ b. inr (mine_behind x.view r b low)) (λ b. inl (mine_behind v.view r b low)) (among_cases r x.view.pass.reading v.view.pass.reading a)) refl)
       (λ r a low. a) (λ one. one_none 0 refl one)
       (ap (λ (p : Pass). weight length_of v.view.pass + weight length_of p) (sym only)) (λ h. ap (λ (p : Pass). weight (in_entry h) v.view.pass + weight (in_entry h) p) (sym only)) (λ h. ap (λ (p : Pass). committed_weight h v.view.pass + committed_weight h p) (sym only))
       (joining.returns t.key id other v.view x.view c only)
 
   pub gather : v.view.pass.right.armed ≡ 0 → x.view.pass.right.armed ≡ 0 → 0 < v.view.pass.right.parts → Joins (LogMemoryRuled t) id v other x (seats.joining both_seats v x) (spent_with spent)
-  gather off off' able = joins t id other v x both_seats spent idle idle' (keeps_as v.view x.view (both_seats v.view x.view) (λ r a low. inl (mine_behind v.view r a low)) refl) (λ r a low. a) (λ one. one_none 0 refl one)
+  gather off off' able = joins t id other v x both_seats spent idle idle'.0 (λ f a. among_right f v.view.pass.work.drafts x.view.pass.work.drafts a) (keeps_as v.view x.view (both_seats v.view x.view) (λ r a low. inl (mine_behind v.view r a low)) refl) (λ r a low. a) (λ one. one_none 0 refl one)
       (gathered length_of v.view.pass.right.claims x.view.pass.right.claims) (λ h. gathered (in_entry h) v.view.pass.right.claims x.view.pass.right.claims)
       (λ h. plus_none (total h (v.view.pass.work.frames ++ x.view.pass.work.frames)) ∙ total_append h v.view.pass.work.frames x.view.pass.work.frames)
       (gathering.gathers t.key id other v.view x.view off off' able)
 
-  pub hand_over : v.view.pass.number < 8 → (v.view.pass.right.parts < 1024 → Among v.view.pass.number v.view.pass.right.numbers) → v.view.pass.right.armed ≡ 0 → x.view.pass.right.armed ≡ 0 → 0 < v.view.pass.right.parts → Joins (LogMemoryRuled t) id v other x (seats.joining handing_seats v x) (spent_with spent)
-  hand_over low mine off off' able = let n : ℕ = v.view.pass.number in let cs = v.view.pass.right.claims in let ds = x.view.pass.right.claims in
-      joins t id other v x handing_seats spent idle idle' (keeps_as v.view x.view (handing_seats v.view x.view) (λ r a lt. inl (mine_behind v.view r a lt)) refl) (λ r a lt. a) (λ one. one_none 0 refl one)
-      (gathered length_of cs (map (owned_by n) ds) ∙ ap (λ (k : ℕ). total length_of (map entry_of cs) + k) (owned_same length_of n ds (λ c. refl)))
-      (λ h. gathered (in_entry h) cs (map (owned_by n) ds) ∙ ap (λ (k : ℕ). total (in_entry h) (map entry_of cs) + k) (owned_same (in_entry h) n ds (λ c. refl)))
-      (λ h. plus_none (total h (v.view.pass.work.frames ++ x.view.pass.work.frames)) ∙ total_append h v.view.pass.work.frames x.view.pass.work.frames)
-      (handing.hands_over t.key id other v.view x.view low mine off off' able)
-
   pub meet : v.view.pass.right.armed ≡ 0 → x.view.pass.right.armed ≡ 0 → 0 < v.view.pass.right.parts → Joins (LogMemoryRuled t) id v other x (seats.joining meeting_seats v x) (spent_with spent)
-  meet off off' able = joins t id other v x meeting_seats spent idle idle'
+  meet off off' able = joins t id other v x meeting_seats spent idle idle'.0 (λ f a. among_right f v.view.pass.work.drafts x.view.pass.work.drafts a)
       (keeps_as v.view x.view (meeting_seats v.view x.view) (λ r a low. ⊎_elim (λ b. inl (mine_behind v.view r b low)) (λ b. inr (mine_behind x.view r b low)) (among_cases r v.view.pass.reading x.view.pass.reading a)) refl)
       (λ r a low. a) (λ one. one_none 0 refl one)
       (gathered length_of v.view.pass.right.claims x.view.pass.right.claims) (λ h. gathered (in_entry h) v.view.pass.right.claims x.view.pass.right.claims)
       (λ h. plus_none (total h (v.view.pass.work.frames ++ x.view.pass.work.frames)) ∙ total_append h v.view.pass.work.frames x.view.pass.work.frames)
       (meetings.meets t.key id other v.view x.view off off' able)
+
+-- whose room may be at home
+module _ (t : Site) (id other : ℕ) (v x : LogView) (idle : IsIdle v) (idle' : x.part.has ≡ 0) where
+  pub hand_over : v.view.pass.number < 8 → (v.view.pass.right.parts < 1024 → Among v.view.pass.number v.view.pass.right.numbers) → v.view.pass.right.armed ≡ 0 → x.view.pass.right.armed ≡ 0 → 0 < v.view.pass.right.parts → Joins (LogMemoryRuled t) id v other x (seats.joining handing_seats v x) (spent_with (spent_seat t.key.identity t.key.start))
+  hand_over low mine off off' able = let n : ℕ = v.view.pass.number in let cs = v.view.pass.right.claims in let ds = x.view.pass.right.claims in
+      joins t id other v x handing_seats (spent_seat t.key.identity t.key.start) idle idle' (λ f a. among_right f v.view.pass.work.drafts x.view.pass.work.drafts a) (keeps_as v.view x.view (handing_seats v.view x.view) (λ r a lt. inl (mine_behind v.view r a lt)) refl) (λ r a lt. a) (λ one. one_none 0 refl one)
+      (gathered length_of cs (map (owned_by n) ds) ∙ ap (λ (k : ℕ). total length_of (map entry_of cs) + k) (owned_same length_of n ds (λ c. refl)))
+      (λ h. gathered (in_entry h) cs (map (owned_by n) ds) ∙ ap (λ (k : ℕ). total (in_entry h) (map entry_of cs) + k) (owned_same (in_entry h) n ds (λ c. refl)))
+      (λ h. plus_none (total h (v.view.pass.work.frames ++ x.view.pass.work.frames)) ∙ total_append h v.view.pass.work.frames x.view.pass.work.frames)
+      (handing.hands_over t.key id other v.view x.view low mine off off' able)
 
 -- ---- loads that tell a pass of itself
 

@@ -80,7 +80,8 @@ pub record SeatsKeep : Type 0 where
   pub tell : (t : Site) (id other : ℕ) (v x : LogView) → IsIdle v → IsIdle x → x.view.pass ≡ record (newcomer t.key.identity t.key.start 0 0) { reading = x.view.pass.reading } → SeatsJoin (LogMemoryRuled t) id v other x (joining told_seat v x) (spent_with (spent_seat t.key.identity t.key.start))
   pub return : (t : Site) (id other : ℕ) (v x : LogView) → IsIdle v → IsIdle x → (c : Reading) → x.view.pass ≡ reader_alone t.key.identity t.key.start c → SeatsJoin (LogMemoryRuled t) id v other x (joining returned_seat v x) (spent_with (spent_seat t.key.identity t.key.start))
   pub gather : (t : Site) (id other : ℕ) (v x : LogView) → IsIdle v → IsIdle x → v.view.pass.right.armed ≡ 0 → x.view.pass.right.armed ≡ 0 → 0 < v.view.pass.right.parts → SeatsJoin (LogMemoryRuled t) id v other x (joining both_seats v x) (spent_with (spent_seat t.key.identity t.key.start))
-  pub hand_over : (t : Site) (id other : ℕ) (v x : LogView) → IsIdle v → IsIdle x → v.view.pass.number < 8 → (v.view.pass.right.parts < 1024 → Among v.view.pass.number v.view.pass.right.numbers) → v.view.pass.right.armed ≡ 0 → x.view.pass.right.armed ≡ 0 → 0 < v.view.pass.right.parts → SeatsJoin (LogMemoryRuled t) id v other x (joining handing_seats v x) (spent_with (spent_seat t.key.identity t.key.start))
+  -- the other's room may be at home
+  pub hand_over : (t : Site) (id other : ℕ) (v x : LogView) → IsIdle v → x.part.has ≡ 0 → v.view.pass.number < 8 → (v.view.pass.right.parts < 1024 → Among v.view.pass.number v.view.pass.right.numbers) → v.view.pass.right.armed ≡ 0 → x.view.pass.right.armed ≡ 0 → 0 < v.view.pass.right.parts → SeatsJoin (LogMemoryRuled t) id v other x (joining handing_seats v x) (spent_with (spent_seat t.key.identity t.key.start))
   pub meet : (t : Site) (id other : ℕ) (v x : LogView) → IsIdle v → IsIdle x → v.view.pass.right.armed ≡ 0 → x.view.pass.right.armed ≡ 0 → 0 < v.view.pass.right.parts → SeatsJoin (LogMemoryRuled t) id v other x (joining meeting_seats v x) (spent_with (spent_seat t.key.identity t.key.start))
   pub settle : (t : Site) (id : ℕ) (m : Mine) → IsIdle m.0 → (i : ℕ) → i < 208 → Keeps t id i (λ n. n) (reading (λ v k w. Steadies v w)) m
   pub weigh : (t : Site) (id : ℕ) (m : Mine) → IsIdle m.0 → (i : ℕ) → i < 208 → Keeps t id i (λ n. n) (reading (λ v k w. Weighs v w)) m

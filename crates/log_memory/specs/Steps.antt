@@ -238,6 +238,6 @@ pub record IsQuiet (v w : View) : Type 0 where
 abbrev pub IsCalm : View → ℕ → (ℕ → ℕ) → Type 0
 IsCalm v i f = (i ≢ 0) ⊎ (((n : ℕ) → f n ≡ n) ⊎ ((v.pass.keeping.right ≡ 1) × ((n : ℕ) → (limit_in (f n) ≡ limit_in v.pass.keeping.limit) ⊎ (limit_in (f n) + greatest_claim (geometry_of v.pass) * 8 < v.pass.keeping.cleaned + 3 * term_of v.pass))))
 
--- it has no part of a frame
+-- it has no part of a frame, and no room of its is at home
 abbrev pub IsIdle : LogView → Type 0
-IsIdle v = v.part.has ≡ 0
+IsIdle v = (v.part.has ≡ 0) × (v.parked ≡ [])

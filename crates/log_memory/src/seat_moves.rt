@@ -200,7 +200,7 @@ pub fn take_seat(table: &LogTable, seat: &mut LogSeat, other: LogSeat)
 fn hand_over_as<N: Carried>(table: &LogTable, seat: &mut LogSeat, other: LogSeat)
     requires seat { IsSeatOf table.now.key table.now.table_id seat.old.table_id }
     requires other { (other.table_id ≡ seat.old.table_id) × (other.me.1 ≡ []) }
-    requires idle { IsIdle seat.old.me.0 × IsIdle other.me.0 }
+    requires idle { IsIdle seat.old.me.0 × (other.me.0.part.has ≡ 0) }
     requires may { MayHandOver seat.old.me.0.view.pass other.me.0.view.pass }
     requires carried { (N.identity ≡ table.now.key.key.identity)
         × (N.start ≡ table.now.key.key.start) }
@@ -214,7 +214,7 @@ fn hand_over_as<N: Carried>(table: &LogTable, seat: &mut LogSeat, other: LogSeat
 pub fn hand_over(table: &LogTable, seat: &mut LogSeat, other: LogSeat)
     requires seat { IsSeatOf table.now.key table.now.table_id seat.old.table_id }
     requires other { (other.table_id ≡ seat.old.table_id) × (other.me.1 ≡ []) }
-    requires idle { IsIdle seat.old.me.0 × IsIdle other.me.0 }
+    requires idle { IsIdle seat.old.me.0 × (other.me.0.part.has ≡ 0) }
     requires may { MayHandOver seat.old.me.0.view.pass other.me.0.view.pass }
     ensures seat { (seat.new.table_id ≡ seat.old.table_id) × (seat.new.id ≡ seat.old.id)
         × (seat.new.me ≡ (joining handing_seats seat.old.me.0 other.me.0, seat.old.me.1)) }

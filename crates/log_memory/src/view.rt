@@ -1,7 +1,9 @@
 //! What a seat of a log's table knows, and what the table is told.
 
 use log_rule::{Key, View};
+use publication::FrameWords;
 use region::RegionKey;
+use std::collections::LinkedList;
 
 /// Where `has` is 1: a reader's part of the right to read the frame at a position, by the consumer's number, of this round
 /// and this account.
@@ -24,6 +26,8 @@ pub struct LogView {
     pub view: View,
     pub part: Part,
     pub room: Room,
+    /// Those of the pass's open frames of which the room lies at home, on its way from one seat to another.
+    pub parked: LinkedList<FrameWords>,
 }
 
 /// What a log's table is told when it is made: its stream, and the region where frames lie.

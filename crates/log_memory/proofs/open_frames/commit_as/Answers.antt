@@ -36,7 +36,7 @@ behind_is t d rest mine c = carries_drop (IsRoomAt t) (slot_of (ring t) d.start 
 pub commit_frame-home-requires-clause-may : goal.commit_frame-home-requires-clause-may
 commit_frame-home-requires-clause-may g c =
     let o = c.requires.open in let same : c.pass_chosen.new.seat.me.0 ≡ c.args.seat.now.me.0 = ap (λ (m : Mine). m.0) c.pass_chosen.ensures.2 in record {
-      idle = subst (λ (v : LogView). v.part.has ≡ 0) (sym same) o.idle;
+      idle = subst (λ (v : LogView). (v.part.has ≡ 0) × (v.parked ≡ [])) (sym same) o.idle;
       front = g.N.Opened.front;
       cut = o.cut;
       others = g.N.Opened.others;
