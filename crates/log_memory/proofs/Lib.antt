@@ -28,5 +28,6 @@ mod Frees
 mod Drafted
 mod OpenRooms
 mod OpenFrames
+pub mod Parking
 pub mod ClaimRooms
 pub mod Looked

@@ -1,6 +1,6 @@
 -- What the rule says of open frames: each is a frame of a claim, so they are whole units, and none lies over another one or over a
 -- committed one.
-use Rattle.std.proofs.Common.{◌≡◌, ◌≢◌, ◌⊎◌, ℕ, suc, ◌+◌, ◌-◌, ◌*◌, ◌%◌, ◌<◌, ◌≤◌, inl, inr, min, List, [], ◌∷◌, length, sym, refl, ap, subst, lt_of_not-le, arith}
+use Rattle.std.proofs.Common.{◌≡◌, ◌≢◌, ◌⊎◌, ℕ, suc, ◌+◌, ◌-◌, ◌*◌, ◌/◌, ◌%◌, ◌<◌, ◌≤◌, inl, inr, min, List, [], ◌∷◌, length, sym, refl, ap, ◌∙◌, subst, lt_of_not-le, mul_comm, div-add-mod', arith}
 use mathlib.Core.Option.{some}
 use mathlib.Core.Logic.{dite}
 use native.Mathlib.Decide.{dec_le}
@@ -14,18 +14,20 @@ use Rattle.publication.specs.declared.pass.Pass.{Pass}
 use Rattle.publication.specs.Steps.{Extent, extent_of, extents}
 use Rattle.log_rule.specs.Claims.Memory.{Ruled, tail_of}
 use Rattle.log_rule.specs.Claims.Events.{committed_weight}
-use Rattle.log_rule.specs.Claims.Rule.{Bounds, IsClaimEntry, entries_of, weight}
+use Rattle.log_rule.specs.Claims.Rule.{Bounds, IsClaimEntry, entries_of, size_of, weight}
 use Rattle.log_rule.specs.Claims.Sums.{covers, total}
 use Rattle.log_rule.specs.Edges.{AreCommitted, IsAmong, begins_below, claimed_sum, committed_sum, in_entry, open_sum, open_weight}
 use Rattle.log_rule.specs.Readings.{end_of}
 use Rattle.log_rule.proofs.Claimed.Totals.{both_at, total_at}
+use Rattle.log_rule.proofs.InTerm.{nothing_crosses}
 use Rattle.log_rule.proofs.Known.{among_total, units_sum}
 use Rattle.log_rule.proofs.Sums.{all_parted, covered, covering}
 use Rattle.log_memory.specs.declared.view.LogView.{LogView}
 use Rattle.log_memory.specs.declared.view.Site.{Site}
-use Rattle.log_memory.specs.Rule.{Board, LogMemoryRuled, passes_of, tail_in}
+use Rattle.log_memory.specs.Rule.{Board, LogMemoryRuled, passes_of, ring, tail_in, term}
 use Rattle.log_memory.specs.Steps.{AreApart}
-use Rattle.log_memory.proofs.Facts.{bounds, pass_at}
+use Rattle.log_memory.proofs.Facts.{bounds, least, pass_at, width}
+use Rattle.log_memory.proofs.Places.{in_ring}
 
 -- ---- sums that no claim adds to
 
@@ -64,8 +66,16 @@ whole_in p (cut ∷ cuts) = none (aligned cut % 32) (total rest_of (extents (p +
 
 -- ---- of one pass
 
+-- two of a list
+among_two : (h : FrameWords → ℕ) (fs : List FrameWords) (f g : FrameWords) → f.start ≢ g.start → Among f fs → Among g fs → h f + h g ≤ total h fs
+among_two h [] f g ne a c = absurd a
+among_two h (x ∷ xs) f g ne (inl e) (inl e') = absurd (ne (ap (λ (y : FrameWords). y.start) e ∙ sym (ap (λ (y : FrameWords). y.start) e')))
+among_two h (x ∷ xs) f g ne (inl e) (inr c) = let i : h f ≡ h x = ap h e in let l = among_total h xs g c in omega arith
+among_two h (x ∷ xs) f g ne (inr a) (inl e) = let i : h g ≡ h x = ap h e in let l = among_total h xs f a in omega arith
+among_two h (x ∷ xs) f g ne (inr a) (inr c) = let l = among_two h xs f g ne a c in omega arith
+
 -- a position lies before a frame or behind it, where it can't lie in it
-sides : (x p l : ℕ) → (p ≤ x → x < p + 8 * l → ⊥) → (x < p) ⊎ (p + 8 * l ≤ x)
+pub sides : (x p l : ℕ) → (p ≤ x → x < p + 8 * l → ⊥) → (x < p) ⊎ (p + 8 * l ≤ x)
 sides x p l not = dite (dec_le p x) (λ from. dite (dec_le (p + 8 * l) x) (λ past. inr past) (λ in_it. absurd (not from (lt_of_not-le in_it)))) (λ before. inl (lt_of_not-le before))
 
 module _ (b : Bounds) (ws : List ℕ) (ps : List Pass) (r : Ruled b ws ps) where
@@ -124,6 +134,27 @@ module _ (b : Bounds) (ws : List ℕ) (ps : List Pass) (r : Ruled b ws ps) where
         go : (p l s e c : ℕ) → 0 < l → covers (p + 8 * l - 1) p (8 * l) ≤ c → c ≡ min 1 (min (p + 8 * l - 1 + 1 - s) (e - (p + 8 * l - 1))) → p + 8 * l ≤ e
         go p l s e c pos a is = omega arith
 
+    -- it lies in one term
+    pub in_term : (f : FrameWords) → Among f v.work.drafts → f.start % size_of b + 8 * length f.words ≤ size_of b
+    in_term f among =
+        let t : ℕ = size_of b in let p : ℕ = f.start in let q : ℕ = p / t in let least = r.claims.sound.geometry.term.least in let parts : q * t + p % t ≡ p = div-add-mod' p t in
+        let next : suc q * t ≡ q * t + t = (let a = mul_comm (suc q) t in let c = mul_comm t q in let e : t * suc q ≡ t * q + t = omega arith in sum3 (suc q * t) (t * suc q) (t * q) (q * t) t a e c) in
+        let none' = nothing_crosses b ws ps r (suc q) (positive (suc q * t) (q * t) t next least) in
+        let mine = its_low (λ (x : Extent). min (covers (suc q * t) x.start x.bytes) (covers (suc q * t - 1) x.start x.bytes)) f among in
+        fits (suc q * t) (q * t) t (p % t) p (8 * length f.words) _ (mod_low p t least) next parts none' mine
+      where
+        sum3 : (a c d e t : ℕ) → a ≡ c → c ≡ d + t → d ≡ e → a ≡ e + t
+        sum3 a c d e t p q r = omega arith
+
+        positive : (x y t : ℕ) → x ≡ y + t → 65536 ≤ t → 0 < x
+        positive x y t e le = omega arith
+
+        mod_low : (p t : ℕ) → 65536 ≤ t → p % t < t
+        mod_low p t le = omega arith
+
+        fits : (x y t m p n c : ℕ) → m < t → x ≡ y + t → y + m ≡ p → c ≡ 0 → min (covers x p n) (covers (x - 1) p n) ≤ c → m + n ≤ t
+        fits x y t m p n c low e whole z le = omega arith
+
     -- where all below a position is committed, it begins there or above
     pub above : (p : ℕ) → AreCommitted ps p → (f : FrameWords) → Among f v.work.drafts → p ≤ f.start
     above p same f among =
@@ -171,6 +202,14 @@ module _ (b : Bounds) (ws : List ℕ) (ps : List Pass) (r : Ruled b ws ps) where
         clash : (x s l p m w u o k : ℕ) → s ≤ x → x < s + 8 * l → p ≤ x → x < p + 8 * m → covers x s (8 * l) ≤ w → covers x p (8 * m) ≤ u → w + u ≤ o → o ≤ k → k ≤ 1 → ⊥
         clash x s l p m w u o k a b d e f g h i j = omega arith
 
+    -- nor one that begins elsewhere
+    pub beside_own : (g : FrameWords) → Among g v.work.drafts → (f : FrameWords) → Among f v.work.drafts → f.start ≢ g.start → (x : ℕ) → f.start ≤ x → x < end_of f → (x < g.start) ⊎ (end_of g ≤ x)
+    beside_own g in_g f among ne x lo hi = sides x g.start (length g.words) (λ from to. let a = among_two (λ (y : FrameWords). covering x (extent_of y)) v.work.drafts f g ne among in_g in let c = mine_low (covering x) in let o = one_at_most x in
+        clash x f.start (length f.words) g.start (length g.words) (open_weight (covering x) v) (claimed_sum (covering x) ps) lo hi from to a c o)
+      where
+        clash : (x s l p m w k : ℕ) → s ≤ x → x < s + 8 * l → p ≤ x → x < p + 8 * m → covers x s (8 * l) + covers x p (8 * m) ≤ w → w ≤ k → k ≤ 1 → ⊥
+        clash x s l p m w k a b d e f g h = omega arith
+
 -- ---- of the whole rule
 
 module _ (t : Site) (s : Board) (r : LogMemoryRuled t s) (i : ℕ) (v : LogView) (at : get_elem? s.views i ≡ some v) (f : FrameWords) (draft : Among f v.view.pass.work.drafts) where
@@ -185,3 +224,20 @@ module _ (t : Site) (s : Board) (r : LogMemoryRuled t s) (i : ℕ) (v : LogView)
 
   pub open_else : (k : ℕ) (u : LogView) → k ≢ i → get_elem? s.views k ≡ some u → (g : FrameWords) → Among g u.view.pass.work.drafts → (x : ℕ) → f.start ≤ x → x < end_of f → (x < g.start) ⊎ (end_of g ≤ x)
   open_else k u ne at' g in_g x lo hi = beside_open (bounds t r.stream s.views r.ruled) r.stream (passes_of s.views) r.ruled.ruled i v.view.pass (pass_at s.views i v at) k u.view.pass ne (pass_at s.views k u at') g in_g f draft x lo hi
+
+  pub open_own : (g : FrameWords) → Among g v.view.pass.work.drafts → f.start ≢ g.start → (x : ℕ) → f.start ≤ x → x < end_of f → (x < g.start) ⊎ (end_of g ≤ x)
+  open_own g in_g ne x lo hi = beside_own (bounds t r.stream s.views r.ruled) r.stream (passes_of s.views) r.ruled.ruled i v.view.pass (pass_at s.views i v at) g in_g f draft ne x lo hi
+
+  pub open_unit : f.start % 32 ≡ 0
+  open_unit = unit (bounds t r.stream s.views r.ruled) r.stream (passes_of s.views) r.ruled.ruled i v.view.pass (pass_at s.views i v at) f draft
+
+  pub open_whole : (8 * length f.words) % 32 ≡ 0
+  open_whole = whole (bounds t r.stream s.views r.ruled) r.stream (passes_of s.views) r.ruled.ruled i v.view.pass (pass_at s.views i v at) f draft
+
+  pub open_long : 0 < length f.words
+  open_long = long (bounds t r.stream s.views r.ruled) r.stream (passes_of s.views) r.ruled.ruled i v.view.pass (pass_at s.views i v at) f draft
+
+  -- it lies in a row of the ring
+  pub open_row : f.start % (ring t * 32) + 8 * length f.words ≤ ring t * 32
+  open_row = let l = least t r.stream s.views r.ruled in
+      subst (λ (x : ℕ). f.start % x + 8 * length f.words ≤ x) (sym (width t r.stream s.views r.ruled)) (in_ring (term t) f.start (8 * length f.words) (omega arith) (in_term (bounds t r.stream s.views r.ruled) r.stream (passes_of s.views) r.ruled.ruled i v.view.pass (pass_at s.views i v at) f draft))

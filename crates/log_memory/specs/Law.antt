@@ -28,7 +28,9 @@ use Rattle.log_memory.specs.Places.{head_place}
 use Rattle.log_memory.specs.Opening.{SlotsBegun, WordsBegun}
 use Rattle.log_memory.specs.Rule.{LogMemoryRuled, ring, whole_seat}
 use Rattle.log_memory.specs.Seats.{dealt_with, joining, spent_with, viewing}
-use Rattle.log_memory.specs.Steps.{Adds, CleansTo, Commits, Gives, GivesRoom, IsIdle, Looks, MayCleanTo, MayCommit, MayGive, MayGiveRoom, MayReread, MayTakeBack, Mine, Rereads, Rests, TakesBack, any_step}
+use Rattle.log_memory.specs.Open.{HoldsOpen}
+use Rattle.log_memory.specs.Parking.{Fetches, Parks}
+use Rattle.log_memory.specs.Steps.{Adds, AreApart, CleansTo, Commits, Gives, GivesRoom, IsIdle, Looks, MayCleanTo, MayCommit, MayGive, MayGiveRoom, MayReread, MayTakeBack, Mine, Rereads, Rests, TakesBack, any_step}
 
 -- such a step, whatever stands, keeps the rule, tells this of what its seat knows of the stream, and moves no memory
 abbrev pub Keeps : Site → ℕ → ℕ → (ℕ → ℕ) → (words.Mine → ℕ → words.Mine → Type 0) → Mine → Type 0
@@ -59,7 +61,10 @@ pub record StepsKeep : Type 0 where
   pub take_back : (t : Site) (id : ℕ) (m : Mine) → MayTakeBack m.0 → (slots : ℕ) → Allows (LogMemoryRuled t) slots id m (head_place (ring t) m.0.room.freed) (λ n. n) (λ n w. TakesBack t m n w)
   -- what it took back becomes room, as zeros, where it stores zero over the frame's word
   pub give_room : (t : Site) (id : ℕ) (m : Mine) → MayGiveRoom t m → (slots : ℕ) → Allows (LogMemoryRuled t) slots id m (head_place (ring t) m.0.room.freed) (λ _. 0) (λ _ w. GivesRoom m w)
-  -- it knows, at any load, how far all is zero
+  -- the room of a pass's open frames goes home, and is taken from there, at any load
+  pub park : (t : Site) (id i : ℕ) (m : Mine) → IsIdle m.0 → HoldsOpen t m → (slots : ℕ) → Allows (LogMemoryRuled t) slots id m i (λ n. n) (λ _ w. Parks m w)
+  pub fetch : (t : Site) (id i : ℕ) (m : Mine) → m.0.part.has ≡ 0 → AreApart m.0.parked → (slots : ℕ) → Allows (LogMemoryRuled t) slots id m i (λ n. n) (λ _ w. Fetches t m w)
+  -- the keeper knows, at any load, how far all is zero
   pub clean_to : (t : Site) (id i end : ℕ) (m : Mine) → MayCleanTo end m.0 → IsIdle m.0 → (slots : ℕ) → Allows (LogMemoryRuled t) slots id m i (λ n. n) (λ _ w. CleansTo end m w)
   -- the keeper's other steps move no memory
   pub sweep : (t : Site) (id j : ℕ) (m : Mine) → m.0.view.pass.keeping.right ≡ 1 → IsThere m.0.view.pass.keeping.there j → j < 8 → IsIdle m.0 → Keeps t id (consumer_place j) (λ n. n) (sweeping j) m

@@ -10,4 +10,5 @@ pub mod Frames
 pub mod Found
 pub mod Drafts
 pub mod Open
+pub mod Parking
 pub mod Law

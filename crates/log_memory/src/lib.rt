@@ -48,6 +48,7 @@ mod order;
 mod publisher;
 mod reader;
 mod rights;
+mod room_moves;
 mod rule;
 mod seat_moves;
 mod seats;
@@ -67,6 +68,7 @@ pub use publisher::{
 };
 pub use reader::{consume, give, look, reread};
 pub use rights::{LogSeat, LogTable, Rowed, collect_parts, deal_parts, deal_room, gather};
+pub use room_moves::{fetch, park};
 pub use rule::LogMemoryRule;
 pub use seat_moves::{
     deal_keeper, deal_knowledge, deal_news, deal_publisher, deal_reader, hand_over, meet,

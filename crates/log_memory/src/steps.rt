@@ -177,6 +177,26 @@ impl Play<Access, LogView> for GiveRoom {
     ghost then = { λ _ m _ w. GivesRoom m w };
 }
 
+/// The room of the open frames of a seat's pass goes home, at a load.
+pub struct Park;
+
+impl Play<Access, LogView> for Park {
+    ghost use Rattle.log_memory.specs.Parking.{Parks};
+
+    ghost then = { λ _ m _ w. Parks m w };
+}
+
+/// The seat that has the pass then takes it from there, at a load.
+pub struct Fetch<N> {
+    chosen: PhantomData<N>,
+}
+
+impl<N: Picked> Play<Access, LogView> for Fetch<N> {
+    ghost use Rattle.log_memory.specs.Parking.{Fetches};
+
+    ghost then = { λ _ m _ w. Fetches N.site m w };
+}
+
 /// The keeper knows that all is zero up to the chosen position, at a load.
 pub struct CleanTo<N> {
     chosen: PhantomData<N>,
