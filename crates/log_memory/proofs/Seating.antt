@@ -22,7 +22,7 @@ use Rattle.log_rule.specs.Kept.{IsThere}
 use Rattle.log_rule.specs.Meetings.{Steadies, Steady, back_left, back_right, meeting, meeting_seats, showing, was_shown}
 use Rattle.log_rule.specs.Readings.{reading}
 use Rattle.log_rule.specs.Shares.{Weighs}
-use Rattle.log_rule.specs.Table.{first_reading, keeper_left, keeper_right, knowledge_right, knows_all, news_left, news_right, other_readings, reader_alone, reader_left, reader_right, returned_seat, told_seat}
+use Rattle.log_rule.specs.Table.{first_reading, keeper_left, keeper_right, knowledge_right, knows_all, lifted_left, lifted_right, lowered, news_left, news_right, other_readings, reader_alone, reader_left, reader_right, returned_seat, told_seat}
 use Rattle.log_rule.proofs.Claimed.Memories.{maps_append}
 use Rattle.log_rule.proofs.Claimed.Totals.{total_append}
 use Rattle.log_rule.proofs.Dealing as dealing
@@ -31,6 +31,7 @@ use Rattle.log_rule.proofs.Handing as handing
 use Rattle.log_rule.proofs.Joining as joining
 use Rattle.log_rule.proofs.Meetings as meetings
 use Rattle.log_rule.proofs.Showing as showings
+use Rattle.log_rule.proofs.Swapping as swapping
 use Rattle.log_memory.specs.declared.view.LogView.{LogView}
 use Rattle.log_memory.specs.declared.view.Site.{Site}
 use Rattle.log_memory.specs.Law.{Keeps, SeatsKeep}
@@ -119,6 +120,9 @@ module _ (t : Site) (id : ℕ) (v : LogView) (idle : IsIdle v) where
       (λ h. sym (ap (λ (x : Pass). committed_weight h x) is ∙ total_append h p.work.frames q.work.frames))
       (meetings.parts_again t.key id v.view k p q is sp sq off off' able more same from none)
 
+  pub lift_pass : Splits (LogMemoryRuled t) id v (viewing lifted_left v) (dealt_with lifted_right v)
+  lift_pass = splits t id v lifted_left lifted_right idle (comes_reading v.view (lifted_left v.view) (λ r a low. absurd a) refl) (comes_as v.view (lifted_right v.view) (λ r a low. a) refl) (λ h. none_plus (weight h v.view.pass)) (λ h. none_plus (committed_weight h v.view.pass)) (swapping.lifts t.key id v.view)
+
 -- ---- and joined
 
 -- who takes in the other keeps as before
@@ -174,6 +178,24 @@ module _ (t : Site) (id other : ℕ) (v x : LogView) (idle : IsIdle v) (idle' : 
       (λ h. plus_none (total h (v.view.pass.work.frames ++ x.view.pass.work.frames)) ∙ total_append h v.view.pass.work.frames x.view.pass.work.frames)
       (meetings.meets t.key id other v.view x.view off off' able)
 
+-- a pass comes back to the seat where its room is
+module _ (t : Site) (id other : ℕ) (v x : LogView) (idle : IsIdle v) (idle' : IsIdle x) (none : v.view.pass ≡ newcomer t.key.identity t.key.start 0 0) (plain : x.view.pass.keeping ≡ no_keeping) where
+  comes_back : ComesFromBoth v.view x.view (lowered v.view x.view)
+  comes_back = record {
+    readings = λ r a low. inr (mine_behind x.view r a low);
+    keeper = λ one. absurd (one_none x.view.pass.keeping.right (ap (λ (k : Keeping). k.right) plain) one);
+    cleaned = ap (λ (k : Keeping). k.cleaned) plain ∙ sym (ap (λ (p : Pass). p.keeping.cleaned) none);
+    seen = λ one. absurd (one_none x.view.pass.keeping.right (ap (λ (k : Keeping). k.right) plain) one);
+  }
+
+  pub lower_pass : Joins (LogMemoryRuled t) id v other x (seats.joining lowered v x) (spent_with (spent_seat t.key.identity t.key.start))
+  lower_pass = joins t id other v x lowered (spent_seat t.key.identity t.key.start) idle idle'.0 (λ f a. a) comes_back (λ r a low. a) (λ one. one_none 0 refl one)
+      (first_none (weight length_of x.view.pass) (weight length_of v.view.pass) (ap (λ (p : Pass). weight length_of p) none)) (λ h. first_none (weight (in_entry h) x.view.pass) (weight (in_entry h) v.view.pass) (ap (λ (p : Pass). weight (in_entry h) p) none))
+      (λ h. first_none (committed_weight h x.view.pass) (committed_weight h v.view.pass) (ap (λ (p : Pass). committed_weight h p) none)) (swapping.lowers t.key id other v.view x.view none)
+    where
+      first_none : (a c : ℕ) → c ≡ 0 → a + 0 ≡ c + a
+      first_none a c e = omega arith
+
 -- whose room may be at home
 module _ (t : Site) (id other : ℕ) (v x : LogView) (idle : IsIdle v) (idle' : x.part.has ≡ 0) where
   pub hand_over : v.view.pass.number < 8 → (v.view.pass.right.parts < 1024 → Among v.view.pass.number v.view.pass.right.numbers) → v.view.pass.right.armed ≡ 0 → x.view.pass.right.armed ≡ 0 → 0 < v.view.pass.right.parts → Joins (LogMemoryRuled t) id v other x (seats.joining handing_seats v x) (spent_with (spent_seat t.key.identity t.key.start))
@@ -211,6 +233,8 @@ seats_keep = record {
   news = news;
   knowledge = knowledge;
   part_again = part_again;
+  lift = lift_pass;
+  lower = lower_pass;
   tell = tell;
   return = return;
   gather = gather;

@@ -13,7 +13,7 @@ use Rattle.publication.specs.declared.pass.Pass.{Pass}
 use Rattle.log_rule.specs.Claims.Closing.{both_seats, handing_seats, numbered_seat, spent_seat}
 use Rattle.log_rule.specs.Meetings.{Steadies, Steady, back_left, back_right, meeting, meeting_seats, showing, was_shown}
 use Rattle.log_rule.specs.Shares.{Weighs}
-use Rattle.log_rule.specs.Table.{keeper_left, keeper_right, knowledge_right, news_left, news_right, reader_alone, reader_left, reader_right, returned_seat, told_seat}
+use Rattle.log_rule.specs.Table.{keeper_left, keeper_right, knowledge_right, lifted_left, lifted_right, lowered, news_left, news_right, reader_alone, reader_left, reader_right, returned_seat, told_seat}
 use Rattle.log_rule.specs.Claims.Packs.{consumer_place, count_place, limit_place, tail_place}
 use Rattle.log_rule.specs.Claims.Sure.{LearnsControls}
 use Rattle.log_rule.specs.Keepings.{Joins, LearnsLimit, Leaves, MayJoin, MayLeave, MayRaise, Raises, keeping, sweeping}
@@ -88,6 +88,9 @@ pub record SeatsKeep : Type 0 where
   -- the other's room may be at home
   pub hand_over : (t : Site) (id other : ℕ) (v x : LogView) → IsIdle v → x.part.has ≡ 0 → v.view.pass.number < 8 → (v.view.pass.right.parts < 1024 → Among v.view.pass.number v.view.pass.right.numbers) → v.view.pass.right.armed ≡ 0 → x.view.pass.right.armed ≡ 0 → 0 < v.view.pass.right.parts → SeatsJoin (LogMemoryRuled t) id v other x (joining handing_seats v x) (spent_with (spent_seat t.key.identity t.key.start))
   pub meet : (t : Site) (id other : ℕ) (v x : LogView) → IsIdle v → IsIdle x → v.view.pass.right.armed ≡ 0 → x.view.pass.right.armed ≡ 0 → 0 < v.view.pass.right.parts → SeatsJoin (LogMemoryRuled t) id v other x (joining meeting_seats v x) (spent_with (spent_seat t.key.identity t.key.start))
+  -- a pass goes to a new seat, while its room stays, and comes back
+  pub lift : (t : Site) (id : ℕ) (v : LogView) → IsIdle v → Splits (LogMemoryRuled t) id v (viewing lifted_left v) (dealt_with lifted_right v)
+  pub lower : (t : Site) (id other : ℕ) (v x : LogView) → IsIdle v → IsIdle x → v.view.pass ≡ newcomer t.key.identity t.key.start 0 0 → x.view.pass.keeping ≡ no_keeping → SeatsJoin (LogMemoryRuled t) id v other x (joining lowered v x) (spent_with (spent_seat t.key.identity t.key.start))
   pub settle : (t : Site) (id : ℕ) (m : Mine) → IsIdle m.0 → (i : ℕ) → i < 208 → Keeps t id i (λ n. n) (reading (λ v k w. Steadies v w)) m
   pub weigh : (t : Site) (id : ℕ) (m : Mine) → IsIdle m.0 → (i : ℕ) → i < 208 → Keeps t id i (λ n. n) (reading (λ v k w. Weighs v w)) m
   pub show : (t : Site) (id : ℕ) (m : Mine) → IsIdle m.0 → (p : ℕ) → Keeps t id (tail_place p) (λ n. n) (showing (p % 3)) m

@@ -71,8 +71,8 @@ pub use rights::{LogSeat, LogTable, Rowed, collect_parts, deal_parts, deal_room,
 pub use room_moves::{fetch, park};
 pub use rule::LogMemoryRule;
 pub use seat_moves::{
-    deal_keeper, deal_knowledge, deal_news, deal_publisher, deal_reader, hand_over, meet,
-    part_again, renumber, settle, show, take_consumer, take_seat, tell, weigh,
+    deal_keeper, deal_knowledge, deal_news, deal_publisher, deal_reader, hand_over, lift, lower,
+    meet, part_again, renumber, settle, show, take_consumer, take_seat, tell, weigh,
 };
 pub use steps::Picked;
 pub use view::{LogView, Part, Room, Site};
