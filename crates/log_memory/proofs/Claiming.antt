@@ -165,6 +165,7 @@ add t id size m idle able armed short slots s r homes at small =
       record {
         part = refl;
         room = refl;
+        parked = refl;
         told = told';
         low = low;
         apart = apart';
@@ -183,6 +184,7 @@ add t id size m idle able armed short slots s r homes at small =
       record {
         part = refl;
         room = refl;
+        parked = refl;
         told = told';
         low = low;
         apart = apart';
@@ -205,6 +207,7 @@ add t id size m idle able armed short slots s r homes at small =
       record {
         part = refl;
         room = refl;
+        parked = refl;
         told = told';
         low = low;
         apart = apart';

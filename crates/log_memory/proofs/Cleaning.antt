@@ -114,7 +114,7 @@ clean_to t id i end m may idle slots s r homes at small =
             (at_set s.views id j w x here);
         parked = parked_set t s s id w (none_parked t s w idle.1) (λ j x f ne here among. r.memory.parked j x f here among);
       },
-      record { carried = refl; part = refl; room = refl; steps = refl; learns = record { sure = b.sure; leads = b.leads }; pass = e },
+      record { carried = refl; part = refl; room = refl; parked = refl; steps = refl; learns = record { sure = b.sure; leads = b.leads }; pass = e },
     )
   where
     clash : (a c : ℕ) → a ≡ c → c ≡ 1 → a ≡ 0 → ⊥

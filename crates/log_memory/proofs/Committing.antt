@@ -421,6 +421,7 @@ commit t id p ws m idle may slots s r homes at small = let g = gives t s r id p 
     carried = g.rest ∙ sym (carried_behind (IsPartAt t (slot_of (ring t) p 0) ws may.round may.book) (slot_of (ring t) p 0) (8 * length ws / 4) may.before m.1 may.carries);
     part = refl;
     room = refl;
+    parked = refl;
     steps = refl;
     learns = record { sure = (made t s r id p ws m at idle may).became.sure; leads = (made t s r id p ws m at idle may).became.leads };
     fills = filled t s r id p ws m at idle may;

@@ -347,6 +347,7 @@ take_back t id m may slots s r homes at small =
         carries = tk.taken;
         part = refl;
         room = refl;
+        parked = refl;
         rests = refl;
       },
     )

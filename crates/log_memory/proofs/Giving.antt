@@ -189,5 +189,5 @@ give_room t id m may slots s r homes at small =
       g.act,
       g.valid,
       subst (λ (x : ℕ). LogMemoryRuled t (record { words = set s.words (head_place (ring t) x) 0; homes = homes_after s.homes m.1 g.act; views = set s.views id (seat t s r id m at may) })) (sym freed) (gave t s r id m at may),
-      record { carried = g.rest ∙ sym (carried_behind (IsRoomAt t) (slot_of (ring t) m.0.room.freed 0) (m.0.room.out / 4) may.before m.1 may.carries); part = refl; room = refl; rests = refl },
+      record { carried = g.rest ∙ sym (carried_behind (IsRoomAt t) (slot_of (ring t) m.0.room.freed 0) (m.0.room.out / 4) may.before m.1 may.carries); part = refl; room = refl; parked = refl; rests = refl },
     )

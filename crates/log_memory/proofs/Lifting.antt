@@ -155,7 +155,7 @@ lift t slots id i m f then low idle calm go tells s r homes at small =
           (λ j lt. set_both s.words r.stream i f j wide_s wide_t e (r.words.controls j lt))
           (λ j far. get_or-set_other s.words i j (f (slice_index s.words i)) 0 (λ same. omega arith))
           (still s r id v at i f low calm wide_s)),
-      record { carried = refl; part = refl; room = refl; told = subst (λ (n : ℕ). then (as_view v) n (g.0, [])) (sym e) told },
+      record { carried = refl; part = refl; room = refl; parked = refl; told = subst (λ (n : ℕ). then (as_view v) n (g.0, [])) (sym e) told },
     )
   where
     still : (s : Board) (r : LogMemoryRuled t s) (id : ℕ) (v : LogView) → get_elem? s.views id ≡ some v → (i : ℕ) (f : ℕ → ℕ) → i < 208 → IsCalm v.view i f → i < length s.words → limit_in (slice_index (set s.words i (f (slice_index s.words i))) 0) + greatest_claim (shape t) * 8 < r.freed + 3 * term t

@@ -124,6 +124,7 @@ look t id place r m is low idle slots s k homes at small =
       taken' (ruled_on t id place r m is low s k at i w _ g.3 seat' refl),
       record {
         room = refl;
+        parked = refl;
         told = told';
         none = λ z. absurd (clash n (slice_index s.words h) pos e z);
         found = λ pos'. subst (λ (y : FrameWords). TakesPart t r.number y m (seat', (slot_of (ring t) f.frame.start r.number, home'.access) ∷ m.1)) (found_same v place r w is n (slice_index s.words h) e told' told pos pos') its;
@@ -137,7 +138,7 @@ look t id place r m is low idle slots s k homes at small =
           (leaves t s k id v (record v { view = w }) at refl quiet idle refl refl (set s.words h (slice_index s.words h)) k.stream (ruled_on t id place r m is low s k at i w _ g.3 (record v { view = w }) refl) k.words.small (ap length same)
           (λ j lt. ap (λ (l : List ℕ). slice_index l j) same ∙ k.words.controls j lt) (λ j lt. ap (λ (l : List ℕ). slice_index l j) same)
           (subst (λ (l : List ℕ). limit_in (slice_index l 0) + greatest_claim (shape t) * 8 < k.freed + 3 * term t) (sym same) k.memory.ahead)),
-      record { room = refl; told = told'; none = λ _. (refl, refl); found = λ pos. absurd (clash' n (slice_index s.words h) zero' e pos) },
+      record { room = refl; parked = refl; told = told'; none = λ _. (refl, refl); found = λ pos. absurd (clash' n (slice_index s.words h) zero' e pos) },
     ))
   where
     zero_is : (n : ℕ) → n < 1 → n ≡ 0
@@ -186,6 +187,7 @@ reread t id place r f m may idle slots s k homes at small =
       taken t s k f among from id v at idle r.number may.low w quiet r its refl r its refl near (set s.words h (slice_index s.words h)) same (stepped t s k id v seat' at refl),
       record {
         room = refl;
+        parked = refl;
         rests = (refl, refl, record { sure = refl; leads = λ one. refl }, refl);
         word = k.words.heads f among (omega arith);
         takes = takes_it t s k f among from id v at idle r.number may.low w quiet r its refl r its refl near (set s.words h (slice_index s.words h)) same m.1;
@@ -208,7 +210,7 @@ give t id i r f m may slots s k homes at small =
       gives,
       tt,
       subst (λ (c : List (ℕ × Access)). LogMemoryRuled t (record { words = set s.words i (slice_index s.words i); homes = put_back s.homes c; views = set s.views id (record v { view = record v.view { steps = suc v.view.steps }; part = record v.part { has = 0 } }) })) (sym may.carries) after,
-      record { room = refl; part = refl; rests = refl; carried = ap rest may.carries ∙ sym (ap (drop 1) may.carries ∙ none_dropped may.before) },
+      record { room = refl; parked = refl; part = refl; rests = refl; carried = ap rest may.carries ∙ sym (ap (drop 1) may.carries ∙ none_dropped may.before) },
     )
   where
     none_dropped : (l : List (ℕ × Access)) → drop 0 l ≡ l

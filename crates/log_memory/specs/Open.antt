@@ -42,6 +42,7 @@ pub record StoresOpen (t : Site) (d : Draft) (m m' : Mine) : Type 0 where
   pub holds : HoldsOpen t m'
   pub part : m'.0.part ≡ m.0.part
   pub room : m'.0.room ≡ m.0.room
+  pub parked : m'.0.parked ≡ m.0.parked
   pub steps : m'.0.view.steps ≡ suc m.0.view.steps
   pub learns : LearnsControls [] m.0.view m'.0.view
   pub fills : (front : List FrameWords) (cut : ℕ) (others : List FrameWords) → 0 < cut → m.0.view.pass.work.drafts ≡ front ++ blank d.start cut ∷ others → m'.0.view.pass ≡ with_work (m.0.view.pass.work.frames ++ frame d.start cut (words_of d) ∷ []) (front ++ others) m.0.view.pass
@@ -50,6 +51,7 @@ pub record StoresOpen (t : Site) (d : Draft) (m m' : Mine) : Type 0 where
 pub record AddsOpen (size : ℕ) (m : Mine) (n : ℕ) (m' : Mine) : Type 0 where
   pub part : m'.0.part ≡ m.0.part
   pub room : m'.0.room ≡ m.0.room
+  pub parked : m'.0.parked ≡ m.0.parked
   pub told : playing (λ v k w. Adds v size k w) (λ v k. addition v size k ∷ []) any_step (as_view m.0) n (as_view m'.0)
   pub low : claimed_bytes m'.0.view.pass < 2 ^ 63
   pub apart : AreApart m'.0.view.pass.work.drafts

@@ -44,6 +44,7 @@ pub record Rests (then : words.Mine → ℕ → words.Mine → Type 0) (m : Mine
   pub carried : m'.1 ≡ m.1
   pub part : m'.0.part ≡ m.0.part
   pub room : m'.0.room ≡ m.0.room
+  pub parked : m'.0.parked ≡ m.0.parked
   pub told : then (as_view m.0) n (as_view m'.0)
 
 -- ---- slots that follow one another
@@ -80,6 +81,7 @@ pub record TakesRoom (t : Site) (size n : ℕ) (m m' : Mine) : Type 0 where
 pub record Adds (t : Site) (size : ℕ) (m : Mine) (n : ℕ) (m' : Mine) : Type 0 where
   pub part : m'.0.part ≡ m.0.part
   pub room : m'.0.room ≡ m.0.room
+  pub parked : m'.0.parked ≡ m.0.parked
   pub told : playing (λ v k w. steps.Adds v size k w) (λ v k. addition v size k ∷ []) any_step (as_view m.0) n (as_view m'.0)
   pub takes : TakesRoom t size n m m'
   -- what the pass has claimed by then can be counted, and none of its open frames begins where another does
@@ -108,6 +110,7 @@ pub record Commits (t : Site) (p : ℕ) (ws : List ℕ) (m m' : Mine) : Type 0 w
   pub carried : m'.1 ≡ drop (8 * length ws / 4) m.1
   pub part : m'.0.part ≡ m.0.part
   pub room : m'.0.room ≡ m.0.room
+  pub parked : m'.0.parked ≡ m.0.parked
   pub steps : m'.0.view.steps ≡ suc m.0.view.steps
   pub learns : LearnsControls [] m.0.view m'.0.view
   pub fills : (front : List FrameWords) (cut : ℕ) (behind : List FrameWords) → 0 < cut → m.0.view.pass.work.drafts ≡ front ++ blank p cut ∷ behind → m'.0.view.pass ≡ with_work (m.0.view.pass.work.frames ++ frame p cut ws ∷ []) (front ++ behind) m.0.view.pass
@@ -126,6 +129,7 @@ pub record TakesPart (t : Site) (number : ℕ) (f : FrameWords) (m m' : Mine) : 
 -- a consumer loads the word where it stands: the frame that it finds there it may read from then on
 pub record Looks (t : Site) (place : ℕ) (r : Reading) (m : Mine) (is : IsConsumer m.0.view.pass place r) (n : ℕ) (m' : Mine) : Type 0 where
   pub room : m'.0.room ≡ m.0.room
+  pub parked : m'.0.parked ≡ m.0.parked
   pub told : reading (λ v k w. readings.Looks v place k w) (as_view m.0) n (as_view m'.0)
   pub none : n ≡ 0 → (m'.1 ≡ m.1) × (m'.0.part ≡ m.0.part)
   pub found : (pos : 0 < n) → TakesPart t r.number ((told.3 r is).found pos).frame m m'
@@ -140,6 +144,7 @@ pub record MayReread (place : ℕ) (r : Reading) (f : FrameWords) (v : Pass) : T
 -- it loads that frame's word, and may read it
 pub record Rereads (t : Site) (r : Reading) (f : FrameWords) (m : Mine) (n : ℕ) (m' : Mine) : Type 0 where
   pub room : m'.0.room ≡ m.0.room
+  pub parked : m'.0.parked ≡ m.0.parked
   pub rests : reading (λ v k w. w ≡ v) (as_view m.0) n (as_view m'.0)
   pub word : n ≡ slice_index f.words 0
   pub takes : TakesPart t r.number f m m'
@@ -160,6 +165,7 @@ pub record MayGive (t : Site) (r : Reading) (f : FrameWords) (m : Mine) : Type 0
 -- it goes back
 pub record Gives (m m' : Mine) : Type 0 where
   pub room : m'.0.room ≡ m.0.room
+  pub parked : m'.0.parked ≡ m.0.parked
   pub part : m'.0.part ≡ record m.0.part { has = 0 }
   pub rests : m'.0.view ≡ record m.0.view { steps = suc m.0.view.steps }
   pub carried : m'.1 ≡ drop 1 m.1
@@ -183,6 +189,7 @@ pub record TakesBack (t : Site) (m : Mine) (n : ℕ) (m' : Mine) : Type 0 where
   pub carries : CarriesRange t (IsPartAt t (slot_of (ring t) frame.start 0) frame.words round book) frame.start (8 * length frame.words) m.1 m'.1
   pub part : m'.0.part ≡ m.0.part
   pub room : m'.0.room ≡ record { freed = m.0.room.freed; out = 8 * length frame.words }
+  pub parked : m'.0.parked ≡ m.0.parked
   pub rests : m'.0.view ≡ record m.0.view { steps = suc m.0.view.steps }
 
 -- the slots of what is out are carried, each unit's with the right to write it, which is zeros
@@ -196,6 +203,7 @@ pub record GivesRoom (m m' : Mine) : Type 0 where
   pub carried : m'.1 ≡ drop (m.0.room.out / 4) m.1
   pub part : m'.0.part ≡ m.0.part
   pub room : m'.0.room ≡ record { freed = m.0.room.freed + m.0.room.out; out = 0 }
+  pub parked : m'.0.parked ≡ m.0.parked
   pub rests : m'.0.view ≡ record m.0.view { steps = suc m.0.view.steps }
 
 -- ---- the keeper knows how far all is zero
@@ -212,6 +220,7 @@ pub record CleansTo (end : ℕ) (m m' : Mine) : Type 0 where
   pub carried : m'.1 ≡ m.1
   pub part : m'.0.part ≡ m.0.part
   pub room : m'.0.room ≡ m.0.room
+  pub parked : m'.0.parked ≡ m.0.parked
   pub steps : m'.0.view.steps ≡ suc m.0.view.steps
   pub learns : LearnsControls [] m.0.view m'.0.view
   pub pass : m'.0.view.pass ≡ with_keeping m.0.view.pass (record m.0.view.pass.keeping { cleaned = end })

@@ -153,7 +153,8 @@ pub fn free_to(
     requires low { end ≤ 2 ^ 56 }
     ensures home { result.0.value.identity ≡ home.value.identity }
     ensures seat { (seat.new.table_id ≡ seat.old.table_id) × (seat.new.id ≡ seat.old.id) }
-    ensures frees { FreesTo end result.1 seat.old.me seat.new.me }
+    ensures frees { FreesTo memory.now.table.shared.key.key.identity end result.1 seat.old.me
+        seat.new.me }
 {
     let _ = &memory.table;
     let mut home = home;
