@@ -19,7 +19,7 @@ use Rattle.log_rule.specs.Claims.Packs.{consumer_place, slot}
 use Rattle.log_rule.specs.Edges.{IsAmong, IsPlaced}
 use Rattle.log_rule.specs.Kept.{IsReader, IsThere}
 use Rattle.log_rule.specs.Readings as readings
-use Rattle.log_rule.specs.Readings.{Consumes, Has, IsConsumer, MayPass, end_of, knows_more, missed, moved_to, reading, with_consumer}
+use Rattle.log_rule.specs.Readings.{Consumes, Has, IsConsumer, IsFrameAt, MayPass, end_of, knows_more, missed, moved_to, reading, with_consumer}
 use Rattle.log_rule.specs.Table.{LogRuled}
 use Rattle.log_rule.proofs.Consumers as consumers
 use Rattle.log_rule.proofs.Known.{among_at, finds, word_there}
@@ -29,13 +29,15 @@ use Rattle.log_memory.specs.Places.{head_place, slot_of}
 use Rattle.log_memory.specs.Rule.{Board, LogMemoryRuled, passes_of, ring, shape, stream_state, tail_in, term, view_in}
 use Rattle.log_memory.specs.Steps.{Gives, IsIdle, IsQuiet, Looks, MayGive, MayReread, Mine, Rereads, Rests, TakesPart, as_view}
 use Rattle.log_memory.proofs.Committing.{quiet_step, stepped}
-use Rattle.log_memory.proofs.Facts.{bounds, done, long, mine, pass_at, tail_near}
+use Rattle.log_memory.proofs.Facts.{bounds, done, long, mine, one, pass_at, tail_near, unit}
 use Rattle.log_memory.proofs.Lifting.{leaves, lift, no_act, quiet_look, there_low}
 use Rattle.log_memory.proofs.Reading.{given, home, seat, taken, takes_it}
 use Rattle.log_memory.proofs.Resting.{rests, same_frames}
 use Rattle.log_rule.proofs.Edges.{edge_low}
 use Rattle.theory.specs.Position.{greatest_claim}
 use Rattle.theory.specs.Refusal.{limit_in}
+use Rattle.log_rule.proofs.InTerm.{frame_at}
+use Rattle.theory.specs.Bytes.{Identity}
 
 among_put : {A : Type 0} (xs : List A) (i : ℕ) (x y : A) → Among y (set xs i x) → (y ≡ x) ⊎ Among y xs
 among_put [] i x y a = inr a
@@ -190,6 +192,8 @@ reread t id place r f m may idle slots s k homes at small =
         parked = refl;
         rests = (refl, refl, record { sure = refl; leads = λ one. refl }, refl);
         word = k.words.heads f among (omega arith);
+        here = subst (λ (x : Identity). IsFrameAt x f.start f) (sym shape) (frame_at (bounds t k.stream s.views k.ruled) k.stream (passes_of s.views) k.ruled.ruled f.start (unit t k.stream s.views k.ruled f among) f among refl);
+        only = λ g has at_g. one t k.stream s.views k.ruled g f (consumers.had t.key 0 id (as_view v) place r may.is (stream_state k.stream s.views) k.ruled (at_map view_in s.views id v at) g has) among at_g;
         takes = takes_it t s k f among from id v at idle r.number may.low w quiet r its refl r its refl near (set s.words h (slice_index s.words h)) same m.1;
       },
     )

@@ -147,6 +147,9 @@ pub record Rereads (t : Site) (r : Reading) (f : FrameWords) (m : Mine) (n : ℕ
   pub parked : m'.0.parked ≡ m.0.parked
   pub rests : reading (λ v k w. w ≡ v) (as_view m.0) n (as_view m'.0)
   pub word : n ≡ slice_index f.words 0
+  -- it is a frame of the stream, and the only one that the consumer has there
+  pub here : readings.IsFrameAt m.0.view.pass.identity f.start f
+  pub only : (g : FrameWords) → readings.Has m.0.view.pass r g → g.start ≡ f.start → g ≡ f
   pub takes : TakesPart t r.number f m m'
 
 -- the part of a frame that one of its consumers has, over what else is carried

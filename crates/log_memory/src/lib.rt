@@ -68,7 +68,7 @@ pub use publisher::{
 };
 pub use reader::{consume, give, look, reread};
 pub use rights::{LogSeat, LogTable, Rowed, collect_parts, deal_parts, deal_room, gather};
-pub use room_moves::{fetch, park};
+pub use room_moves::{fetch, park, take_over};
 pub use rule::LogMemoryRule;
 pub use seat_moves::{
     deal_keeper, deal_knowledge, deal_news, deal_publisher, deal_reader, hand_over, lift, lower,

@@ -1,0 +1,4 @@
+pub mod Handles
+pub mod Leading
+pub mod Rests
+pub mod Drafts

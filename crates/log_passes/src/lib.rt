@@ -1,0 +1,9 @@
+//! A log whose frames lie in plain memory, and its passes: what each step tells of its pass, where nothing is said of memory.
+#![tactic(auto)]
+
+mod log;
+mod pass;
+mod publisher;
+
+pub use log::Log;
+pub use pass::LogPass;
