@@ -1,2 +1,5 @@
 mod Resting
 mod Works
+mod Picked
+mod Heads
+mod Read

@@ -5,13 +5,12 @@ use Rattle.theory.specs.Placed.{Among}
 use Rattle.publication.specs.declared.pass.FrameWords.{FrameWords}
 use Rattle.region.specs.Identity as regions
 use Rattle.region.specs.declared.access.Access.{Access}
-use Rattle.log_memory.specs.declared.view.Part.{Part}
 use Rattle.log_memory.specs.declared.view.Room.{Room}
 use Rattle.log_memory.specs.declared.view.Site.{Site}
-use Rattle.log_memory.specs.Open.{AreApart, HoldsOpen, HoldsRooms}
+use Rattle.log_memory.specs.Open.{HoldsOpen, HoldsRooms}
 use Rattle.log_memory.specs.Places.{slot_of, units}
 use Rattle.log_memory.specs.Rule.{ring}
-use Rattle.log_memory.specs.Steps.{Carries, IsIdle, IsRoomAt, Mine}
+use Rattle.log_memory.specs.Steps.{AreApart, Carries, IsIdle, IsRoomAt, Mine}
 use Rattle.log_passes.specs.Rests.{IsResting, site_of}
 
 room_as : (t u : Site) → t.region.identity ≡ u.region.identity → (k : ℕ) (g : Access) → IsRoomAt t k g → IsRoomAt u k g
@@ -50,11 +49,11 @@ apart_less [] f others a = a.1
 apart_less (h ∷ front) f others a = (λ g among. a.0 g (among_less g f front others among), apart_less front f others a.1)
 
 -- where a step moved no memory, and left the open frames as they were
-pub rests_on : (region : regions.Identity) (m n : Mine) → IsResting region m → n.1 ≡ m.1 → n.0.part ≡ m.0.part → n.0.room ≡ m.0.room → n.0.view.pass.work.drafts ≡ m.0.view.pass.work.drafts → n.0.view.pass.identity ≡ m.0.view.pass.identity → IsResting region n
-rests_on region m n r carried part room drafts identity =
+pub rests_on : (region : regions.Identity) (m n : Mine) → IsResting region m → IsIdle n.0 → n.1 ≡ m.1 → n.0.room ≡ m.0.room → n.0.view.pass.work.drafts ≡ m.0.view.pass.work.drafts → n.0.view.pass.identity ≡ m.0.view.pass.identity → IsResting region n
+rests_on region m n r idle carried room drafts identity =
     let t = site_of region m.0.view.pass in let u = site_of region n.0.view.pass in let v = m.0.view.pass.work.drafts in
     let holds : HoldsRooms u v [] m.1 = rooms_as t u (same_ring t u (sym identity)) refl v [] m.1 r.holds in record {
-      idle = ap (λ (x : Part). x.has) part ∙ r.idle;
+      idle = idle;
       none_out = ap (λ (x : Room). x.out) room ∙ r.none_out;
       holds = subst (λ (x : List FrameWords × List (ℕ × Access)). HoldsRooms u x.0 [] x.1) (λ j. (sym drafts j, sym carried j)) holds;
       apart = subst AreApart (sym drafts) r.apart;

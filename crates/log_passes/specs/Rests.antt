@@ -5,8 +5,8 @@ use Rattle.atomic_table.specs.Seated.{TableId}
 use Rattle.region.specs.Identity as regions
 use Rattle.publication.specs.declared.pass.Pass.{Pass}
 use Rattle.log_memory.specs.declared.view.Site.{Site}
-use Rattle.log_memory.specs.Open.{AreApart, HoldsOpen}
-use Rattle.log_memory.specs.Steps.{IsIdle, Mine}
+use Rattle.log_memory.specs.Open.{HoldsOpen}
+use Rattle.log_memory.specs.Steps.{AreApart, IsIdle, Mine}
 use Rattle.log_passes.specs.Handles.{PublisherValue}
 
 -- where frames of the pass's stream lie, in this region

@@ -4,6 +4,8 @@
 mod log;
 mod pass;
 mod publisher;
+mod reader;
 
 pub use log::Log;
 pub use pass::LogPass;
+pub use reader::Consumer;

@@ -4,6 +4,7 @@ use Rattle.publication.specs.Steps.{tail_exchange}
 use Rattle.log_rule.specs.Claims.Admits.{Same}
 use Rattle.log_rule.specs.declared.claims.view.View.{View}
 use Rattle.log_memory.specs.Steps.{Mine}
+use Rattle.log_memory.specs.declared.view.Part.{Part}
 use Rattle.log_passes.specs.Handles.{PublisherValue}
 use Rattle.log_passes.proofs.Resting.{rests_on}
 use Rattle.log_passes.proofs.Works.{rotates_drafts}
@@ -12,7 +13,7 @@ use Rattle.log_passes.proofs.log.Log.rotate.Goals as goal
 pub invariant_of-pass : goal.invariant_of-pass
 invariant_of-pass c =
     let m : Mine = c.pass.inside.seat.me in let n : Mine = c.exchange_next.new.seat.me in let t = c.exchange_next.ensures.told in
-    rests_on c.pass.inside.key.identity m n c.pass.invariant t.carried t.part t.room (rotates_drafts m.0.view.pass c.args.count c.args.from c.exchange_next.result n.0.view.pass t.told.4) t.told.2.identity
+    rests_on c.pass.inside.key.identity m n c.pass.invariant (ap (λ (x : Part). x.has) t.part ∙ c.pass.invariant.idle.0, t.parked ∙ c.pass.invariant.idle.1) t.carried t.room (rotates_drafts m.0.view.pass c.args.count c.args.from c.exchange_next.result n.0.view.pass t.told.4) t.told.2.identity
 
 pub returns-clause-stepped : goal.returns-clause-stepped
 returns-clause-stepped c =
