@@ -3,3 +3,5 @@ mod Works
 mod Picked
 mod Heads
 mod Read
+mod Cleaned
+mod Together

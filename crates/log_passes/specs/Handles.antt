@@ -9,6 +9,8 @@ use Rattle.publication.specs.declared.step.WordStep.{WordStep}
 use Rattle.publication.specs.Controls.{Leads}
 use Rattle.region.specs.Identity as regions
 use Rattle.log_rule.specs.Claims.Admits.{Same}
+use Rattle.log_rule.specs.Claims.Sure.{fresh_controls}
+use Rattle.log_rule.specs.Table.{whole_pass}
 use Rattle.log_memory.specs.declared.view.Site.{Site}
 
 -- which log: its table, and the region where its frames lie
@@ -69,3 +71,18 @@ pub record Took (p : PublisherValue) (noted : List WordStep) (stored : ℕ) (q :
 
 abbrev pub parts_in : PublisherValue → ℕ
 parts_in p = p.pass.right.parts
+
+-- a log of this stream
+pub record IsLogOf (identity : Identity) (start consumers : ℕ) (l : LogValue) : Type 0 where
+  pub identity_is : l.identity ≡ identity
+  pub start_is : l.start ≡ start
+  pub consumers_is : l.consumers ≡ consumers
+
+-- the one pass of a log that was just opened: it has all, and is sure of the control words
+pub record IsWholeNew (l : LogValue) (p : PublisherValue) : Type 0 where
+  pub of : IsOf l p
+  pub pass : p.pass ≡ whole_pass record { identity = l.identity; start = l.start; consumers = l.consumers }
+  pub steps : p.steps ≡ 0
+  pub sure : p.sure ≡ 1
+  pub controls : p.controls ≡ record (fresh_controls l.identity l.start) { limit = l.start }
+  pub freed : p.freed ≡ l.start

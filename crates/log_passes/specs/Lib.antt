@@ -3,3 +3,6 @@ pub mod Leading
 pub mod Rests
 pub mod Drafts
 pub mod Readers
+pub mod Keepers
+pub mod Seats
+pub mod Meets
