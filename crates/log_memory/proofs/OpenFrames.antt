@@ -13,7 +13,6 @@ use Rattle.publication.specs.declared.pass.FrameWords.{FrameWords}
 use Rattle.publication.specs.declared.pass.Pass.{Pass}
 use Rattle.publication.specs.Steps.{Extent, extent_of, extents}
 use Rattle.log_rule.specs.Claims.Memory.{Ruled, tail_of}
-use Rattle.log_rule.specs.Claims.Events.{committed_weight}
 use Rattle.log_rule.specs.Claims.Rule.{Bounds, IsClaimEntry, entries_of, size_of, weight}
 use Rattle.log_rule.specs.Claims.Sums.{covers, total}
 use Rattle.log_rule.specs.Edges.{AreCommitted, IsAmong, begins_below, claimed_sum, committed_sum, in_entry, open_sum, open_weight}

@@ -3,7 +3,7 @@ use Rattle.std.proofs.Common.{◌≡◌, ◌≢◌, ℕ, suc, ◌+◌, ◌*◌, 
 use Rattle.std.proofs.lemmas.List.{set-get_or}
 use mathlib.Core.Option.{Option, some}
 use mathlib.Core.Logic.{dite}
-use native.Mathlib.Decide.{dec_le, dec_lt, ℕ_discrete}
+use native.Mathlib.Decide.{dec_le, ℕ_discrete}
 use lib.ListN.{get_elem?}
 use Rattle.std.specs.Prelude.{slice_index}
 use Rattle.atomic_table.specs.Table.{Act, Allows, Valid, carried_after, chain, homes_after, keeps}
@@ -20,16 +20,16 @@ use Rattle.log_memory.specs.declared.view.Site.{Site}
 use Rattle.log_memory.specs.Open.{HoldsOpen, HoldsRooms}
 use Rattle.log_memory.specs.Parking.{Fetches, Parks}
 use Rattle.log_memory.specs.Places.{slot_of}
-use Rattle.log_memory.specs.Rule.{Board, IsFree, IsHome, IsParked, IsRoom, LogMemoryRuled, passes_of, ring, shape, tail_in, term}
+use Rattle.log_memory.specs.Rule.{Board, IsHome, IsParked, IsRoom, LogMemoryRuled, passes_of, ring, shape, tail_in, term}
 use Rattle.log_memory.specs.Steps.{AreApart, IsIdle, IsQuiet, IsRoomAt, Mine}
 use Rattle.log_memory.proofs.Committing.{quiet_step, stepped}
 use Rattle.log_memory.proofs.Facts.{bounds, end_low, long, pass_at, some_ring, tail_near, unit, width}
 use Rattle.log_memory.proofs.Freeing.{reader_on}
-use Rattle.log_memory.proofs.Lifting.{all_readers, all_rooms, quiet_look, with_reader_on}
+use Rattle.log_memory.proofs.Lifting.{all_readers, all_rooms, quiet_look}
 use Rattle.log_memory.proofs.OpenFrames.{apart, open_beside, open_else, open_from, open_long, open_own, open_row, open_to, open_unit, open_whole, sides}
 use Rattle.log_memory.proofs.Places.{in_range, place_is, row_apart, row_unit}
-use Rattle.log_memory.proofs.Resting.{moves, none_parked, parked_on, parked_set}
-use Rattle.log_memory.proofs.Rows.{Full, GivesRow, Outside, TakesRow, gives_row, takes_row}
+use Rattle.log_memory.proofs.Resting.{moves, parked_on, parked_set}
+use Rattle.log_memory.proofs.Rows.{Outside, gives_row, takes_row}
 
 -- how many slots the memory of a frame has, and which are none of them
 abbrev slots_of : FrameWords → ℕ

@@ -1,6 +1,5 @@
 -- The room of a pass's open frames, in the row of slots that its seat carries: one after the other, in the order of the frames.
-use Rattle.std.specs.Prelude.{◌≡◌, ◌≢◌, ◌==◌, if◌then◌else◌, ℕ, ◌+◌, ◌*◌, ◌/◌, ◌^◌, ◌<◌, List, [], ◌∷◌, ◌++◌, length, suc}
-use Rattle.theory.specs.Placed.{Among}
+use Rattle.std.specs.Prelude.{◌≡◌, ◌==◌, if◌then◌else◌, ℕ, ◌+◌, ◌*◌, ◌/◌, ◌^◌, ◌<◌, List, [], ◌∷◌, ◌++◌, length, suc}
 use Rattle.theory.specs.Position.{aligned}
 use Rattle.publication.specs.declared.pass.FrameWords.{FrameWords}
 use Rattle.publication.specs.Steps.{Adds, addition, blank, frame, with_work}

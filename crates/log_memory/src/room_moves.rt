@@ -67,7 +67,8 @@ fn take_over_as<N: Chosen>(table: &LogTable, seat: &mut LogSeat, other: LogSeat)
     pass_chosen::<Access, LogView, N>(seat);
 }
 
-/// What another seat has goes to a seat, whose publisher owns what the other's claimed: its open frames with their room, too.
+/// What another seat has goes to a seat, whose publisher owns what the other's claimed: its open
+/// frames with their room, too.
 pub fn take_over(table: &LogTable, seat: &mut LogSeat, other: LogSeat)
     requires seat { IsSeatOf table.now.key table.now.table_id seat.old.table_id }
     requires other { other.table_id ≡ seat.old.table_id }

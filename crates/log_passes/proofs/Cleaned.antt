@@ -1,9 +1,7 @@
 -- The keeper cleans, while the room of its open frames is at home.
-use Rattle.std.proofs.Common.{◌≡◌, ℕ, suc, ◌+◌, ◌-◌, ◌*◌, ◌<◌, ◌≤◌, max, List, [], length, sym, refl, ap, ◌∙◌, subst, arith}
-use Rattle.theory.specs.Bytes.{Identity}
+use Rattle.std.proofs.Common.{◌≡◌, ℕ, suc, ◌+◌, ◌-◌, ◌*◌, ◌≤◌, max, List, [], length, sym, ap, ◌∙◌, subst, arith}
 use Rattle.region.specs.Identity as regions
 use Rattle.publication.specs.declared.pass.FrameWords.{FrameWords}
-use Rattle.publication.specs.declared.pass.Keeping.{Keeping}
 use Rattle.publication.specs.declared.pass.Pass.{Pass}
 use Rattle.publication.specs.Steps.{term_of}
 use Rattle.region.specs.declared.access.Access.{Access}

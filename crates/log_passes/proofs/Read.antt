@@ -1,5 +1,5 @@
 -- A reader's part of a frame: taken, copied and given back.
-use Rattle.std.proofs.Common.{◌≡◌, ℕ, zero, suc, ◌+◌, ◌*◌, ◌<◌, ◌≤◌, inl, inr, ⊎_elim, List, [], ◌∷◌, ◌++◌, drop, length, take, set, sym, refl, ap, ◌∙◌, subst, arith}
+use Rattle.std.proofs.Common.{◌≡◌, ℕ, zero, suc, ◌+◌, ◌*◌, ◌<◌, ◌≤◌, inl, ⊎_elim, List, [], ◌∷◌, ◌++◌, drop, length, take, sym, ap, ◌∙◌, subst, arith}
 use Rattle.std.proofs.lemmas.List.{length-take-le}
 use mathlib.Core.Option.{some, some-injective, some-ne-none}
 use lib.ListN.{get_elem?}
@@ -12,27 +12,25 @@ use Rattle.theory.specs.Bytes.{Identity}
 use Rattle.theory.proofs.Lists.{among_cases}
 use Rattle.region.specs.Identity as regions
 use Rattle.region.specs.declared.access.Access.{Access}
-use Rattle.frame_words.specs.Contents.{bytes_in, head_by}
+use Rattle.frame_words.specs.Contents.{head_by}
 use Rattle.publication.specs.declared.pass.FrameWords.{FrameWords}
 use Rattle.publication.specs.declared.pass.Pass.{Pass}
 use Rattle.publication.specs.declared.pass.Reading.{Reading}
 use Rattle.log_rule.specs.Claims.Memory.{IsCommittedFrame}
 use Rattle.log_rule.specs.declared.claims.view.View.{View}
 use Rattle.log_rule.specs.Readings.{FindsFrame, Has, IsConsumer, IsFrameAt, knows_more, with_consumer}
-use Rattle.log_memory.specs.declared.view.LogView.{LogView}
 use Rattle.log_memory.specs.declared.view.Part.{Part}
-use Rattle.log_memory.specs.declared.view.Room.{Room}
 use Rattle.log_memory.specs.declared.view.Site.{Site}
 use Rattle.log_memory.specs.Found.{HasFound, PartsAreFound}
 use Rattle.log_memory.specs.Frames.{CopiesPart, HasPart, HasPartAt, MayGiveBack}
 use Rattle.log_memory.specs.Kinds.{LooksHere}
 use Rattle.log_memory.specs.Places.{slot_of}
 use Rattle.log_memory.specs.Rule.{ring}
-use Rattle.log_memory.specs.Steps.{Gives, IsIdle, MayReread, Mine, Rereads}
+use Rattle.log_memory.specs.Steps.{Gives, Mine, Rereads}
 use Rattle.log_passes.specs.declared.reader.Consumer.{Consumer}
 use Rattle.log_passes.specs.Readers.{Copies, IsAt, IsRead, MayRereadAt, frame_from, had_at, part_bytes, reading_at}
 use Rattle.log_passes.specs.Rests.{IsResting}
-use Rattle.log_passes.proofs.Heads.{behind_first, behind_header, part_inside, part_low}
+use Rattle.log_passes.proofs.Heads.{behind_first, behind_header, part_inside}
 use Rattle.log_passes.proofs.Picked.{picked_frame, picked_reading, picked_reread, reading_is}
 use Rattle.log_passes.proofs.Resting.{rests_on}
 

@@ -1,5 +1,5 @@
 -- What a step of a consumer asks, and what it leaves.
-use Rattle.std.specs.Prelude.{◌≡◌, ℕ, zero, suc, ◌+◌, ◌-◌, ◌*◌, ◌<◌, ◌≤◌, ◌==◌, nat_le, List, [], ◌∷◌, ◌++◌, drop, length, slice_index, take, if◌then◌else◌}
+use Rattle.std.specs.Prelude.{◌≡◌, ℕ, zero, suc, ◌+◌, ◌-◌, ◌<◌, ◌≤◌, ◌==◌, nat_le, List, [], ◌∷◌, ◌++◌, drop, slice_index, take, if◌then◌else◌}
 use Rattle.theory.specs.Placed.{Among}
 use Rattle.frame_words.specs.Contents.{bytes_in}
 use Rattle.position.specs.declared.head.FrameHead.{FrameHead}

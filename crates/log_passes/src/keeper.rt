@@ -50,8 +50,8 @@ fn end_as<N: Seated>(memory: &LogMemory, seat: &mut LogSeat, number: u64, place:
 }
 
 impl Log {
-    /// The keeper loads the position of a consumer that is there. It learns the limit word's flags and its limit, if it is sure of the
-    /// control words.
+    /// The keeper loads the position of a consumer that is there. It learns the limit word's flags
+    /// and its limit, if it is sure of the control words.
     pub fn see_consumer(&self, pass: &mut LogPass, number: u64) -> u64
         requires fits { IsOf self.now pass.old }
         requires keeper { pass.old.pass.keeping.right ≡ 1 }
@@ -66,10 +66,10 @@ impl Log {
         see(&self.memory.table.shared, &mut pass.seat, number)
     }
 
-    /// The keeper makes the memory of all frames zero and room that begin below a position, which is a term or more below each
-    /// consumer that is there: two steps for each frame. By three steps more its own open frames' room goes home and comes back, and
-    /// it knows that all is zero up to there. The answer is where
-    /// the last of them ends.
+    /// The keeper makes the memory of all frames zero and room that begin below a position, which
+    /// is a term or more below each consumer that is there: two steps for each frame. By three
+    /// steps more its own open frames' room goes home and comes back, and it knows that all is zero
+    /// up to there. The answer is where the last of them ends.
     pub fn clean(
         &self,
         pass: &mut LogPass,
@@ -104,8 +104,8 @@ impl Log {
         raise(&self.memory.table.shared, &mut pass.seat, word);
     }
 
-    /// The keeper stores where a consumer begins whose number nobody has: its own pass is that consumer then, at a place among those
-    /// that it is.
+    /// The keeper stores where a consumer begins whose number nobody has: its own pass is that
+    /// consumer then, at a place among those that it is.
     pub fn begin_consumer(&self, pass: &mut LogPass, number: u64, place: u64, position: u64)
         requires fits { IsOf self.now pass.old }
         requires may { MayJoin pass.old.pass number position }

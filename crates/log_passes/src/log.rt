@@ -6,7 +6,8 @@ use log_memory::LogMemory;
 use position::Identity;
 use std::marker::Model;
 
-/// A log that threads share without a lock: its control words stand in a table, its frames lie in a region.
+/// A log that threads share without a lock: its control words stand in a table, its frames lie in a
+/// region.
 #[derive(Drop)]
 pub struct Log {
     pub(crate) memory: LogMemory,
@@ -21,7 +22,10 @@ impl Model for Log {
     ghost Value = { LogValue };
 
     ghost view = { λ l. record {
-      table = record { table = l.memory.table.shared.table_id; region = l.memory.table.shared.key.region.identity };
+      table = record {
+        table = l.memory.table.shared.table_id;
+        region = l.memory.table.shared.key.region.identity;
+      };
       identity = l.identity;
       start = l.start;
       consumers = l.consumers;

@@ -22,7 +22,8 @@ fn shown(memory: &LogMemory, geometry: &Geometry, seat: &mut LogSeat, partition:
         seat.old.table_id }
     requires idle { IsIdle seat.old.me.0 }
     requires shape { geometry_of seat.old.me.0.view.pass ≡ geometry.now }
-    ensures stays { SeatStays seat.old.table_id seat.old.id seat.old.me seat.new.table_id seat.new.id
+    ensures stays { SeatStays seat.old.table_id seat.old.id seat.old.me seat.new.table_id
+        seat.new.id
         seat.new.me result }
     ensures once { seat.new.me.0.view.steps ≡ seat.old.me.0.view.steps + 1 }
     ensures told { Shows seat.old.me.0.view.pass (partition % 3) seat.old.me.0.view.controls
@@ -38,7 +39,8 @@ fn greatest_shown(memory: &LogMemory, geometry: &Geometry, seat: &mut LogSeat) -
         seat.old.table_id }
     requires idle { IsIdle seat.old.me.0 }
     requires shape { geometry_of seat.old.me.0.view.pass ≡ geometry.now }
-    ensures stays { SeatStays seat.old.table_id seat.old.id seat.old.me seat.new.table_id seat.new.id
+    ensures stays { SeatStays seat.old.table_id seat.old.id seat.old.me seat.new.table_id
+        seat.new.id
         seat.new.me result }
     ensures steps { seat.new.me.0.view.steps ≡ seat.old.me.0.view.steps + 3 }
     ensures told { SeesTails seat.old.me.0.view.pass seat.old.me.0.view.controls
@@ -70,9 +72,10 @@ fn meet_as<N: Met>(log: &Log, one: &mut LogPass, other: &mut LogPass) -> u64
 }
 
 impl Log {
-    /// Two passes meet: what they have claimed is apart. The answer is the greatest position that the three raw tails show, each
-    /// loaded in this call; none that either has claimed or was shown before lies above it. Both remember it, so that no later answer
-    /// to one of them is smaller (`meets_never_fall`). What they have open stays with each.
+    /// Two passes meet: what they have claimed is apart. The answer is the greatest position that
+    /// the three raw tails show, each loaded in this call; none that either has claimed or was
+    /// shown before lies above it. Both remember it, so that no later answer to one of them is
+    /// smaller (`meets_never_fall`). What they have open stays with each.
     pub fn meet(&self, one: &mut LogPass, other: &mut LogPass) -> u64
         requires one { IsOf self.now one.old }
         requires other { IsOf self.now other.old }
@@ -83,7 +86,8 @@ impl Log {
     }
 }
 
-/// A law: where a pass meets twice, the second answer is no smaller than the first, whatever it did between.
+/// A law: where a pass meets twice, the second answer is no smaller than the first, whatever it did
+/// between.
 pub fn meets_never_fall()
     ensures { NeverFalls }
 {}

@@ -42,7 +42,8 @@ impl Log {
         load_count(&self.memory.table.shared, &mut pass.seat) as u32
     }
 
-    /// Loads the tail of the count that was loaded. The pass has a publisher's parts, and its number is one of its own.
+    /// Loads the tail of the count that was loaded. The pass has a publisher's parts, and its
+    /// number is one of its own.
     #[inline(always)]
     pub fn arm(&self, pass: &mut LogPass, count: u32) -> u64
         requires fits { IsOf self.now pass.old }
@@ -56,8 +57,8 @@ impl Log {
         load_tail(&self.memory.table.shared, &mut pass.seat, count)
     }
 
-    /// Adds what a message of `size` bytes covers to the tail for which the pass is armed. The answers are the word that was
-    /// there, and how many bytes it took.
+    /// Adds what a message of `size` bytes covers to the tail for which the pass is armed. The
+    /// answers are the word that was there, and how many bytes it took.
     #[inline(always)]
     pub fn add(&self, pass: &mut LogPass, count: u32, size: u32) -> (u64, u32)
         requires fits { IsOf self.now pass.old }
@@ -96,7 +97,8 @@ impl Log {
         requires full { pass.old.pass.seen.full ≡ suc count }
         requires last { count < 2 ^ 31 - 1 }
         requires from { id_in from ≡ id_before self.now.identity.geometry count 2 }
-        ensures stepped { Stepped (tail_exchange pass.old.pass count from result ∷ []) pass.old pass.new }
+        ensures stepped { Stepped (tail_exchange pass.old.pass count from result ∷ []) pass.old
+            pass.new }
         ensures told { Rotates pass.old.pass count from result pass.new.pass }
     {
         let id = self.identity.geometry().id_of(count + 1);
@@ -117,7 +119,8 @@ impl Log {
         exchange_count(&self.memory.table.shared, &mut pass.seat, count) as u32
     }
 
-    /// Commits one of the pass's open frames: its bytes are written plainly, then its first word is stored, by one step.
+    /// Commits one of the pass's open frames: its bytes are written plainly, then its first word is
+    /// stored, by one step.
     #[inline(always)]
     pub fn commit(&self, pass: &mut LogPass, home: Arc<Region>, draft: &Draft<'_>) -> Arc<Region>
         requires fits { IsOf self.now pass.old }

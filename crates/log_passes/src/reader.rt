@@ -30,8 +30,8 @@ pub struct Consumer {
     pub position: u64,
 }
 
-/// How many bytes of a frame's payload are copied where there is so much room: all, or none where they are more. A padding has
-/// none.
+/// How many bytes of a frame's payload are copied where there is so much room: all, or none where
+/// they are more. A padding has none.
 #[inline(always)]
 fn part_in(word: u64, start: u64, room: usize) -> usize
     ensures { result ≡ part_bytes (head_by start (to_le_bytes w64 word)) room }
@@ -62,7 +62,8 @@ fn look_as<N: Picked>(memory: &LogMemory, seat: &mut LogSeat, consumer: &Consume
     look::<N>(table, seat, memory.head(consumer.position))
 }
 
-/// Loads the word where the consumer stands. Its part of the frame that begins there, if there is one, is its seat's then.
+/// Loads the word where the consumer stands. Its part of the frame that begins there, if there is
+/// one, is its seat's then.
 #[inline(always)]
 fn look_at(memory: &LogMemory, seat: &mut LogSeat, consumer: &Consumer) -> u64
     requires seat { IsSeatOf memory.now.table.shared.key memory.now.table.shared.table_id
@@ -130,8 +131,8 @@ fn consume_as<N: Chosen>(memory: &LogMemory, seat: &mut LogSeat, consumer: &Cons
 }
 
 impl Log {
-    /// Loads the word where a consumer stands, which knows the frame that begins there from then on. Its payload is copied to the
-    /// front of the bytes, where it fits.
+    /// Loads the word where a consumer stands, which knows the frame that begins there from then
+    /// on. Its payload is copied to the front of the bytes, where it fits.
     #[inline(always)]
     pub fn look(&self, pass: &mut LogPass, consumer: &Consumer, bytes: &mut [u8]) -> u64
         requires fits { IsOf self.now pass.old }
@@ -161,8 +162,8 @@ impl Log {
         word
     }
 
-    /// Loads the word of a frame that a consumer has, a term below it at the most. Its payload is copied to the front of the bytes,
-    /// where it fits.
+    /// Loads the word of a frame that a consumer has, a term below it at the most. Its payload is
+    /// copied to the front of the bytes, where it fits.
     #[inline(always)]
     pub fn reread(
         &self,

@@ -24,14 +24,15 @@ use std::alloc::{AllocError, Global};
 use std::sync::Arc;
 
 impl Log {
-    /// A log that opens at a position, unconnected, with its limit and its consumers there; its one pass, which has all; and what
-    /// shows that its region is there.
+    /// A log that opens at a position, unconnected, with its limit and its consumers there; its one
+    /// pass, which has all; and what shows that its region is there.
     pub fn open(alloc: Global, key: &Key) -> Result<(Log, LogPass, Arc<Region>), AllocError>
         requires geometry { IsGeometry key.now.identity.geometry }
         requires unit { key.now.start % 32 ≡ 0 }
         requires below { key.now.start < max_position key.now.identity.geometry }
         requires count { IsConsumerCount key.now.consumers }
-        ensures log { IfOk result (λ r. IsLogOf key.now.identity key.now.start key.now.consumers r.0) }
+        ensures log { IfOk result (λ r. IsLogOf key.now.identity key.now.start key.now.consumers
+            r.0) }
         ensures pass { IfOk result (λ r. IsWholeNew r.0 r.1) }
         ensures home { IfOk result (λ r. r.2.value.identity ≡ r.0.table.region) }
     {
@@ -80,8 +81,14 @@ impl Log {
     /// The first consumer goes to a pass of its own.
     pub fn deal_reader(&self, pass: &mut LogPass) -> LogPass
         requires fits { IsOf self.now pass.old }
-        ensures left { pass.new ≡ record pass.old { pass = record pass.old.pass { reading = other_readings pass.old.pass.reading } } }
-        ensures dealt { result ≡ new_pass (record (newcomer pass.old.pass.identity pass.old.pass.start
+        ensures left { pass.new ≡ record pass.old {
+          pass = record pass.old.pass {
+            reading =
+                other_readings pass.old.pass.reading;
+          };
+        } }
+        ensures dealt { result ≡ new_pass (record (newcomer pass.old.pass.identity
+            pass.old.pass.start
             0 0) { reading = first_reading pass.old.pass.reading }) result.seat pass.old }
     {
         LogPass {
@@ -97,7 +104,8 @@ impl Log {
         requires unclaimed { pass.old.pass.right.claims ≡ [] }
         requires parts { 8 < pass.old.pass.right.parts }
         ensures left { pass.new ≡ record pass.old { pass = without_keeper pass.old.pass; sure = 0 } }
-        ensures dealt { result ≡ new_pass (record (newcomer pass.old.pass.identity pass.old.pass.start
+        ensures dealt { result ≡ new_pass (record (newcomer pass.old.pass.identity
+            pass.old.pass.start
             0 8) { keeping = pass.old.pass.keeping }) result.seat pass.old }
     {
         LogPass {
@@ -150,7 +158,8 @@ impl Log {
         take_consumer(table, &mut pass.seat, knowledge);
     }
 
-    /// The consumer that another pass is, and nothing else, goes to a pass, as the first of those that it is.
+    /// The consumer that another pass is, and nothing else, goes to a pass, as the first of those
+    /// that it is.
     pub fn take_consumer(&self, pass: &mut LogPass, reader: LogPass)
         requires fits { IsOf self.now pass.old }
         requires reader { IsOf self.now reader }
@@ -177,7 +186,8 @@ impl Log {
         take_seat(&self.memory.table.shared, &mut pass.seat, other.seat);
     }
 
-    /// What another pass has goes to a pass, whose own the other's claims are then, the open ones too: by one step.
+    /// What another pass has goes to a pass, whose own the other's claims are then, the open ones
+    /// too: by one step.
     pub fn take_over(&self, pass: &mut LogPass, other: LogPass)
         requires fits { IsOf self.now pass.old }
         requires other { IsOf self.now other }

@@ -1,7 +1,6 @@
 use Rattle.std.proofs.Common.{◌≡◌, ℕ, suc, List, [], ◌++◌, sym, ap, ◌∙◌, subst}
 use Rattle.publication.specs.declared.pass.FrameWords.{FrameWords}
 use Rattle.region.specs.declared.access.Access.{Access}
-use Rattle.log_rule.specs.declared.claims.view.View.{View}
 use Rattle.log_rule.specs.Claims.Closing.{handing_seats}
 use Rattle.log_memory.specs.declared.view.LogView.{LogView}
 use Rattle.log_memory.specs.declared.view.Site.{Site}

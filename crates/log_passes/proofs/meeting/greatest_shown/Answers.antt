@@ -1,4 +1,4 @@
-use Rattle.std.proofs.Common.{rules, ◌≡◌, ◌∙◌, ap, max, ℕ, subst}
+use Rattle.std.proofs.Common.{rules, ◌∙◌, ap, ℕ, subst}
 use Rattle.publication.specs.declared.pass.Pass.{Pass}
 use Rattle.log_rule.specs.Meetings.{was_shown}
 use Rattle.log_passes.specs.Meets.{Shows}

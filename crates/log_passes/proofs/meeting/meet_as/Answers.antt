@@ -1,9 +1,7 @@
-use Rattle.std.proofs.Common.{◌≡◌, ◌≤◌, ◌+◌, ℕ, sym, ap, ◌∙◌, subst, arith}
-use Rattle.atomic_table.specs.Seated.{TableId}
-use Rattle.publication.specs.declared.pass.Pass.{Pass}
+use Rattle.std.proofs.Common.{◌≡◌, sym, ap, ◌∙◌, subst, arith}
 use Rattle.log_rule.specs.Meetings.{Steady, meeting, was_shown}
 use Rattle.log_memory.specs.Steps.{Mine}
-use Rattle.log_passes.specs.Handles.{LogId, PublisherValue}
+use Rattle.log_passes.specs.Handles.{PublisherValue}
 use Rattle.log_passes.proofs.Together.{meets, shown_is}
 use Rattle.log_passes.proofs.meeting.meet_as.Goals as goal
 
@@ -32,8 +30,7 @@ returns g c =
       sure = ap (λ (m : Mine). m.0.view.sure) back.2;
       freed = ap (λ (m : Mine). m.0.room.freed) back.2 ∙ ap (λ (m : Mine). m.0.room.freed) c.lift-lifted.ensures.seat.2 ∙ ap (λ r. r.freed) c.settle-2.ensures.told.1.room ∙ ap (λ (p : PublisherValue). p.freed) c.other.view_is;
     }
-    (parted.1 ∙ stays.seat ∙ c.meet.ensures.seat.1 ∙ c.settle.ensures.seat.1 ∙ ap (λ (p : PublisherValue). p.seat) c.one.view_is)
-    (
+    (parted.1 ∙ stays.seat ∙ c.meet.ensures.seat.1 ∙ c.settle.ensures.seat.1 ∙ ap (λ (p : PublisherValue). p.seat) c.one.view_is) (
       (let split = ap (λ (m : Mine). m.0.view.steps) parted.2 in let shown = c.greatest_shown-tail.ensures.steps in let joined = ap (λ (m : Mine). m.0.view.steps) c.meet.ensures.seat.2 in let once = settled.1 in let first = ap (λ (p : PublisherValue). p.steps) c.one.view_is in omega (arith, split, shown, joined, once, first)),
       ap (λ (m : Mine). m.0.view.steps) back.2,
     )

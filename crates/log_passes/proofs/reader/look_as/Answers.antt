@@ -1,7 +1,6 @@
-use Rattle.std.proofs.Common.{◌≡◌, ℕ, ◌<◌, sym, ap, ◌∙◌, subst}
+use Rattle.std.proofs.Common.{ℕ, ◌<◌, sym, ap, ◌∙◌, subst}
 use Rattle.publication.specs.declared.pass.Reading.{Reading}
 use Rattle.log_rule.specs.Readings.{IsConsumer}
-use Rattle.log_memory.specs.declared.view.Site.{Site}
 use Rattle.log_memory.specs.Kinds.{LooksHere}
 use Rattle.log_memory.specs.Places.{head_place}
 use Rattle.log_memory.specs.Rule.{ring}

@@ -1,5 +1,4 @@
-use Rattle.std.proofs.Common.{◌≡◌, sym, ap, ◌∙◌, subst}
-use Rattle.log_memory.specs.Steps.{Mine}
+use Rattle.std.proofs.Common.{sym, ap, ◌∙◌}
 use Rattle.log_memory.specs.declared.view.Part.{Part}
 use Rattle.log_memory.specs.declared.view.Room.{Room}
 use Rattle.log_passes.specs.Handles.{LogId, LogValue, PublisherValue}

@@ -1,4 +1,4 @@
-use Rattle.std.proofs.Common.{◌≡◌, ℕ, ◌+◌, sym, ap, ◌∙◌, subst}
+use Rattle.std.proofs.Common.{sym, ap, ◌∙◌, subst}
 use Rattle.log_passes.specs.Handles.{LogId, LogValue, PublisherValue}
 use Rattle.log_passes.specs.Keepers.{MayCleanTo}
 use Rattle.log_passes.proofs.Cleaned.{apart_two, idle_three, idle_two, may_free, may_three, rests_four}

@@ -1,5 +1,4 @@
-use Rattle.std.proofs.Common.{◌≡◌, sym, ap, ◌∙◌, subst}
-use Rattle.publication.specs.declared.pass.FrameWords.{FrameWords}
+use Rattle.std.proofs.Common.{sym, ap, ◌∙◌, subst}
 use Rattle.publication.specs.declared.pass.Pass.{Pass}
 use Rattle.publication.specs.Steps.{blank}
 use Rattle.log_memory.specs.Steps.{AreApart, Mine}

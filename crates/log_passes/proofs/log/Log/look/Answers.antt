@@ -1,15 +1,12 @@
-use Rattle.std.proofs.Common.{◌≡◌, ℕ, ◌+◌, ◌<◌, ◌≤◌, List, ◌++◌, drop, length, take, sym, ap, ◌∙◌, subst, refl, arith}
+use Rattle.std.proofs.Common.{length, take, sym, ap, ◌∙◌, subst, refl, arith}
 use Rattle.std.specs.Int.{w64, to_le_bytes}
 use Rattle.frame_words.specs.Contents.{head_by}
 use Rattle.theory.specs.Bytes.{Identity}
-use Rattle.theory.specs.Placed.{Among}
 use Rattle.theory.specs.Position.{IsGeometry}
 use Rattle.publication.specs.declared.pass.FrameWords.{FrameWords}
-use Rattle.publication.specs.declared.pass.Reading.{Reading}
 use Rattle.log_memory.specs.Frames.{HasPart, MayGiveBack}
-use Rattle.log_memory.specs.Steps.{Mine}
 use Rattle.log_passes.specs.Handles.{LogValue, PublisherValue}
-use Rattle.log_passes.specs.Readers.{Copies, IsAt, MayRereadAt}
+use Rattle.log_passes.specs.Readers.{IsAt}
 use Rattle.log_passes.proofs.Read.{copied_all, found_at, found_back, found_one, found_part, found_rests, low_cut, none_rests}
 use Rattle.log_passes.proofs.Heads.{part_low}
 use Rattle.log_passes.proofs.log.Log.look.Goals as goal

@@ -1,14 +1,11 @@
-use Rattle.std.proofs.Common.{◌≡◌, ℕ, ◌+◌, ◌<◌, ◌≤◌, List, ◌++◌, drop, length, take, sym, ap, ◌∙◌, subst, refl, arith}
+use Rattle.std.proofs.Common.{length, take, sym, ap, ◌∙◌, subst, refl}
 use Rattle.std.specs.Int.{w64, to_le_bytes}
 use Rattle.frame_words.specs.Contents.{head_by}
 use Rattle.theory.specs.Bytes.{Identity}
-use Rattle.theory.specs.Placed.{Among}
 use Rattle.theory.specs.Position.{IsGeometry}
 use Rattle.publication.specs.declared.pass.FrameWords.{FrameWords}
-use Rattle.publication.specs.declared.pass.Reading.{Reading}
 use Rattle.log_rule.specs.Readings.{Has, IsConsumer}
 use Rattle.log_memory.specs.Frames.{HasPart, MayGiveBack}
-use Rattle.log_memory.specs.Steps.{Mine}
 use Rattle.log_passes.specs.Handles.{LogValue, PublisherValue}
 use Rattle.log_passes.specs.Readers.{IsRead, MayRereadAt}
 use Rattle.log_passes.proofs.Read.{again_at, again_back, again_one, again_part, again_read, copied_all, low_cut}

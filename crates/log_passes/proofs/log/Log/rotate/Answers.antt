@@ -1,4 +1,4 @@
-use Rattle.std.proofs.Common.{◌≡◌, ℕ, suc, ◌+◌, [], ◌∷◌, sym, ap, ◌∙◌, subst, arith}
+use Rattle.std.proofs.Common.{◌≡◌, ℕ, suc, ◌+◌, [], ◌∷◌, ap, ◌∙◌, subst, arith}
 use Rattle.publication.specs.Controls.{Leads}
 use Rattle.publication.specs.Steps.{tail_exchange}
 use Rattle.log_rule.specs.Claims.Admits.{Same}

@@ -1,4 +1,4 @@
-use Rattle.std.proofs.Common.{◌≡◌, sym, ap, ◌∙◌, subst}
+use Rattle.std.proofs.Common.{sym, ap, ◌∙◌}
 use Rattle.log_rule.specs.declared.claims.view.View.{View}
 use Rattle.log_memory.specs.declared.view.Room.{Room}
 use Rattle.log_passes.specs.Handles.{LogId, LogValue, PublisherValue}
