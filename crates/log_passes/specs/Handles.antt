@@ -2,7 +2,7 @@
 use Rattle.std.specs.Prelude.{◌≡◌, ℕ, ◌+◌, ◌<◌, ◌≤◌, List, length}
 use Rattle.atomic_table.specs.Seated.{TableId}
 use Rattle.theory.specs.Bytes.{Identity}
-use Rattle.theory.specs.Position.{IsGeometry}
+use Rattle.theory.specs.Position.{IsGeometry, max_position}
 use Rattle.publication.specs.declared.pass.Controls.{Controls}
 use Rattle.publication.specs.declared.pass.Pass.{Pass}
 use Rattle.publication.specs.declared.step.WordStep.{WordStep}
@@ -45,6 +45,7 @@ pub record IsSite (t : Site) (identity : Identity) (start consumers : ℕ) : Typ
   pub geometry : IsGeometry identity.geometry
   pub few : consumers ≤ 8
   pub any : 0 < consumers
+  pub below : start ≤ max_position identity.geometry
 
 -- the pass is one of this log
 pub record IsOf (l : LogValue) (p : PublisherValue) : Type 0 where

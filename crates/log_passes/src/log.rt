@@ -1,6 +1,7 @@
 //! A log that threads share.
 
-ghost use Rattle.std.specs.Prelude.{◌≡◌};
+ghost use Rattle.std.specs.Prelude.{◌≡◌, ◌<◌, ◌≤◌};
+ghost use Rattle.theory.specs.Position.{IsGeometry, max_position};
 
 use log_memory::LogMemory;
 use position::Identity;
@@ -38,7 +39,8 @@ impl Log {
     /// Which stream the log carries.
     #[inline(always)]
     pub fn identity(&self) -> Identity
-        ensures { result ≡ self.now.identity }
+        ensures is { result ≡ self.now.identity }
+        ensures legal { IsGeometry self.now.identity.geometry }
     {
         self.identity
     }
@@ -46,14 +48,16 @@ impl Log {
     /// The position at which the stream begins.
     #[inline(always)]
     pub fn start(&self) -> u64
-        ensures { result ≡ self.now.start }
+        ensures is { result ≡ self.now.start }
+        ensures low { self.now.start ≤ max_position self.now.identity.geometry }
     {
         self.start
     }
 
     /// How many consumers it was opened with.
     pub fn consumers(&self) -> u64
-        ensures { result ≡ self.now.consumers }
+        ensures is { result ≡ self.now.consumers }
+        ensures some { (0 < self.now.consumers) × (self.now.consumers ≤ 8) }
     {
         self.consumers
     }
