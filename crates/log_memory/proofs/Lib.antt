@@ -31,3 +31,4 @@ mod OpenFrames
 pub mod Parking
 pub mod ClaimRooms
 pub mod Looked
+mod Swapping

@@ -22,7 +22,8 @@ use Rattle.log_rule.specs.Kept.{IsThere}
 use Rattle.log_rule.specs.Meetings.{Steadies, Steady, back_left, back_right, meeting, meeting_seats, showing, was_shown}
 use Rattle.log_rule.specs.Readings.{reading}
 use Rattle.log_rule.specs.Shares.{Weighs}
-use Rattle.log_rule.specs.Table.{first_reading, keeper_left, keeper_right, knowledge_right, knows_all, lifted_left, lifted_right, lowered, news_left, news_right, other_readings, reader_alone, reader_left, reader_right, returned_seat, told_seat}
+use Rattle.log_rule.specs.Table.{first_reading, keeper_left, keeper_right, knowledge_right, knows_all, news_left, news_right, other_readings, reader_alone, reader_left, reader_right, returned_seat, told_seat}
+use Rattle.log_memory.specs.Lifted.{lifted_left, lifted_right, lowered}
 use Rattle.log_rule.proofs.Claimed.Memories.{maps_append}
 use Rattle.log_rule.proofs.Claimed.Totals.{total_append}
 use Rattle.log_rule.proofs.Dealing as dealing
@@ -31,7 +32,7 @@ use Rattle.log_rule.proofs.Handing as handing
 use Rattle.log_rule.proofs.Joining as joining
 use Rattle.log_rule.proofs.Meetings as meetings
 use Rattle.log_rule.proofs.Showing as showings
-use Rattle.log_rule.proofs.Swapping as swapping
+use Rattle.log_memory.proofs.Swapping as swapping
 use Rattle.log_memory.specs.declared.view.LogView.{LogView}
 use Rattle.log_memory.specs.declared.view.Site.{Site}
 use Rattle.log_memory.specs.Law.{Keeps, SeatsKeep}

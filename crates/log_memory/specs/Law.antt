@@ -13,7 +13,8 @@ use Rattle.publication.specs.declared.pass.Pass.{Pass}
 use Rattle.log_rule.specs.Claims.Closing.{both_seats, handing_seats, numbered_seat, spent_seat}
 use Rattle.log_rule.specs.Meetings.{Steadies, Steady, back_left, back_right, meeting, meeting_seats, showing, was_shown}
 use Rattle.log_rule.specs.Shares.{Weighs}
-use Rattle.log_rule.specs.Table.{keeper_left, keeper_right, knowledge_right, lifted_left, lifted_right, lowered, news_left, news_right, reader_alone, reader_left, reader_right, returned_seat, told_seat}
+use Rattle.log_rule.specs.Table.{keeper_left, keeper_right, knowledge_right, news_left, news_right, reader_alone, reader_left, reader_right, returned_seat, told_seat}
+use Rattle.log_memory.specs.Lifted.{lifted_left, lifted_right, lowered}
 use Rattle.log_rule.specs.Claims.Packs.{consumer_place, count_place, limit_place, tail_place}
 use Rattle.log_rule.specs.Claims.Sure.{LearnsControls}
 use Rattle.log_rule.specs.Keepings.{Joins, LearnsLimit, Leaves, MayJoin, MayLeave, MayRaise, Raises, keeping, sweeping}

@@ -12,3 +12,4 @@ pub mod Drafts
 pub mod Open
 pub mod Parking
 pub mod Law
+pub mod Lifted

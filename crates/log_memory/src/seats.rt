@@ -92,7 +92,7 @@ impl<N: Met> Split<LogView> for PartAgain<N> {
 pub struct Lift;
 
 impl Split<LogView> for Lift {
-    ghost use Rattle.log_rule.specs.Table.{lifted_left, lifted_right};
+    ghost use Rattle.log_memory.specs.Lifted.{lifted_left, lifted_right};
 
     ghost left = { viewing lifted_left };
 
@@ -106,7 +106,7 @@ pub struct Lower<N> {
 
 impl<N: Carried> Join<LogView> for Lower<N> {
     ghost use Rattle.log_rule.specs.Claims.Closing.{spent_seat};
-    ghost use Rattle.log_rule.specs.Table.{lowered};
+    ghost use Rattle.log_memory.specs.Lifted.{lowered};
     ghost use Rattle.log_memory.specs.Seats.{spent_with};
 
     ghost both = { joining lowered };

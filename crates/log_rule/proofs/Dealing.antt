@@ -93,16 +93,16 @@ module _ (key : Key) (id : ℕ) (v : View) (s : State (Unit {0}) View) (r : LogR
   abbrev b : Bounds
   b = now_at key (slice_index s.words limit_place) r.cleaned
 
-  pub here : get_elem? (map pass_in s.views) id ≡ some v.pass
+  here : get_elem? (map pass_in s.views) id ≡ some v.pass
   here = at_map pass_in s.views id v at
 
-  pub attends : Attends b r.there s.words (map pass_in s.views) v.pass
+  attends : Attends b r.there s.words (map pass_in s.views) v.pass
   attends = r.kept.each id v.pass here
 
-  pub identity_is : v.pass.identity ≡ key.identity
+  identity_is : v.pass.identity ≡ key.identity
   identity_is = (r.ruled.claims.each id v.pass here).identity
 
-  pub start_is : v.pass.start ≡ key.start
+  start_is : v.pass.start ≡ key.start
   start_is = (r.ruled.claims.each id v.pass here).start
 
   -- the state with two seats in place of one

@@ -14,7 +14,6 @@ pub mod Dealing
 pub mod Shares
 pub mod Gathering
 pub mod Handing
-pub mod Swapping
 pub mod Meetings
 pub mod Showing
 pub mod Owning

@@ -126,17 +126,6 @@ told_seat v w = record v { pass = record v.pass { reading = map (knows_all (all_
 abbrev pub returned_seat : View → View → View
 returned_seat v w = record v { pass = record v.pass { reading = w.pass.reading ++ v.pass.reading } }
 
--- ---- a pass goes to a new seat, and back to one that has nothing
-
-abbrev pub lifted_left : View → View
-lifted_left v = new_seat (newcomer v.pass.identity v.pass.start 0 0)
-
-abbrev pub lifted_right : View → View
-lifted_right v = new_seat v.pass
-
-abbrev pub lowered : View → View → View
-lowered v w = new_seat w.pass
-
 -- a pass that is one consumer, and nothing else
 abbrev pub reader_alone : Identity → ℕ → Reading → Pass
 reader_alone identity start r = record (newcomer identity start 0 0) { reading = r ∷ [] }

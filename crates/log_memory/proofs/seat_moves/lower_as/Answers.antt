@@ -2,7 +2,7 @@ use Rattle.std.proofs.Common.{ℕ, sym, ◌∙◌, subst, arith}
 use Rattle.atomic_table.specs.Table.{Joins}
 use Rattle.theory.specs.Bytes.{Identity}
 use Rattle.log_rule.specs.Claims.Closing.{spent_seat}
-use Rattle.log_rule.specs.Table.{lowered}
+use Rattle.log_memory.specs.Lifted.{lowered}
 use Rattle.log_memory.specs.Rule.{LogMemoryRuled}
 use Rattle.log_memory.specs.Seats.{joining, spent_with}
 use Rattle.log_memory.proofs.Seating.{seats_keep}

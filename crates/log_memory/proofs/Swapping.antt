@@ -4,7 +4,7 @@ use mathlib.Core.Option.{some}
 use lib.ListN.{get_elem?}
 use Rattle.std.specs.Prelude.{slice_index}
 use Rattle.std.proofs.lemmas.List.{map-set}
-use Rattle.atomic_table.specs.Table.{Joins, Splits}
+use Rattle.atomic_table.specs.Table.{Joins, Splits, State}
 use Rattle.atomic_table.proofs.Lists.{at_map, at_set, set_else}
 use Rattle.theory.specs.Entry.{length_of}
 use Rattle.publication.specs.declared.pass.Pass.{Pass}
@@ -20,24 +20,29 @@ use Rattle.log_rule.specs.Claims.Sums.{total}
 use Rattle.log_rule.specs.Claims.Terms.{claimed_to}
 use Rattle.log_rule.specs.Kept.{Kept, keepers_of, readers_of}
 use Rattle.log_rule.specs.Numbers.{AreNumbered, numbers_as}
-use Rattle.log_rule.specs.Table.{lifted_left, lifted_right, new_seat, now_at}
-use Rattle.log_rule.specs.Table.{LogRuled, lowered}
+use Rattle.log_rule.specs.Table.{new_seat, now_at}
+use Rattle.log_memory.specs.Lifted.{lifted_left, lifted_right}
+use Rattle.log_rule.specs.Table.{LogRuled}
+use Rattle.log_memory.specs.Lifted.{lowered}
 use Rattle.log_rule.proofs.Claimed.Accounts.{none_armed}
 use Rattle.log_rule.proofs.Claimed.Begun.{split_ruled}
 use Rattle.log_rule.proofs.Claimed.Sures.{sure_join, unsure}
 use Rattle.log_rule.proofs.Claimed.Totals.{total_set}
-use Rattle.log_rule.proofs.Dealing.{attends, cut, here, identity_is, kept_split, none_kept, start_is}
+use Rattle.log_rule.proofs.Dealing.{cut, kept_split, none_kept}
 use Rattle.log_rule.proofs.Gathering.{kept_join}
 use Rattle.log_rule.proofs.Owning.{numbered_join, numbered_split, owns_none}
 
 none_first : (n : ℕ) → 0 + n ≡ n
 none_first n = omega arith
 
+here : (id : ℕ) (v : View) (s : State (Unit {0}) View) → get_elem? s.views id ≡ some v → get_elem? (map pass_in s.views) id ≡ some v.pass
+here id v s at = at_map pass_in s.views id v at
+
 -- ---- to a new one
 
 pub lifts : (key : Key) (id : ℕ) (v : View) → Splits (LogRuled key) id v (lifted_left v) (lifted_right v)
 lifts key id v s r at =
-    let ps : List Pass = map pass_in s.views in let bs : Bounds = now_at key (slice_index s.words limit_place) r.cleaned in let h = here key id v s r at in let a = attends key id v s r at in
+    let ps : List Pass = map pass_in s.views in let bs : Bounds = now_at key (slice_index s.words limit_place) r.cleaned in let h = here id v s at in let a = r.kept.each id v.pass (here id v s at) in
     let c = r.ruled.claims.each id v.pass h in let m = r.ruled.memory.each id v.pass h in let from = r.ruled.claims.tailed.turns.from in let l : Pass = newcomer v.pass.identity v.pass.start 0 0 in
     let ruled : Ruled bs s.words (set ps id l ++ v.pass ∷ []) =
     split_ruled bs s.words ps r.ruled id v.pass l v.pass h (λ f. none_first (weight f v.pass)) (none_first v.pass.right.parts) (none_first v.pass.right.armed)
@@ -93,7 +98,7 @@ swapped b ws ps r i j v w at ne at' =
 
 pub lowers : (key : Key) (id other : ℕ) (v w : View) → v.pass ≡ newcomer key.identity key.start 0 0 → Joins (LogRuled key) id v other w (lowered v w) (spent_seat key.identity key.start)
 lowers key id other v w none s r at ne at' =
-    let ps : List Pass = map pass_in s.views in let bs : Bounds = now_at key (slice_index s.words limit_place) r.cleaned in let h = here key id v s r at in let l : View = lowered v w in let q : View = spent_seat key.identity key.start in
+    let ps : List Pass = map pass_in s.views in let bs : Bounds = now_at key (slice_index s.words limit_place) r.cleaned in let h = here id v s at in let l : View = lowered v w in let q : View = spent_seat key.identity key.start in
     let was : get_elem? s.views other ≡ some w = sym (set_else s.views id other l ne) ∙ at' in let h' = at_map pass_in s.views other w was in
     let there : get_elem? (set ps id w.pass) other ≡ some w.pass = set_else ps id other w.pass ne ∙ h' in
     let ruled1 = swapped bs s.words ps r.ruled id other v.pass w.pass h ne there in
