@@ -35,8 +35,9 @@ use Rattle.log_memory.specs.Rule.{AreSmall, Board, IsBeyond, IsHome, IsRoom, Kno
 use Rattle.log_memory.specs.Steps.{IsIdle, IsRoomAt}
 use Rattle.log_memory.proofs.Facts.{bounds, end_low, long as long_frame, pass_at, some_ring, tail_limit, tail_near, unit, width}
 use Rattle.log_memory.proofs.Lifting.{passes_set, there_low, with_reader_on}
+use Rattle.log_memory.proofs.OpenFrames.{open_from, open_to}
 use Rattle.log_memory.proofs.Places.{row_apart, row_unit}
-use Rattle.log_memory.proofs.Resting.{SameFrames, held_on, knows_on, beyond_on, out_on, same_frames}
+use Rattle.log_memory.proofs.Resting.{SameFrames, held_on, knows_on, beyond_on, none_parked, out_on, parked_on, parked_set, same_frames}
 use Rattle.log_memory.proofs.Rows.{Full, TakesRow, takes_row}
 use Rattle.log_rule.specs.Kept.{IsThere}
 
@@ -155,7 +156,7 @@ module _ (t : Site) (s : Board) (r : LogMemoryRuled t s) (id : ℕ) (v w : LogVi
   units_of_range = (legal.unit, span_unit o.claim.cuts)
 
   module _ (words : List ℕ) (small : AreSmall stream) (spared : slice_index words 0 ≡ slice_index s.words 0) (controls : (i : ℕ) → i < 208 → slice_index words i ≡ slice_index stream i) (heads : (i : ℕ) → 208 ≤ i → slice_index words i ≡ slice_index s.words i) (long : length words ≡ length s.words)
-      (row : o.claim.start % (ring t * 32) + span o.claim.cuts ≤ ring t * 32) (idle : IsIdle v) (part : w.part ≡ v.part) (room : w.room ≡ v.room) (keeping : w.view.pass.keeping ≡ v.view.pass.keeping) (before : List (ℕ × Access)) where
+      (row : o.claim.start % (ring t * 32) + span o.claim.cuts ≤ ring t * 32) (idle : IsIdle v) (part : w.part ≡ v.part) (room : w.room ≡ v.room) (kept : w.parked ≡ v.parked) (keeping : w.view.pass.keeping ≡ v.view.pass.keeping) (before : List (ℕ × Access)) where
     near : tail_in t.key (passes_of (set s.views id w)) < r.freed + 3 * term t
     near = let a = tail_limit t stream (set s.views id w) q in let c = r.memory.ahead in let e = controls 0 (omega arith) in
         go (tail_in t.key (passes_of (set s.views id w))) (slice_index s.words 0) (slice_index words 0) (slice_index stream 0) (greatest_claim (shape t)) (r.freed + 3 * term t) spared e a c
@@ -223,7 +224,7 @@ module _ (t : Site) (s : Board) (r : LogMemoryRuled t s) (id : ℕ) (v w : LogVi
             frames = λ f among from. lies_on f (same.back f among) (omega arith) (m'.frames f (same.back f among) from);
             taken = λ some'. out_on t ps ps' same r.freed r.out (m'.taken some');
             held = λ i x here has. ⊎_elim
-                (λ e. absurd (clash w.part.has v.part.has x.part.has (ap (λ y. y.has) part) (ap (λ (y : LogView). y.part.has) e.1) has idle))
+                (λ e. absurd (clash w.part.has v.part.has x.part.has (ap (λ y. y.has) part) (ap (λ (y : LogView). y.part.has) e.1) has idle.0))
                 (λ e. held_on t ps ps' same r.rounds x (m'.held i x e.1 has))
                 (at_set s.views id i w x here);
             readers = λ i x y here among low. ⊎_elim
@@ -234,6 +235,8 @@ module _ (t : Site) (s : Board) (r : LogMemoryRuled t s) (id : ℕ) (v w : LogVi
                 (λ e. subst (KnowsRoom t ps' r.freed r.out) e.1 (knows_on t ps ps' same r.freed r.out w (own (subst (λ (z : LogView). z.view.pass.keeping.right ≡ 1) (sym e.1) one))))
                 (λ e. knows_on t ps ps' same r.freed r.out x (m'.keeper i x e.1 one))
                 (at_set s.views id i w x here);
+            parked = parked_set t s after id w (none_parked t after w (kept ∙ idle.1)) (λ i x f ne here among. let a = m'.parked i x f here among in let from = open_from t s r i x here f a.draft in let to = open_to t s r i x here f a.draft in
+                parked_on t s after x f (λ p j is unit lo hi lt h. let z = at_tail in let n = tail_near t s r in home_on p j is unit (omega arith) (omega arith) (inl (omega arith)) lt h) a);
           };
         }
       where

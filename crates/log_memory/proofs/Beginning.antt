@@ -1,5 +1,5 @@
 -- The words and slots of a log that opens obey the rule.
-use Rattle.std.proofs.Common.{◌≡◌, ℕ, zero, suc, ◌+◌, ◌-◌, ◌*◌, ◌/◌, ◌%◌, ◌<◌, ◌≤◌, inl, inr, List, [], ◌∷◌, length, length-append, map, replicate, sym, refl, ap, ◌∙◌, subst, mod-lt, arith}
+use Rattle.std.proofs.Common.{List, [], ap, arith, inl, inr, length, length-append, map, mod-lt, refl, replicate, subst, suc, sym, zero, ℕ, ◌%◌, ◌*◌, ◌+◌, ◌-◌, ◌/◌, ◌<◌, ◌∙◌, ◌∷◌, ◌≡◌, ◌≤◌}
 use mathlib.Core.Option.{some, some-injective, some-ne-none}
 use lib.ListN.{get_elem?}
 use Rattle.std.specs.Prelude.{slice_index}
@@ -97,6 +97,7 @@ module _ (t : Site) (words : List ℕ) (slots : List Access) (b : WordsBegun t w
       };
       frames = λ f among from. absurd (no_frame f among);
       taken = λ some'. absurd (omega arith);
+      parked = λ i v f at among. absurd (subst (λ (x : LogView). Among f x.parked) (sym (one_seat (whole_seat t) v i at)) among);
       held = λ i v at has. absurd (none (ap (λ (x : LogView). x.part.has) (one_seat (whole_seat t) v i at)) has);
       readers = λ i v r at among low. beyond r.position (let e = at_start t.key.start 0 t.key.consumers r (subst (λ (x : LogView). Among r x.view.pass.reading) (sym (one_seat (whole_seat t) v i at)) among) in omega arith);
       keeper = λ i v at one. subst (KnowsRoom t (passes_of (whole_seat t ∷ [])) t.key.start 0) (one_seat (whole_seat t) v i at) record {

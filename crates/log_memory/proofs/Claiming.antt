@@ -35,10 +35,11 @@ use Rattle.log_memory.specs.declared.view.LogView.{LogView}
 use Rattle.log_memory.specs.declared.view.Site.{Site}
 use Rattle.log_memory.specs.Places.{slot_of}
 use Rattle.log_memory.specs.Rule.{Board, LogMemoryRuled, passes_of, ring, shape, stream_state, term, view_in}
-use Rattle.log_memory.specs.Steps.{Adds, Carries, IsIdle, IsRoomAt, Mine, TakesRoom, any_step, as_view}
+use Rattle.log_memory.specs.Steps.{Adds, AreApart, Carries, IsIdle, IsRoomAt, Mine, TakesRoom, any_step, as_view}
 use Rattle.log_memory.proofs.Adding.{added, after, takes}
 use Rattle.log_memory.proofs.Facts.{bounds, geometry, least, pass_at, width}
 use Rattle.log_memory.proofs.Lifting.{leaves, no_act, quiet_same, set_both, small_on, there_low}
+use Rattle.log_memory.proofs.OpenFrames.{apart}
 use Rattle.log_memory.proofs.Places.{in_ring}
 use Rattle.log_memory.proofs.Resting.{rests}
 use Rattle.log_memory.proofs.Rows.{TakesRow}
@@ -118,10 +119,10 @@ module _ (t : Site) (id size : ℕ) (m : Mine) (idle : IsIdle m.0) (able : 120 �
       seat = record m.0 { view = w }
 
       abbrev row_taken : TakesRow s.homes (IsRoomAt t) (slot_of (ring t) o.claim.start 0) (span o.claim.cuts / 4) m.1
-      row_taken = takes t s r id m.0 (record m.0 { view = w }) at stream q o words (small_on r.stream i (f (slice_index r.stream i)) place_low r.words.small) spared controls heads (length-set s.words i (f (slice_index s.words i))) row idle refl refl keeping m.1
+      row_taken = takes t s r id m.0 (record m.0 { view = w }) at stream q o words (small_on r.stream i (f (slice_index r.stream i)) place_low r.words.small) spared controls heads (length-set s.words i (f (slice_index s.words i))) row idle refl refl refl keeping m.1
 
-      row_added : LogMemoryRuled t (after t s r id m.0 (record m.0 { view = w }) at stream q o words (small_on r.stream i (f (slice_index r.stream i)) place_low r.words.small) spared controls heads (length-set s.words i (f (slice_index s.words i))) row idle refl refl keeping m.1)
-      row_added = added t s r id m.0 (record m.0 { view = w }) at stream q o words (small_on r.stream i (f (slice_index r.stream i)) place_low r.words.small) spared controls heads (length-set s.words i (f (slice_index s.words i))) row idle refl refl keeping m.1
+      row_added : LogMemoryRuled t (after t s r id m.0 (record m.0 { view = w }) at stream q o words (small_on r.stream i (f (slice_index r.stream i)) place_low r.words.small) spared controls heads (length-set s.words i (f (slice_index s.words i))) row idle refl refl refl keeping m.1)
+      row_added = added t s r id m.0 (record m.0 { view = w }) at stream q o words (small_on r.stream i (f (slice_index r.stream i)) place_low r.words.small) spared controls heads (length-set s.words i (f (slice_index s.words i))) row idle refl refl refl keeping m.1
 
     row_in : (n x : ℕ) → offset_in n < term_of m.0.view.pass → offset_in n + x ≤ term_of m.0.view.pass → start_in (geometry_of m.0.view.pass) n % (ring t * 32) + x ≤ ring t * 32
     row_in n x lt fits =
@@ -134,6 +135,9 @@ low_share : (t : Site) (id : ℕ) (v w : LogView) (s : Board) → get_elem? s.vi
 low_share t id v w s at stream q =
     let passes = passes_of (set s.views id w) in let here = pass_at (set s.views id w) id w (set_here s.views id w (there_low s.views id v at)) in
     let low = claimed_low (bounds t stream (set s.views id w) q) stream passes q.ruled in let mine = total_at (weight length_of) passes id w.view.pass here in let is : weight length_of w.view.pass ≡ claimed_bytes w.view.pass = total_map length_of entry_of w.view.pass.right.claims in omega arith
+
+apart_then : (t : Site) (id : ℕ) (v w : LogView) (s : Board) → get_elem? s.views id ≡ some v → (stream : List ℕ) → LogRuled t.key (stream_state stream (set s.views id w)) → AreApart w.view.pass.work.drafts
+apart_then t id v w s at stream q = apart (bounds t stream (set s.views id w) q) stream (passes_of (set s.views id w)) q.ruled id w.view.pass (pass_at (set s.views id w) id w (set_here s.views id w (there_low s.views id v at)))
 
 pub add : (t : Site) (id size : ℕ) (m : Mine) → IsIdle m.0 → 120 ≤ m.0.view.pass.right.parts → m.0.view.pass.right.armed ≡ 1 → size ≤ max_message (geometry_of m.0.view.pass)
     → (slots : ℕ) → Allows (LogMemoryRuled t) slots id m (tail_place m.0.view.pass.seen.term) (λ n. (n + framed_length (geometry_of m.0.view.pass) size) % 2 ^ 64) (Adds t size m)
@@ -148,21 +152,23 @@ add t id size m idle able armed short slots s r homes at small =
     let told' = subst (λ (x : ℕ). plays.playing (λ v k w. steps.Adds v size k w) (λ v k. addition v size k ∷ []) any_step (as_view m.0) x (w, [])) (sym e) told in
     let legal' = legal t id size m idle able armed short s r at small in
     let covered : span (cuts_of gm size) ≡ framed_length gm size = span_is gm legal'.mtu.unit legal'.mtu.least size in
-    let keeping = told.2.keeping in let low = low_share t id m.0 seat s at (set r.stream i (f n)) q in
+    let keeping = told.2.keeping in let low = low_share t id m.0 seat s at (set r.stream i (f n)) q in let apart' = apart_then t id m.0 seat s at (set r.stream i (f n)) q in
     dite (dec_le (term_of v) (offset_in n))
     (λ (over : term_of v ≤ offset_in n). let is = a.over over in (
       seat,
       keeps,
       tt,
       rests t s r (set s.words i (f (slice_index s.words i))) (set r.stream i (f n)) (set s.views id seat)
-          (leaves t s r id m.0 seat at refl (quiet_same m.0.view w told.2 (ap (λ (x : Pass). x.right.claims) is) (ap (λ (x : Pass). x.work.frames) is)) idle refl (set s.words i (f (slice_index s.words i))) (set r.stream i (f n)) q (small_on r.stream i (f n) (omega arith) r.words.small) (length-set s.words i (f (slice_index s.words i)))
+          (leaves t s r id m.0 seat at refl (quiet_same m.0.view w told.2 (ap (λ (x : Pass). x.right.claims) is) (ap (λ (x : Pass). x.work.frames) is)) idle refl refl (set s.words i (f (slice_index s.words i))) (set r.stream i (f n)) q (small_on r.stream i (f n) (omega arith) r.words.small) (length-set s.words i (f (slice_index s.words i)))
           (controls t id size m idle able armed short s r at small) (heads t id size m idle able armed short s r at small)
           (subst (λ (x : ℕ). limit_in x + greatest_claim (shape t) * 8 < r.freed + 3 * term t) (sym (spared t id size m idle able armed short s r at small)) r.memory.ahead)),
       record {
         part = refl;
         room = refl;
+        parked = refl;
         told = told';
         low = low;
+        apart = apart';
         takes = subst (λ (x : ℕ). TakesRoom t size x m (seat, m.1)) (sym e) record { fits = λ lt. absurd (long_fits v n over lt covered legal'); trips = λ lt _. absurd (omega arith); over = λ _. refl };
       },
     ))
@@ -178,8 +184,10 @@ add t id size m idle able armed short slots s r homes at small =
       record {
         part = refl;
         room = refl;
+        parked = refl;
         told = told';
         low = low;
+        apart = apart';
         takes = subst (λ (x : ℕ). TakesRoom t size x m (seat, carried_after m.1 tk.act)) (sym e) record {
           fits = λ _. subst (λ (x : ℕ). Carries (IsRoomAt t) (slot_of (ring t) (start_in gm n) 0) (x / 4) m.1 (carried_after m.1 tk.act)) covered tk.taken;
           trips = λ _ q. absurd (omega arith);
@@ -199,8 +207,10 @@ add t id size m idle able armed short slots s r homes at small =
       record {
         part = refl;
         room = refl;
+        parked = refl;
         told = told';
         low = low;
+        apart = apart';
         takes = subst (λ (x : ℕ). TakesRoom t size x m (seat, carried_after m.1 tk.act)) (sym e) record {
           fits = λ q. absurd (omega arith);
           trips = λ _ _. subst (λ (x : ℕ). Carries (IsRoomAt t) (slot_of (ring t) (start_in gm n) 0) (x / 4) m.1 (carried_after m.1 tk.act)) covered' tk.taken;

@@ -27,7 +27,7 @@ use Rattle.log_memory.specs.Steps.{CleansTo, IsIdle, MayCleanTo, Mine}
 use Rattle.log_memory.proofs.Committing.{restep}
 use Rattle.log_memory.proofs.Facts.{pass_at}
 use Rattle.log_memory.proofs.Lifting.{passes_set, there_low, with_reader_on}
-use Rattle.log_memory.proofs.Resting.{rests, still}
+use Rattle.log_memory.proofs.Resting.{none_parked, parked_set, rests, still}
 use Rattle.log_memory.proofs.Storing.{Became, set_twice}
 use Rattle.log_rule.specs.Kept.{IsThere}
 
@@ -101,7 +101,7 @@ clean_to t id i end m may idle slots s r homes at small =
         ahead = subst (λ (l : List ℕ). limit_in (slice_index l 0) + greatest_claim (shape t) * 8 < r.freed + 3 * term t) (sym same) r.memory.ahead;
         with_reader = with_reader_on s (set s.words i (slice_index s.words i)) id v w at idle;
         held = λ j x here has. ⊎_elim
-            (λ a. absurd (clash v.part.has x.part.has (ap (λ (y : LogView). y.part.has) a.1) has idle))
+            (λ a. absurd (clash v.part.has x.part.has (ap (λ (y : LogView). y.part.has) a.1) has idle.0))
             (λ a. r.memory.held j x a.1 has)
             (at_set s.views id j w x here);
         readers = λ j x y here among low. ⊎_elim
@@ -112,8 +112,9 @@ clean_to t id i end m may idle slots s r homes at small =
             (λ a. subst (KnowsRoom t (passes_of s.views) r.freed r.out) a.1 (own s r at b.view e))
             (λ a. r.memory.keeper j x a.1 one)
             (at_set s.views id j w x here);
+        parked = parked_set t s s id w (none_parked t s w idle.1) (λ j x f ne here among. r.memory.parked j x f here among);
       },
-      record { carried = refl; part = refl; room = refl; steps = refl; learns = record { sure = b.sure; leads = b.leads }; pass = e },
+      record { carried = refl; part = refl; room = refl; parked = refl; steps = refl; learns = record { sure = b.sure; leads = b.leads }; pass = e },
     )
   where
     clash : (a c : ℕ) → a ≡ c → c ≡ 1 → a ≡ 0 → ⊥

@@ -45,6 +45,8 @@ use Rattle.log_memory.proofs.Rows.{GivesRow, carried_behind, gives_row}
 use Rattle.log_memory.proofs.Storing.{Stored, stored}
 use Rattle.log_rule.specs.Claims.Memory.{Ruled}
 use Rattle.log_rule.specs.Numbers.{AreNumbered}
+use Rattle.log_memory.proofs.OpenFrames.{open_else, open_from, open_to}
+use Rattle.log_memory.proofs.Resting.{none_parked, parked_on, parked_set}
 
 -- a seat's count of steps says nothing of the stream
 pub restep : (key : Key) (words : List ℕ) (views : List View) (id n : ℕ) (w : View) → id < length views → LogRuled key (record { words = words; homes = []; views = set views id w }) → LogRuled key (record { words = words; homes = []; views = set views id (record w { steps = n }) })
@@ -334,6 +336,11 @@ module _ (t : Site) (s : Board) (r : LogMemoryRuled t s) (id p : ℕ) (ws : List
       words_in_cut : (cut n : ℕ) → 0 < cut → n ≡ aligned cut / 8 → 0 < n
       words_in_cut cut n pos e = omega arith
 
+  -- another seat's open frame isn't this one
+  open_out : (i : ℕ) (x : LogView) → i ≢ id → get_elem? s.views i ≡ some x → (f : FrameWords) → Among f x.view.pass.work.drafts → (y : ℕ) → f.start ≤ y → y < end_of f → (y < p) ⊎ (p + 8 * length ws ≤ y)
+  open_out i x ne here' f draft y lo hi = subst (λ (n : ℕ). (y < p) ⊎ (p + 8 * n ≤ y)) (sym may.long)
+      (open_else t s r i x here' f draft id m.0 (λ e. ne (sym e)) at (blank p may.cut) (subst (Among (blank p may.cut)) (sym may.drafts) (among_right (blank p may.cut) may.front (blank p may.cut ∷ may.behind) (inl refl))) y lo hi)
+
   pub committing : LogMemoryRuled t after
   committing = record {
     stream = made.after;
@@ -368,7 +375,7 @@ module _ (t : Site) (s : Board) (r : LogMemoryRuled t s) (id p : ℕ) (ws : List
           (which f among);
       taken = λ some'. (let a = r.memory.taken some' in record { frame = a.frame; among = still a.frame a.among; here = a.here; long = a.long });
       held = λ i x here' has. ⊎_elim
-          (λ e. absurd (clash m.0.part.has x.part.has (ap (λ (y : LogView). y.part.has) e.1) has idle))
+          (λ e. absurd (clash m.0.part.has x.part.has (ap (λ (y : LogView). y.part.has) e.1) has idle.0))
           (λ e. let a = r.memory.held i x e.1 has in let ne : x.part.at ≢ p = (λ z. not_there a.frame a.among (a.here ∙ z)) in let same = rounds_else p (may.round, may.book) r.rounds x.part.at ne in record {
             frame = a.frame;
             among = still a.frame a.among;
@@ -390,6 +397,8 @@ module _ (t : Site) (s : Board) (r : LogMemoryRuled t s) (id p : ℕ) (ws : List
           (λ e. subst (KnowsRoom t (passes_of (set s.views id seat)) r.freed r.out) e.1 (knows_on seat (own_room (subst (λ (z : LogView). z.view.pass.keeping.right ≡ 1) (sym e.1) one'))))
           (λ e. knows_on x (r.memory.keeper i x e.1 one'))
           (at_set s.views id i seat x here');
+      parked = parked_set t s after id seat (none_parked t after seat idle.1) (λ i x f ne here' among. let a = r.memory.parked i x f here' among in let from = open_from t s r i x here' f a.draft in let to = open_to t s r i x here' f a.draft in let near' = tail_near t s r in
+          parked_on t s after x f (λ y j is unit lo hi lt h. home_on y j is unit (omega arith) (omega arith) (open_out i x ne here' f a.draft y lo hi) lt h) a);
     };
   }
     where
@@ -412,6 +421,7 @@ commit t id p ws m idle may slots s r homes at small = let g = gives t s r id p 
     carried = g.rest ∙ sym (carried_behind (IsPartAt t (slot_of (ring t) p 0) ws may.round may.book) (slot_of (ring t) p 0) (8 * length ws / 4) may.before m.1 may.carries);
     part = refl;
     room = refl;
+    parked = refl;
     steps = refl;
     learns = record { sure = (made t s r id p ws m at idle may).became.sure; leads = (made t s r id p ws m at idle may).became.leads };
     fills = filled t s r id p ws m at idle may;

@@ -24,12 +24,12 @@ use Rattle.log_rule.proofs.Claimed.Begun.{split_total}
 use Rattle.log_rule.proofs.Claimed.Totals.{total_set}
 use Rattle.log_memory.specs.declared.view.LogView.{LogView}
 use Rattle.log_memory.specs.declared.view.Site.{Site}
-use Rattle.log_memory.specs.Rule.{Board, IsBeyond, IsHeld, IsWithReader, KnowsRoom, LogMemoryRuled, passes_of, stream_state, view_in}
+use Rattle.log_memory.specs.Rule.{Board, IsBeyond, IsHeld, IsParked, IsWithReader, KnowsRoom, LogMemoryRuled, passes_of, stream_state, view_in}
 use Rattle.log_memory.specs.Seats.{dealt_with, joining, spent_with, viewing}
 use Rattle.log_memory.specs.Steps.{IsIdle, SawBehind, StandsBehind}
 use Rattle.log_memory.proofs.Facts.{pass_at}
 use Rattle.log_memory.proofs.Lifting.{beyond_more, passes_set}
-use Rattle.log_memory.proofs.Resting.{IsStill, rests}
+use Rattle.log_memory.proofs.Resting.{IsStill, none_parked, parked_set, rests}
 
 -- a seat's consumers, and what it knows as the keeper, come from a seat before
 pub record ComesFrom (v w : View) : Type 0 where
@@ -62,8 +62,9 @@ module _ (t : Site) (s : Board) (r : LogMemoryRuled t s) (views : List LogView) 
       → ((i : ℕ) (x : LogView) → get_elem? views i ≡ some x → x.part.has ≡ 1 → IsHeld t (passes_of s.views) r.rounds x)
       → ((i : ℕ) (x : LogView) (y : Reading) → get_elem? views i ≡ some x → Among y x.view.pass.reading → y.number < 8 → IsBeyond t (passes_of s.views) (r.freed + r.out) y.position)
       → ((i : ℕ) (x : LogView) → get_elem? views i ≡ some x → x.view.pass.keeping.right ≡ 1 → KnowsRoom t (passes_of s.views) r.freed r.out x)
+      → ((i : ℕ) (x : LogView) (f : FrameWords) → get_elem? views i ≡ some x → Among f x.parked → IsParked t s x f)
       → LogMemoryRuled t (record { words = s.words; homes = s.homes; views = views })
-  as_they_were q still with_reader held readers keeper = rests t s r s.words r.stream views record {
+  as_they_were q still with_reader held readers keeper parked = rests t s r s.words r.stream views record {
     ruled = q;
     look = still;
     long = refl;
@@ -75,10 +76,11 @@ module _ (t : Site) (s : Board) (r : LogMemoryRuled t s) (views : List LogView) 
     held = held;
     readers = readers;
     keeper = keeper;
+    parked = parked;
   }
 
-none_has : (v : LogView) (n : ℕ) → v.part.has ≡ n → IsIdle v → n ≡ 1 → ⊥
-none_has v n e idle one = let a : v.part.has ≡ 0 = idle in omega arith
+none_has : (v : LogView) (n : ℕ) → v.part.has ≡ n → v.part.has ≡ 0 → n ≡ 1 → ⊥
+none_has v n e idle one = omega arith
 
 -- ---- a seat is cut in two
 
@@ -107,12 +109,12 @@ module _ (t : Site) (id : ℕ) (v : LogView) (left right : View → View) (idle 
       (λ p j b. record {
         seat = b.seat;
         view = b.view;
-        there = at_longer (set s.views id l) (q ∷ []) b.seat b.view (set_else s.views id b.seat l (λ e. none_has v b.view.part.has (ap (λ (x : LogView). x.part.has) (some-injective v b.view (sym at ∙ ap (get_elem? s.views) (sym e) ∙ b.there))) idle b.part.has) ∙ b.there);
+        there = at_longer (set s.views id l) (q ∷ []) b.seat b.view (set_else s.views id b.seat l (λ e. none_has v b.view.part.has (ap (λ (x : LogView). x.part.has) (some-injective v b.view (sym at ∙ ap (get_elem? s.views) (sym e) ∙ b.there))) idle.0 b.part.has) ∙ b.there);
         part = b.part;
       })
       (λ i x e has. ⊎_elim
       (λ a. ⊎_elim
-      (λ z. absurd (none_has v x.part.has (ap (λ (y : LogView). y.part.has) z.1) idle has))
+      (λ z. absurd (none_has v x.part.has (ap (λ (y : LogView). y.part.has) z.1) idle.0 has))
       (λ z. r.memory.held i x z.1 has)
       (at_set s.views id i l x a))
       (λ z. absurd (zero_one x.part.has (ap (λ (y : LogView). y.part.has) z) has))
@@ -131,6 +133,10 @@ module _ (t : Site) (id : ℕ) (v : LogView) (left right : View → View) (idle 
       (at_set s.views id i l x a))
       (λ z. subst (KnowsRoom t (passes_of s.views) r.freed r.out) z (comes_room t s r id v at q refl fr (subst (λ (w : LogView). w.view.pass.keeping.right ≡ 1) (sym z) one)))
       (at_snoc (set s.views id l) q x i e))
+      (λ i x f e among. ⊎_elim
+      (λ a. parked_set t s s id l (none_parked t s l idle.1) (λ j y g ne there' among'. r.memory.parked j y g there' among') i x f a among)
+      (λ z. absurd (subst (λ (w : LogView). Among f w.parked) (sym z) among))
+      (at_snoc (set s.views id l) q x i e))
     where
       zero_one : (n : ℕ) → 0 ≡ n → n ≡ 1 → ⊥
       zero_one n e one = omega arith
@@ -144,7 +150,7 @@ pub record ComesFromBoth (v x w : View) : Type 0 where
   pub cleaned : w.pass.keeping.cleaned ≡ v.pass.keeping.cleaned
   pub seen : w.pass.keeping.right ≡ 1 → (j : ℕ) → IsThere w.pass.keeping.there j → SawBehind v (slice_index w.pass.keeping.positions j)
 
-module _ (t : Site) (id other : ℕ) (v x : LogView) (both : View → View → View) (spent : View) (idle : IsIdle v) (idle' : IsIdle x) (from : ComesFromBoth v.view x.view (both v.view x.view)) (no_reading : (r : Reading) → Among r spent.pass.reading → r.number < 8 → ⊥) (no_keeper : spent.pass.keeping.right ≡ 1 → ⊥)
+module _ (t : Site) (id other : ℕ) (v x : LogView) (both : View → View → View) (spent : View) (idle : IsIdle v) (idle' : x.part.has ≡ 0) (opens : (f : FrameWords) → Among f x.view.pass.work.drafts → Among f (both v.view x.view).pass.work.drafts) (from : ComesFromBoth v.view x.view (both v.view x.view)) (no_reading : (r : Reading) → Among r spent.pass.reading → r.number < 8 → ⊥) (no_keeper : spent.pass.keeping.right ≡ 1 → ⊥)
     (lengths : weight length_of (both v.view x.view).pass + weight length_of spent.pass ≡ weight length_of v.view.pass + weight length_of x.view.pass)
     (claims : (h : Extent → ℕ) → weight (in_entry h) (both v.view x.view).pass + weight (in_entry h) spent.pass ≡ weight (in_entry h) v.view.pass + weight (in_entry h) x.view.pass)
     (frames : (h : FrameWords → ℕ) → committed_weight h (both v.view x.view).pass + committed_weight h spent.pass ≡ committed_weight h v.view.pass + committed_weight h x.view.pass) where
@@ -182,13 +188,13 @@ module _ (t : Site) (id other : ℕ) (v x : LogView) (both : View → View → V
         seat = k.seat;
         view = k.view;
         there = set_else (set s.views id b) other k.seat e0 (λ e. none_has x k.view.part.has (ap (λ (y : LogView). y.part.has) (some-injective x k.view (sym was ∙ ap (get_elem? s.views) (sym e) ∙ k.there))) idle' k.part.has)
-            ∙ set_else s.views id k.seat b (λ e. none_has v k.view.part.has (ap (λ (y : LogView). y.part.has) (some-injective v k.view (sym at ∙ ap (get_elem? s.views) (sym e) ∙ k.there))) idle k.part.has) ∙ k.there;
+            ∙ set_else s.views id k.seat b (λ e. none_has v k.view.part.has (ap (λ (y : LogView). y.part.has) (some-injective v k.view (sym at ∙ ap (get_elem? s.views) (sym e) ∙ k.there))) idle.0 k.part.has) ∙ k.there;
         part = k.part;
       })
       (λ i y e has. ⊎_elim
       (λ z. absurd (zero_one y.part.has (ap (λ (w : LogView). w.part.has) z.1) has))
       (λ z. ⊎_elim
-      (λ a. absurd (none_has v y.part.has (ap (λ (w : LogView). w.part.has) a.1) idle has))
+      (λ a. absurd (none_has v y.part.has (ap (λ (w : LogView). w.part.has) a.1) idle.0 has))
       (λ a. r.memory.held i y a.1 has)
       (at_set s.views id i b y z.1))
       (at_set (set s.views id b) other i e0 y e))
@@ -208,6 +214,10 @@ module _ (t : Site) (id other : ℕ) (v x : LogView) (both : View → View → V
       (λ a. subst (KnowsRoom t (passes_of s.views) r.freed r.out) a.1 (own s r at (subst (λ (w : LogView). w.view.pass.keeping.right ≡ 1) (sym a.1) one)))
       (λ a. r.memory.keeper i y a.1 one)
       (at_set s.views id i b y z.1))
+      (at_set (set s.views id b) other i e0 y e))
+      (λ i y f e among. ⊎_elim
+      (λ z. absurd (subst (λ (w : LogView). Among f w.parked) (sym z.1) among))
+      (λ z. parked_set t s s id b (λ g among'. let a = r.memory.parked other x g was among' in record { draft = opens g a.draft; room = a.room }) (λ j w g ne there' among'. r.memory.parked j w g there' among') i y f z.1 among)
       (at_set (set s.views id b) other i e0 y e))
     where
       zero_one : (n : ℕ) → 0 ≡ n → n ≡ 1 → ⊥

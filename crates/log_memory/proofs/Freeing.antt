@@ -34,14 +34,15 @@ use Rattle.log_rule.proofs.Sums.{all_parted, covered, covering, has_some, sum_up
 use Rattle.log_memory.specs.declared.view.LogView.{LogView}
 use Rattle.log_memory.specs.declared.view.Site.{Site}
 use Rattle.log_memory.specs.Places.{head_place, slot_of}
-use Rattle.log_memory.specs.Rule.{Board, IsBeyond, IsEdgeOf, IsHeld, IsHome, IsPartOf, IsWithReader, KnowsRoom, Lies, LogMemoryRuled, passes_of, ring, shape, tail_in, term}
+use Rattle.log_memory.specs.Rule.{Board, IsBeyond, IsEdgeOf, IsHeld, IsHome, IsParked, IsPartOf, IsWithReader, KnowsRoom, Lies, LogMemoryRuled, passes_of, ring, shape, tail_in, term}
 use Rattle.log_memory.specs.Steps.{IsPartAt, MayTakeBack, Mine, TakesBack}
 use Rattle.log_memory.proofs.Committing.{quiet_step, stepped}
 use Rattle.log_memory.proofs.Facts.{apart, bounds, done, end_low, in_row_of, in_term, long, pass_at, some_ring, tail_near, unit, whole, width}
 use Rattle.log_memory.proofs.Lifting.{quiet_look, there_low}
 use Rattle.log_memory.proofs.Places.{row_apart, row_unit}
-use Rattle.log_memory.proofs.Resting.{SameFrames, beyond_on, edge_on, held_on, passed_on, same_frames, tail_on}
+use Rattle.log_memory.proofs.Resting.{SameFrames, beyond_on, edge_on, held_on, parked_on, parked_set, passed_on, same_frames, tail_on}
 use Rattle.log_memory.proofs.Rows.{Full, TakesRow, takes_row}
+use Rattle.log_memory.proofs.OpenFrames.{open_beside, open_from, open_to}
 
 among_place : (r : Reading) (rs : List Reading) → Among r rs → (k : ℕ) × (get_elem? rs k ≡ some r)
 among_place r [] a = absurd a
@@ -263,6 +264,14 @@ module _ (t : Site) (s : Board) (r : LogMemoryRuled t s) (id : ℕ) (v : LogView
         so = h.so;
       }
 
+      -- room that is at home stays there
+      parked_here : (i : ℕ) (x : LogView) → get_elem? s.views i ≡ some x → (f : FrameWords) → Among f x.parked → IsParked t board x f
+      parked_here i x here f among = let a = r.memory.parked i x f here among in let from = open_from t s r i x here f a.draft in let to = open_to t s r i x here f a.draft in let near = tail_near t s r in let h = frame_there.here in
+          parked_on t s board x f (λ p j is unit lo hi lt home. home_on p j is unit (omega arith) (omega arith) (⊎_elim (λ below. absurd (omega arith)) (λ past. past) (open_beside t s r i x here f a.draft frame_there.frame frame_there.among p lo hi)) lt home) a
+
+      as_seat : (f : FrameWords) → IsParked t board v f → IsParked t board seat f
+      as_seat f a = record { draft = a.draft; room = a.room }
+
       pub took_back : LogMemoryRuled t board
       took_back =
           let ps = passes_of s.views in let ps' = passes_of (set s.views id seat) in let look = quiet_look s.views id v seat at (quiet_step v.view (suc v.view.steps)) in
@@ -313,6 +322,7 @@ module _ (t : Site) (s : Board) (r : LogMemoryRuled t s) (id : ℕ) (v : LogView
                   (λ e. subst (KnowsRoom t ps' r.freed size) e.1 record { freed_is = room.freed_is; out_is = refl; cleaned = room.cleaned; seen = λ j is'. beyond_on t ps ps' frames_same (r.freed + size) _ (beyond _ (seen_far j (subst (λ (l : List ℕ). IsThere l j) who_is is'))) })
                   (λ e. absurd (only i x e.0 e.1 one))
                   (at_set s.views id i seat x there);
+              parked = parked_set t s board id seat (λ f among. as_seat f (parked_here id v at f among)) (λ i x f ne there among. parked_here i x there f among);
             };
           }
         where
@@ -337,6 +347,7 @@ take_back t id m may slots s r homes at small =
         carries = tk.taken;
         part = refl;
         room = refl;
+        parked = refl;
         rests = refl;
       },
     )

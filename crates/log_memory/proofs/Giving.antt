@@ -17,15 +17,16 @@ use Rattle.log_rule.specs.Edges.{AreCommitted, IsAmong}
 use Rattle.log_memory.specs.declared.view.LogView.{LogView}
 use Rattle.log_memory.specs.declared.view.Site.{Site}
 use Rattle.log_memory.specs.Places.{head_place, slot_of}
-use Rattle.log_memory.specs.Rule.{Board, IsBeyond, IsEdgeOf, IsFree, IsHeld, IsHome, IsOut, IsRoom, IsThereAny, KnowsRoom, LogMemoryRuled, passes_of, ring, shape, tail_in, term}
+use Rattle.log_memory.specs.Rule.{Board, IsBeyond, IsEdgeOf, IsFree, IsHeld, IsHome, IsOut, IsParked, IsRoom, IsThereAny, KnowsRoom, LogMemoryRuled, passes_of, ring, shape, tail_in, term}
 use Rattle.log_memory.specs.Steps.{CarriesRange, GivesRoom, IsRoomAt, MayGiveRoom, Mine}
 use Rattle.log_memory.proofs.Committing.{quiet_step, stepped}
 use Rattle.log_memory.proofs.Facts.{apart, end_low, in_row_of, long, some_ring, tail_near, unit, whole, whole_term, width}
 use Rattle.log_memory.proofs.Freeing.{only, reader_on, room}
 use Rattle.log_memory.proofs.Lifting.{quiet_look}
 use Rattle.log_memory.proofs.Places.{head_apart, in_range, one_unit, place_is, row_apart}
-use Rattle.log_memory.proofs.Resting.{SameFrames, beyond_on, edge_on, held_on, passed_on, same_frames, tail_on}
+use Rattle.log_memory.proofs.Resting.{SameFrames, beyond_on, edge_on, held_on, parked_on, parked_set, passed_on, same_frames, tail_on}
 use Rattle.log_memory.proofs.Rows.{GivesRow, carried_behind, gives_row}
+use Rattle.log_memory.proofs.OpenFrames.{open_from, open_to}
 
 module _ (t : Site) (s : Board) (r : LogMemoryRuled t s) (id : ℕ) (m : Mine) (at : get_elem? s.views id ≡ some m.0) (may : MayGiveRoom t m) where
   knows : KnowsRoom t (passes_of s.views) r.freed r.out m.0
@@ -116,6 +117,14 @@ module _ (t : Site) (s : Board) (r : LogMemoryRuled t s) (id : ℕ) (m : Mine) (
       (λ ne. let o = some_out in let b = end_f in let n = tail_near t s r in head_else y uy (omega arith) (omega arith) ∙ r.words.rest y uy (omega arith) (omega arith) (none_inside y (omega arith) (omega arith)))))
       (λ near. let o = some_out in head_else x ux (omega arith) (lt_of_not-le near) ∙ r.words.rest x ux (omega arith) (lt_of_not-le near) none)
 
+  -- room that is at home stays there
+  parked_here : (i : ℕ) (x : LogView) → get_elem? s.views i ≡ some x → (f : FrameWords) → Among f x.parked → IsParked t board x f
+  parked_here i x here f among = let a = r.memory.parked i x f here among in let from = open_from t s r i x here f a.draft in let to = open_to t s r i x here f a.draft in let near = tail_near t s r in
+      parked_on t s board x f (λ p j is unit lo hi lt h. home_on p j is unit (omega arith) (omega arith) lt h) a
+
+  as_seat : (f : FrameWords) → IsParked t board m.0 f → IsParked t board seat f
+  as_seat f a = record { draft = a.draft; room = a.room }
+
   pub gave : LogMemoryRuled t board
   gave =
       let ps = passes_of s.views in let ps' = passes_of (set s.views id seat) in let look = quiet_look s.views id m.0 seat at (quiet_step m.0.view (suc m.0.view.steps)) in let o = some_out in
@@ -169,6 +178,7 @@ module _ (t : Site) (s : Board) (r : LogMemoryRuled t s) (id : ℕ) (m : Mine) (
               })
               (λ e. absurd (only t s r id m.0 at may.keeper i x e.0 e.1 one))
               (at_set s.views id i seat x there);
+          parked = parked_set t s board id seat (λ f among. as_seat f (parked_here id m.0 at f among)) (λ i x f ne there among. parked_here i x there f among);
         };
       }
 
@@ -179,5 +189,5 @@ give_room t id m may slots s r homes at small =
       g.act,
       g.valid,
       subst (λ (x : ℕ). LogMemoryRuled t (record { words = set s.words (head_place (ring t) x) 0; homes = homes_after s.homes m.1 g.act; views = set s.views id (seat t s r id m at may) })) (sym freed) (gave t s r id m at may),
-      record { carried = g.rest ∙ sym (carried_behind (IsRoomAt t) (slot_of (ring t) m.0.room.freed 0) (m.0.room.out / 4) may.before m.1 may.carries); part = refl; room = refl; rests = refl },
+      record { carried = g.rest ∙ sym (carried_behind (IsRoomAt t) (slot_of (ring t) m.0.room.freed 0) (m.0.room.out / 4) may.before m.1 may.carries); part = refl; room = refl; parked = refl; rests = refl },
     )

@@ -23,4 +23,4 @@ looks_here t id place r m is low idle slots s rule long at small = let g = steps
 
 -- what a store tells, whatever word was there
 pub at_any : (t : Site) (slots id : ℕ) (m : Mine) (i k : ℕ) (f : ℕ → ℕ) (then : words.Mine → words.Mine → Type 0) → Allows (LogMemoryRuled t) slots id m i f (λ n w. Rests (λ a _ c. then a c) m n w) → Allows (LogMemoryRuled t) slots id m i f (λ _ w. Rests (λ a _ c. then a c) m k w)
-at_any t slots id m i k f then go s rule long at small = let g = go s rule long at small in (g.0, g.1, g.2, g.3, record { carried = g.4.carried; part = g.4.part; room = g.4.room; told = g.4.told })
+at_any t slots id m i k f then go s rule long at small = let g = go s rule long at small in (g.0, g.1, g.2, g.3, record { carried = g.4.carried; part = g.4.part; room = g.4.room; parked = g.4.parked; told = g.4.told })

@@ -8,6 +8,7 @@ use Rattle.log_memory.proofs.Freeing.{take_back}
 use Rattle.log_memory.proofs.Giving.{give_room}
 use Rattle.log_memory.proofs.Keeping.{join, leave, raise, sweep}
 use Rattle.log_memory.proofs.Looking.{consume, give, look, reread}
+use Rattle.log_memory.proofs.Parking.{fetch, park}
 use Rattle.log_memory.proofs.Publishing.{exchange_count, exchange_next, load_count, load_limit, load_next, load_tail}
 
 pub steps_keep : StepsKeep
@@ -27,6 +28,8 @@ steps_keep = record {
   move = consume;
   take_back = take_back;
   give_room = give_room;
+  park = park;
+  fetch = fetch;
   clean_to = clean_to;
   sweep = sweep;
   join = join;

@@ -27,5 +27,8 @@ mod UnitPlaces
 mod Frees
 mod Drafted
 mod OpenRooms
+mod OpenFrames
+pub mod Parking
 pub mod ClaimRooms
 pub mod Looked
+mod Swapping

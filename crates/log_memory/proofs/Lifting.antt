@@ -31,7 +31,7 @@ use Rattle.log_memory.specs.declared.view.Site.{Site}
 use Rattle.log_memory.specs.Rule.{AreSmall, Board, IsBeyond, IsWithReader, KnowsRoom, LogMemoryRuled, passes_of, shape, stream_state, term, view_in}
 use Rattle.log_memory.specs.Steps.{IsCalm, IsIdle, IsQuiet, Mine, Rests, SawBehind, as_view}
 use Rattle.log_memory.proofs.Facts.{pass_at}
-use Rattle.log_memory.proofs.Resting.{IsStill, Leaves, rests, still}
+use Rattle.log_memory.proofs.Resting.{IsStill, Leaves, none_parked, parked_set, rests, still}
 
 -- ---- without slots there is no act
 
@@ -56,7 +56,7 @@ pub with_reader_on : (s : Board) (words : List ℕ) (id : ℕ) (v w : LogView) �
 with_reader_on s words id v w at idle p j a = record {
   seat = a.seat;
   view = a.view;
-  there = set_else s.views id a.seat w (λ e. let same : v ≡ a.view = some-injective v a.view (sym at ∙ ap (get_elem? s.views) (sym e) ∙ a.there) in let has = a.part.has in clash v.part.has a.view.part.has (ap (λ (x : LogView). x.part.has) same) has idle) ∙ a.there;
+  there = set_else s.views id a.seat w (λ e. let same : v ≡ a.view = some-injective v a.view (sym at ∙ ap (get_elem? s.views) (sym e) ∙ a.there) in let has = a.part.has in clash v.part.has a.view.part.has (ap (λ (x : LogView). x.part.has) same) has idle.0) ∙ a.there;
   part = a.part;
 }
   where
@@ -108,9 +108,9 @@ module _ (t : Site) (s : Board) (r : LogMemoryRuled t s) (id : ℕ) (v w : LogVi
       (λ e. r.memory.keeper i x e.1 one)
       (at_set s.views id i w x there)
 
-  pub leaves : IsIdle v → w.part ≡ v.part → (words stream : List ℕ) → LogRuled t.key (stream_state stream (set s.views id w)) → AreSmall stream → length words ≡ length s.words → ((i : ℕ) → i < 208 → slice_index words i ≡ slice_index stream i) → ((i : ℕ) → 208 ≤ i → slice_index words i ≡ slice_index s.words i)
+  pub leaves : IsIdle v → w.part ≡ v.part → w.parked ≡ v.parked → (words stream : List ℕ) → LogRuled t.key (stream_state stream (set s.views id w)) → AreSmall stream → length words ≡ length s.words → ((i : ℕ) → i < 208 → slice_index words i ≡ slice_index stream i) → ((i : ℕ) → 208 ≤ i → slice_index words i ≡ slice_index s.words i)
       → limit_in (slice_index words 0) + greatest_claim (shape t) * 8 < r.freed + 3 * term t → Leaves t s r words stream (set s.views id w)
-  leaves idle part words stream q small long controls heads ahead = record {
+  leaves idle part kept words stream q small long controls heads ahead = record {
     ruled = q;
     look = quiet_look s.views id v w at quiet;
     long = long;
@@ -120,11 +120,12 @@ module _ (t : Site) (s : Board) (r : LogMemoryRuled t s) (id : ℕ) (v w : LogVi
     ahead = ahead;
     with_reader = with_reader_on s words id v w at idle;
     held = λ i x there has. ⊎_elim
-        (λ e. absurd (clash w.part.has v.part.has x.part.has (ap (λ y. y.has) part) (ap (λ (y : LogView). y.part.has) e.1) has idle))
+        (λ e. absurd (clash w.part.has v.part.has x.part.has (ap (λ y. y.has) part) (ap (λ (y : LogView). y.part.has) e.1) has idle.0))
         (λ e. r.memory.held i x e.1 has)
         (at_set s.views id i w x there);
     readers = all_readers;
     keeper = all_rooms;
+    parked = parked_set t s s id w (none_parked t s w (kept ∙ idle.1)) (λ i x f ne there among. r.memory.parked i x f there among);
   }
     where
       clash : (a c d : ℕ) → a ≡ c → a ≡ d → d ≡ 1 → c ≡ 0 → ⊥
@@ -150,11 +151,11 @@ lift t slots id i m f then low idle calm go tells s r homes at small =
       w,
       keeps,
       tt,
-      rests t s r words' stream' (set s.views id w) (leaves t s r id v w at refl quiet idle refl words' stream' q' (small_on r.stream i (f (slice_index r.stream i)) low r.words.small) (length-set s.words i (f (slice_index s.words i)))
+      rests t s r words' stream' (set s.views id w) (leaves t s r id v w at refl quiet idle refl refl words' stream' q' (small_on r.stream i (f (slice_index r.stream i)) low r.words.small) (length-set s.words i (f (slice_index s.words i)))
           (λ j lt. set_both s.words r.stream i f j wide_s wide_t e (r.words.controls j lt))
           (λ j far. get_or-set_other s.words i j (f (slice_index s.words i)) 0 (λ same. omega arith))
           (still s r id v at i f low calm wide_s)),
-      record { carried = refl; part = refl; room = refl; told = subst (λ (n : ℕ). then (as_view v) n (g.0, [])) (sym e) told },
+      record { carried = refl; part = refl; room = refl; parked = refl; told = subst (λ (n : ℕ). then (as_view v) n (g.0, [])) (sym e) told },
     )
   where
     still : (s : Board) (r : LogMemoryRuled t s) (id : ℕ) (v : LogView) → get_elem? s.views id ≡ some v → (i : ℕ) (f : ℕ → ℕ) → i < 208 → IsCalm v.view i f → i < length s.words → limit_in (slice_index (set s.words i (f (slice_index s.words i))) 0) + greatest_claim (shape t) * 8 < r.freed + 3 * term t

@@ -19,7 +19,7 @@ use Rattle.log_rule.specs.Claims.Packs.{consumer_place, slot}
 use Rattle.log_rule.specs.Edges.{IsAmong, IsPlaced}
 use Rattle.log_rule.specs.Kept.{IsReader, IsThere}
 use Rattle.log_rule.specs.Readings as readings
-use Rattle.log_rule.specs.Readings.{Consumes, Has, IsConsumer, MayPass, end_of, knows_more, missed, moved_to, reading, with_consumer}
+use Rattle.log_rule.specs.Readings.{Consumes, Has, IsConsumer, IsFrameAt, MayPass, end_of, knows_more, missed, moved_to, reading, with_consumer}
 use Rattle.log_rule.specs.Table.{LogRuled}
 use Rattle.log_rule.proofs.Consumers as consumers
 use Rattle.log_rule.proofs.Known.{among_at, finds, word_there}
@@ -29,13 +29,15 @@ use Rattle.log_memory.specs.Places.{head_place, slot_of}
 use Rattle.log_memory.specs.Rule.{Board, LogMemoryRuled, passes_of, ring, shape, stream_state, tail_in, term, view_in}
 use Rattle.log_memory.specs.Steps.{Gives, IsIdle, IsQuiet, Looks, MayGive, MayReread, Mine, Rereads, Rests, TakesPart, as_view}
 use Rattle.log_memory.proofs.Committing.{quiet_step, stepped}
-use Rattle.log_memory.proofs.Facts.{bounds, done, long, mine, pass_at, tail_near}
+use Rattle.log_memory.proofs.Facts.{bounds, done, long, mine, one, pass_at, tail_near, unit}
 use Rattle.log_memory.proofs.Lifting.{leaves, lift, no_act, quiet_look, there_low}
 use Rattle.log_memory.proofs.Reading.{given, home, seat, taken, takes_it}
 use Rattle.log_memory.proofs.Resting.{rests, same_frames}
 use Rattle.log_rule.proofs.Edges.{edge_low}
 use Rattle.theory.specs.Position.{greatest_claim}
 use Rattle.theory.specs.Refusal.{limit_in}
+use Rattle.log_rule.proofs.InTerm.{frame_at}
+use Rattle.theory.specs.Bytes.{Identity}
 
 among_put : {A : Type 0} (xs : List A) (i : ℕ) (x y : A) → Among y (set xs i x) → (y ≡ x) ⊎ Among y xs
 among_put [] i x y a = inr a
@@ -124,6 +126,7 @@ look t id place r m is low idle slots s k homes at small =
       taken' (ruled_on t id place r m is low s k at i w _ g.3 seat' refl),
       record {
         room = refl;
+        parked = refl;
         told = told';
         none = λ z. absurd (clash n (slice_index s.words h) pos e z);
         found = λ pos'. subst (λ (y : FrameWords). TakesPart t r.number y m (seat', (slot_of (ring t) f.frame.start r.number, home'.access) ∷ m.1)) (found_same v place r w is n (slice_index s.words h) e told' told pos pos') its;
@@ -134,10 +137,10 @@ look t id place r m is low idle slots s k homes at small =
       keeps,
       tt,
       rests t s k (set s.words h (slice_index s.words h)) k.stream (set s.views id (record v { view = w }))
-          (leaves t s k id v (record v { view = w }) at refl quiet idle refl (set s.words h (slice_index s.words h)) k.stream (ruled_on t id place r m is low s k at i w _ g.3 (record v { view = w }) refl) k.words.small (ap length same)
+          (leaves t s k id v (record v { view = w }) at refl quiet idle refl refl (set s.words h (slice_index s.words h)) k.stream (ruled_on t id place r m is low s k at i w _ g.3 (record v { view = w }) refl) k.words.small (ap length same)
           (λ j lt. ap (λ (l : List ℕ). slice_index l j) same ∙ k.words.controls j lt) (λ j lt. ap (λ (l : List ℕ). slice_index l j) same)
           (subst (λ (l : List ℕ). limit_in (slice_index l 0) + greatest_claim (shape t) * 8 < k.freed + 3 * term t) (sym same) k.memory.ahead)),
-      record { room = refl; told = told'; none = λ _. (refl, refl); found = λ pos. absurd (clash' n (slice_index s.words h) zero' e pos) },
+      record { room = refl; parked = refl; told = told'; none = λ _. (refl, refl); found = λ pos. absurd (clash' n (slice_index s.words h) zero' e pos) },
     ))
   where
     zero_is : (n : ℕ) → n < 1 → n ≡ 0
@@ -186,8 +189,11 @@ reread t id place r f m may idle slots s k homes at small =
       taken t s k f among from id v at idle r.number may.low w quiet r its refl r its refl near (set s.words h (slice_index s.words h)) same (stepped t s k id v seat' at refl),
       record {
         room = refl;
+        parked = refl;
         rests = (refl, refl, record { sure = refl; leads = λ one. refl }, refl);
         word = k.words.heads f among (omega arith);
+        here = subst (λ (x : Identity). IsFrameAt x f.start f) (sym shape) (frame_at (bounds t k.stream s.views k.ruled) k.stream (passes_of s.views) k.ruled.ruled f.start (unit t k.stream s.views k.ruled f among) f among refl);
+        only = λ g has at_g. one t k.stream s.views k.ruled g f (consumers.had t.key 0 id (as_view v) place r may.is (stream_state k.stream s.views) k.ruled (at_map view_in s.views id v at) g has) among at_g;
         takes = takes_it t s k f among from id v at idle r.number may.low w quiet r its refl r its refl near (set s.words h (slice_index s.words h)) same m.1;
       },
     )
@@ -208,7 +214,7 @@ give t id i r f m may slots s k homes at small =
       gives,
       tt,
       subst (λ (c : List (ℕ × Access)). LogMemoryRuled t (record { words = set s.words i (slice_index s.words i); homes = put_back s.homes c; views = set s.views id (record v { view = record v.view { steps = suc v.view.steps }; part = record v.part { has = 0 } }) })) (sym may.carries) after,
-      record { room = refl; part = refl; rests = refl; carried = ap rest may.carries ∙ sym (ap (drop 1) may.carries ∙ none_dropped may.before) },
+      record { room = refl; parked = refl; part = refl; rests = refl; carried = ap rest may.carries ∙ sym (ap (drop 1) may.carries ∙ none_dropped may.before) },
     )
   where
     none_dropped : (l : List (ℕ × Access)) → drop 0 l ≡ l

@@ -6,11 +6,11 @@ use Rattle.theory.specs.Placed.{Among}
 use Rattle.publication.specs.declared.pass.FrameWords.{FrameWords}
 use Rattle.region.specs.declared.access.Access.{Access}
 use Rattle.log_memory.specs.declared.view.Site.{Site}
-use Rattle.log_memory.specs.Open.{AreApart, HoldsRooms, front_of, others_of, slots_in}
+use Rattle.log_memory.specs.Open.{HoldsRooms, front_of, others_of, slots_in}
 use Rattle.log_memory.specs.Order.{rotated}
 use Rattle.log_memory.specs.Places.{slot_of}
 use Rattle.log_memory.specs.Rule.{ring}
-use Rattle.log_memory.specs.Steps.{Carries, IsRoomAt}
+use Rattle.log_memory.specs.Steps.{AreApart, Carries, IsRoomAt}
 use Rattle.log_memory.proofs.Rounds.{carries_more, rotated_all}
 
 -- a row, and what it is carried over

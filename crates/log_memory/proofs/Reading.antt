@@ -24,14 +24,15 @@ use Rattle.log_memory.specs.declared.view.LogView.{LogView}
 use Rattle.log_memory.specs.declared.view.Part.{Part}
 use Rattle.log_memory.specs.declared.view.Site.{Site}
 use Rattle.log_memory.specs.Places.{slot_of}
-use Rattle.log_memory.specs.Rule.{Board, IsHeld, IsHome, IsPart, IsPartOf, IsWithReader, LogMemoryRuled, passes_of, ring, shape, stream_state, tail_in, term}
+use Rattle.log_memory.specs.Rule.{Board, IsHeld, IsHome, IsParked, IsPart, IsPartOf, IsWithReader, LogMemoryRuled, passes_of, ring, shape, stream_state, tail_in, term}
 use Rattle.log_memory.specs.Steps.{IsIdle, IsQuiet, TakesPart}
 use Rattle.log_memory.proofs.Committing.{quiet_step, stepped}
-use Rattle.log_memory.proofs.Facts.{apart, end_low, one, pass_at, some_ring, start_low, tail_near, unit, width}
+use Rattle.log_memory.proofs.Facts.{long, apart, end_low, long, one, pass_at, some_ring, start_low, tail_near, unit, width}
 use Rattle.log_memory.proofs.Lifting.{all_readers, all_rooms, quiet_look, there_low, with_reader_on}
 use Rattle.log_memory.proofs.Places.{one_unit, slot_low, slots_apart}
-use Rattle.log_memory.proofs.Resting.{moves}
+use Rattle.log_memory.proofs.Resting.{moves, none_parked, parked_on, parked_set}
 use Rattle.log_memory.proofs.Rows.{set_long}
+use Rattle.log_memory.proofs.OpenFrames.{open_beside, open_from, open_to}
 
 -- a consumer of a pass counts for its number
 counts : (rs : List Reading) (r : Reading) (j : ℕ) → Among r rs → r.number ≡ j → 1 ≤ total (reads_as j) rs
@@ -63,6 +64,13 @@ module _ (t : Site) (s : Board) (r : LogMemoryRuled t s) (f : FrameWords) (among
       let lf = start_low t r.stream s.views r.ruled f among in
       let same : x ≡ f.start = one_unit (ring t) r.freed x f.start ux unit_f (omega arith) (omega arith) (omega arith) (omega arith) a.0 in omega arith
 
+  -- nor a unit of an open frame
+  not_open : (i : ℕ) (y : LogView) → get_elem? s.views i ≡ some y → (g : FrameWords) → Among g y.view.pass.work.drafts → (x j k : ℕ) → j < 8 → k < 8 → x % 32 ≡ 0 → g.start ≤ x → x < end_of g → slot_of (ring t) x k ≢ slot_of (ring t) f.start j
+  not_open i y at g draft x j k lj lk ux lo hi e =
+      let a = slots_apart (ring t) x f.start k j lk lj e in let w = width t r.stream s.views r.ruled in let near = tail_near t s r in
+      let lf = start_low t r.stream s.views r.ruled f among in let lw = long t r.stream s.views r.ruled f among in let above_g = open_from t s r i y at g draft in let to = open_to t s r i y at g draft in let side = open_beside t s r i y at g draft f among x lo hi in
+      let same : x ≡ f.start = one_unit (ring t) r.freed x f.start ux unit_f (omega arith) (omega arith) (omega arith) (omega arith) a.0 in ⊎_elim (λ below. omega arith) (λ past. omega arith) side
+
   slot_there : (j : ℕ) → j < 8 → slot_of (ring t) f.start j < length s.homes
   slot_there j lt = let a = slot_low (ring t) f.start j (some_ring t r.stream s.views r.ruled) lt in let c = r.memory.shelves in let x : ℕ = slot_of (ring t) f.start j in omega arith
 
@@ -79,7 +87,7 @@ module _ (t : Site) (s : Board) (r : LogMemoryRuled t s) (f : FrameWords) (among
     -- nobody else is this consumer
     alone : IsWithReader s f.start j → ⊥
     alone b = dite (ℕ_discrete b.seat id)
-        (λ e. let same' : v ≡ b.view = some-injective v b.view (sym at ∙ ap (get_elem? s.views) (sym e) ∙ b.there) in let has = b.part.has in clash v.part.has b.view.part.has (ap (λ (x : LogView). x.part.has) same') has idle)
+        (λ e. let same' : v ≡ b.view = some-injective v b.view (sym at ∙ ap (get_elem? s.views) (sym e) ∙ b.there) in let has = b.part.has in clash v.part.has b.view.part.has (ap (λ (x : LogView). x.part.has) same') has idle.0)
         (λ ne. let h = r.memory.held b.seat b.view b.there b.part.has in let two = both_at (readers_of j) (passes_of s.views) id b.seat v.view.pass b.view.view.pass ne (pass_at s.views id v at) (pass_at s.views b.seat b.view b.there) in
         let mine1 = counts v.view.pass.reading before j mine number in let mine2 = counts b.view.view.pass.reading h.reading j h.mine (h.number ∙ b.part.number) in let most = r.ruled.kept.single j lj in let flag = r.ruled.kept.flags j in
         many (readers_of j v.view.pass) (readers_of j b.view.view.pass) (total (readers_of j) (passes_of s.views)) (slice_index r.ruled.there j) mine1 mine2 two most flag)
@@ -134,6 +142,8 @@ module _ (t : Site) (s : Board) (r : LogMemoryRuled t s) (f : FrameWords) (among
           (at_set s.views id i seat x here);
       readers = all_readers t s r id v seat at refl quiet;
       keeper = all_rooms t s r id v seat at refl quiet;
+      parked = parked_set t s board id seat (none_parked t board seat idle.1) (λ i x g ne here among'. let a = r.memory.parked i x g here among' in
+          parked_on t s board x g (λ p k is unit lo hi lk h. else_home (slot_of (ring t) p k) is (not_open i x here g a.draft p j k lj lk unit lo hi) h) a);
     }
 
     pub takes_it : (carried : List (ℕ × Access)) → TakesPart t j f (v, carried) (seat, (slot_of (ring t) f.start j, home.access) ∷ carried)
@@ -172,6 +182,14 @@ module _ (t : Site) (s : Board) (r : LogMemoryRuled t s) (f : FrameWords) (among
       with_else : (g k : ℕ) (b : IsWithReader s g k) → b.seat ≢ id → IsWithReader (back_board words) g k
       with_else g k b ne = record { seat = b.seat; view = b.view; there = set_else s.views id b.seat back_seat ne ∙ b.there; part = b.part }
 
+      -- room that is at home stays there
+      parked_here : (i : ℕ) (x : LogView) → get_elem? s.views i ≡ some x → (g : FrameWords) → Among g x.parked → IsParked t (back_board words) x g
+      parked_here i x here' g among' = let a = r.memory.parked i x g here' among' in
+          parked_on t s (back_board words) x g (λ p k is' unit lo hi lk h. back_else (slot_of (ring t) p k) is' (not_open i x here' g a.draft p j k lj lk unit lo hi) h) a
+
+      as_seat : (g : FrameWords) → IsParked t (back_board words) v g → IsParked t (back_board words) back_seat g
+      as_seat g a = record { draft = a.draft; room = a.room }
+
       pub given : LogMemoryRuled t (back_board words)
       given = moves t s r words r.stream back_homes (set s.views id back_seat) record {
         ruled = stepped t s r id v back_seat at refl;
@@ -204,6 +222,7 @@ module _ (t : Site) (s : Board) (r : LogMemoryRuled t s) (f : FrameWords) (among
             (at_set s.views id i back_seat x there');
         readers = all_readers t s r id v back_seat at refl quiet_back;
         keeper = all_rooms t s r id v back_seat at refl quiet_back;
+        parked = parked_set t s (back_board words) id back_seat (λ g among'. as_seat g (parked_here id v at g among')) (λ i x g ne here' among'. parked_here i x here' g among');
       }
         where
           clash : (a : ℕ) → 0 ≡ a → a ≡ 1 → ⊥

@@ -1,5 +1,5 @@
 -- A step that changes neither what is claimed nor what is committed, and moves no memory, keeps the rule.
-use Rattle.std.proofs.Common.{◌≡◌, ℕ, ◌+◌, ◌*◌, ◌/◌, ◌%◌, ◌<◌, ◌≤◌, inl, inr, ⊎_elim, List, length, sym, refl, ap, ◌∙◌, subst, arith}
+use Rattle.std.proofs.Common.{◌≡◌, ◌≢◌, ℕ, ◌+◌, ◌*◌, ◌/◌, ◌%◌, ◌<◌, ◌≤◌, inl, inr, ⊎_elim, List, [], length, set, sym, refl, ap, ◌∙◌, subst, arith}
 use mathlib.Core.Option.{Option, some}
 use lib.ListN.{get_elem?}
 use Rattle.std.specs.Prelude.{slice_index}
@@ -11,6 +11,8 @@ use Rattle.publication.specs.declared.pass.FrameWords.{FrameWords}
 use Rattle.publication.specs.declared.pass.Pass.{Pass}
 use Rattle.publication.specs.declared.pass.Reading.{Reading}
 use Rattle.publication.specs.Steps.{Extent, extent_of}
+use Rattle.atomic_table.proofs.Lists.{at_set}
+use Rattle.log_rule.specs.Readings.{end_of}
 use Rattle.log_rule.specs.Claims.Events.{IsLook, SameCommitted, committed_weight}
 use Rattle.log_rule.specs.Claims.Rule.{weight}
 use Rattle.log_rule.specs.Claims.Sums.{total}
@@ -19,8 +21,8 @@ use Rattle.log_rule.specs.Table.{LogRuled}
 use Rattle.region.specs.declared.access.Access.{Access}
 use Rattle.log_memory.specs.declared.view.LogView.{LogView}
 use Rattle.log_memory.specs.declared.view.Site.{Site}
-use Rattle.log_memory.specs.Places.{head_place}
-use Rattle.log_memory.specs.Rule.{AreSmall, Board, IsBeyond, IsEdgeOf, IsFree, IsHeld, IsHome, IsOut, IsWithReader, KnowsRoom, Lies, LogMemoryRuled, Rounds, passes_of, ring, shape, stream_state, tail_in, term}
+use Rattle.log_memory.specs.Places.{head_place, slot_of}
+use Rattle.log_memory.specs.Rule.{AreSmall, Board, IsBeyond, IsEdgeOf, IsFree, IsHeld, IsHome, IsOut, IsParked, IsWithReader, KnowsRoom, Lies, LogMemoryRuled, Rounds, passes_of, ring, shape, stream_state, tail_in, term}
 
 -- ---- the same frames are committed
 
@@ -73,6 +75,26 @@ module _ (t : Site) (ps ps' : List Pass) (l : IsStill ps ps') where
   pub passed_on : (p : ℕ) → AreCommitted ps p → AreCommitted ps' p
   passed_on p same = l.claimed (begins_below p) ∙ same ∙ sym (l.committed (λ f. begins_below p (extent_of f)))
 
+-- ---- room that is at home
+
+pub parked_on : (t : Site) (s s' : Board) (v : LogView) (f : FrameWords) → ((p j : ℕ) (is : Access → Type 0) → p % 32 ≡ 0 → f.start ≤ p → p < end_of f → j < 8 → IsHome s (slot_of (ring t) p j) is → IsHome s' (slot_of (ring t) p j) is) → IsParked t s v f → IsParked t s' v f
+parked_on t s s' v f on a = record {
+  draft = a.draft;
+  room = λ p unit lo hi. (let g = a.room p unit lo hi in record { room = on p 0 _ unit lo hi (omega arith) g.room; others = λ j lt. on p j _ unit lo hi lt (g.others j lt) });
+}
+
+-- where one seat's view changes
+pub parked_set : (t : Site) (s s' : Board) (id : ℕ) (w : LogView) → ((f : FrameWords) → Among f w.parked → IsParked t s' w f) → ((i : ℕ) (x : LogView) (f : FrameWords) → i ≢ id → get_elem? s.views i ≡ some x → Among f x.parked → IsParked t s' x f)
+    → (i : ℕ) (x : LogView) (f : FrameWords) → get_elem? (set s.views id w) i ≡ some x → Among f x.parked → IsParked t s' x f
+parked_set t s s' id w own others i x f there among = ⊎_elim
+    (λ e. subst (λ (y : LogView). IsParked t s' y f) e.1 (own f (subst (λ (y : LogView). Among f y.parked) (sym e.1) among)))
+    (λ e. others i x f e.0 e.1 among)
+    (at_set s.views id i w x there)
+
+-- a seat with no such room
+pub none_parked : (t : Site) (s : Board) (w : LogView) → w.parked ≡ [] → (f : FrameWords) → Among f w.parked → IsParked t s w f
+none_parked t s w e f among = absurd (subst (Among f) e among)
+
 -- ---- where slots stay, or move
 
 -- what a step leaves: the words of units, where frames and room lie, where consumers stand, and what the keeper knows
@@ -90,6 +112,7 @@ pub record Moves (t : Site) (s : Board) (r : LogMemoryRuled t s) (words stream :
   pub held : (i : ℕ) (v : LogView) → get_elem? views i ≡ some v → v.part.has ≡ 1 → IsHeld t (passes_of s.views) r.rounds v
   pub readers : (i : ℕ) (v : LogView) (x : Reading) → get_elem? views i ≡ some v → Among x v.view.pass.reading → x.number < 8 → IsBeyond t (passes_of s.views) (r.freed + r.out) x.position
   pub keeper : (i : ℕ) (v : LogView) → get_elem? views i ≡ some v → v.view.pass.keeping.right ≡ 1 → KnowsRoom t (passes_of s.views) r.freed r.out v
+  pub parked : (i : ℕ) (v : LogView) (f : FrameWords) → get_elem? views i ≡ some v → Among f v.parked → IsParked t (record { words = words; homes = homes; views = views }) v f
 
 pub moves : (t : Site) (s : Board) (r : LogMemoryRuled t s) (words stream : List ℕ) (homes : List (Option Access)) (views : List LogView) → Moves t s r words stream homes views → LogMemoryRuled t record { words = words; homes = homes; views = views }
 moves t s r words stream homes views l =
@@ -118,6 +141,7 @@ moves t s r words stream homes views l =
         held = λ i v at has. held_on t ps ps' same r.rounds v (l.held i v at has);
         readers = λ i v x at among low. beyond_on t ps ps' same (r.freed + r.out) x.position (l.readers i v x at among low);
         keeper = λ i v at one. knows_on t ps ps' same r.freed r.out v (l.keeper i v at one);
+        parked = l.parked;
       };
     }
 
@@ -138,6 +162,7 @@ pub record Leaves (t : Site) (s : Board) (r : LogMemoryRuled t s) (words stream 
   pub held : (i : ℕ) (v : LogView) → get_elem? views i ≡ some v → v.part.has ≡ 1 → IsHeld t (passes_of s.views) r.rounds v
   pub readers : (i : ℕ) (v : LogView) (x : Reading) → get_elem? views i ≡ some v → Among x v.view.pass.reading → x.number < 8 → IsBeyond t (passes_of s.views) (r.freed + r.out) x.position
   pub keeper : (i : ℕ) (v : LogView) → get_elem? views i ≡ some v → v.view.pass.keeping.right ≡ 1 → KnowsRoom t (passes_of s.views) r.freed r.out v
+  pub parked : (i : ℕ) (v : LogView) (f : FrameWords) → get_elem? views i ≡ some v → Among f v.parked → IsParked t s v f
 
 pub rests : (t : Site) (s : Board) (r : LogMemoryRuled t s) (words stream : List ℕ) (views : List LogView) → Leaves t s r words stream views → LogMemoryRuled t record { words = words; homes = s.homes; views = views }
 rests t s r words stream views l = moves t s r words stream s.homes views record {
@@ -157,4 +182,5 @@ rests t s r words stream views l = moves t s r words stream s.homes views record
   held = l.held;
   readers = l.readers;
   keeper = l.keeper;
+  parked = λ i v f at among. parked_on t s (record { words = words; homes = s.homes; views = views }) v f (λ p j is unit lo hi lt h. home_on s words views _ is h) (l.parked i v f at among);
 }

@@ -23,6 +23,7 @@ use Rattle.log_rule.specs.Meetings.{Steadies, Steady, back_left, back_right, mee
 use Rattle.log_rule.specs.Readings.{reading}
 use Rattle.log_rule.specs.Shares.{Weighs}
 use Rattle.log_rule.specs.Table.{first_reading, keeper_left, keeper_right, knowledge_right, knows_all, news_left, news_right, other_readings, reader_alone, reader_left, reader_right, returned_seat, told_seat}
+use Rattle.log_memory.specs.Lifted.{lifted_left, lifted_right, lowered}
 use Rattle.log_rule.proofs.Claimed.Memories.{maps_append}
 use Rattle.log_rule.proofs.Claimed.Totals.{total_append}
 use Rattle.log_rule.proofs.Dealing as dealing
@@ -31,6 +32,7 @@ use Rattle.log_rule.proofs.Handing as handing
 use Rattle.log_rule.proofs.Joining as joining
 use Rattle.log_rule.proofs.Meetings as meetings
 use Rattle.log_rule.proofs.Showing as showings
+use Rattle.log_memory.proofs.Swapping as swapping
 use Rattle.log_memory.specs.declared.view.LogView.{LogView}
 use Rattle.log_memory.specs.declared.view.Site.{Site}
 use Rattle.log_memory.specs.Law.{Keeps, SeatsKeep}
@@ -119,6 +121,9 @@ module _ (t : Site) (id : ℕ) (v : LogView) (idle : IsIdle v) where
       (λ h. sym (ap (λ (x : Pass). committed_weight h x) is ∙ total_append h p.work.frames q.work.frames))
       (meetings.parts_again t.key id v.view k p q is sp sq off off' able more same from none)
 
+  pub lift_pass : Splits (LogMemoryRuled t) id v (viewing lifted_left v) (dealt_with lifted_right v)
+  lift_pass = splits t id v lifted_left lifted_right idle (comes_reading v.view (lifted_left v.view) (λ r a low. absurd a) refl) (comes_as v.view (lifted_right v.view) (λ r a low. a) refl) (λ h. none_plus (weight h v.view.pass)) (λ h. none_plus (committed_weight h v.view.pass)) (swapping.lifts t.key id v.view)
+
 -- ---- and joined
 
 -- who takes in the other keeps as before
@@ -149,38 +154,58 @@ module _ (t : Site) (id other : ℕ) (v x : LogView) (idle : IsIdle v) (idle' : 
   spent = spent_seat t.key.identity t.key.start
 
   pub tell : x.view.pass ≡ record (newcomer t.key.identity t.key.start 0 0) { reading = x.view.pass.reading } → Joins (LogMemoryRuled t) id v other x (seats.joining told_seat v x) (spent_with spent)
-  tell new = joins t id other v x told_seat spent idle idle' (keeps_as v.view x.view (told_seat v.view x.view) (λ r a low. inl (told_behind v.view _ v.view.pass.reading r (λ y b. b) a low)) refl) (λ r a low. a) (λ one. one_none 0 refl one)
+  tell new = joins t id other v x told_seat spent idle idle'.0 (λ f a. absurd (subst (Among f) (ap (λ (p : Pass). p.work.drafts) new) a)) (keeps_as v.view x.view (told_seat v.view x.view) (λ r a low. inl (told_behind v.view _ v.view.pass.reading r (λ y b. b) a low)) refl) (λ r a low. a) (λ one. one_none 0 refl one)
       (ap (λ (p : Pass). weight length_of v.view.pass + weight length_of p) (sym new)) (λ h. ap (λ (p : Pass). weight (in_entry h) v.view.pass + weight (in_entry h) p) (sym new)) (λ h. ap (λ (p : Pass). committed_weight h v.view.pass + committed_weight h p) (sym new))
       (dealing.tells t.key id other v.view x.view new)
 
   pub return : (c : Reading) → x.view.pass ≡ reader_alone t.key.identity t.key.start c → Joins (LogMemoryRuled t) id v other x (seats.joining returned_seat v x) (spent_with spent)
-  return c only = joins t id other v x returned_seat spent idle idle'
+  return c only = joins t id other v x returned_seat spent idle idle'.0 (λ f a. absurd (subst (Among f) (ap (λ (p : Pass). p.work.drafts) only) a))
       (keeps_as v.view x.view (returned_seat v.view x.view) (λ r a low. ⊎_elim (λ b. inr (mine_behind x.view r b low)) (λ b. inl (mine_behind v.view r b low)) (among_cases r x.view.pass.reading v.view.pass.reading a)) refl)
       (λ r a low. a) (λ one. one_none 0 refl one)
       (ap (λ (p : Pass). weight length_of v.view.pass + weight length_of p) (sym only)) (λ h. ap (λ (p : Pass). weight (in_entry h) v.view.pass + weight (in_entry h) p) (sym only)) (λ h. ap (λ (p : Pass). committed_weight h v.view.pass + committed_weight h p) (sym only))
       (joining.returns t.key id other v.view x.view c only)
 
   pub gather : v.view.pass.right.armed ≡ 0 → x.view.pass.right.armed ≡ 0 → 0 < v.view.pass.right.parts → Joins (LogMemoryRuled t) id v other x (seats.joining both_seats v x) (spent_with spent)
-  gather off off' able = joins t id other v x both_seats spent idle idle' (keeps_as v.view x.view (both_seats v.view x.view) (λ r a low. inl (mine_behind v.view r a low)) refl) (λ r a low. a) (λ one. one_none 0 refl one)
+  gather off off' able = joins t id other v x both_seats spent idle idle'.0 (λ f a. among_right f v.view.pass.work.drafts x.view.pass.work.drafts a) (keeps_as v.view x.view (both_seats v.view x.view) (λ r a low. inl (mine_behind v.view r a low)) refl) (λ r a low. a) (λ one. one_none 0 refl one)
       (gathered length_of v.view.pass.right.claims x.view.pass.right.claims) (λ h. gathered (in_entry h) v.view.pass.right.claims x.view.pass.right.claims)
       (λ h. plus_none (total h (v.view.pass.work.frames ++ x.view.pass.work.frames)) ∙ total_append h v.view.pass.work.frames x.view.pass.work.frames)
       (gathering.gathers t.key id other v.view x.view off off' able)
 
-  pub hand_over : v.view.pass.number < 8 → (v.view.pass.right.parts < 1024 → Among v.view.pass.number v.view.pass.right.numbers) → v.view.pass.right.armed ≡ 0 → x.view.pass.right.armed ≡ 0 → 0 < v.view.pass.right.parts → Joins (LogMemoryRuled t) id v other x (seats.joining handing_seats v x) (spent_with spent)
-  hand_over low mine off off' able = let n : ℕ = v.view.pass.number in let cs = v.view.pass.right.claims in let ds = x.view.pass.right.claims in
-      joins t id other v x handing_seats spent idle idle' (keeps_as v.view x.view (handing_seats v.view x.view) (λ r a lt. inl (mine_behind v.view r a lt)) refl) (λ r a lt. a) (λ one. one_none 0 refl one)
-      (gathered length_of cs (map (owned_by n) ds) ∙ ap (λ (k : ℕ). total length_of (map entry_of cs) + k) (owned_same length_of n ds (λ c. refl)))
-      (λ h. gathered (in_entry h) cs (map (owned_by n) ds) ∙ ap (λ (k : ℕ). total (in_entry h) (map entry_of cs) + k) (owned_same (in_entry h) n ds (λ c. refl)))
-      (λ h. plus_none (total h (v.view.pass.work.frames ++ x.view.pass.work.frames)) ∙ total_append h v.view.pass.work.frames x.view.pass.work.frames)
-      (handing.hands_over t.key id other v.view x.view low mine off off' able)
-
   pub meet : v.view.pass.right.armed ≡ 0 → x.view.pass.right.armed ≡ 0 → 0 < v.view.pass.right.parts → Joins (LogMemoryRuled t) id v other x (seats.joining meeting_seats v x) (spent_with spent)
-  meet off off' able = joins t id other v x meeting_seats spent idle idle'
+  meet off off' able = joins t id other v x meeting_seats spent idle idle'.0 (λ f a. among_right f v.view.pass.work.drafts x.view.pass.work.drafts a)
       (keeps_as v.view x.view (meeting_seats v.view x.view) (λ r a low. ⊎_elim (λ b. inl (mine_behind v.view r b low)) (λ b. inr (mine_behind x.view r b low)) (among_cases r v.view.pass.reading x.view.pass.reading a)) refl)
       (λ r a low. a) (λ one. one_none 0 refl one)
       (gathered length_of v.view.pass.right.claims x.view.pass.right.claims) (λ h. gathered (in_entry h) v.view.pass.right.claims x.view.pass.right.claims)
       (λ h. plus_none (total h (v.view.pass.work.frames ++ x.view.pass.work.frames)) ∙ total_append h v.view.pass.work.frames x.view.pass.work.frames)
       (meetings.meets t.key id other v.view x.view off off' able)
+
+-- a pass comes back to the seat where its room is
+module _ (t : Site) (id other : ℕ) (v x : LogView) (idle : IsIdle v) (idle' : IsIdle x) (none : v.view.pass ≡ newcomer t.key.identity t.key.start 0 0) (plain : x.view.pass.keeping ≡ no_keeping) where
+  comes_back : ComesFromBoth v.view x.view (lowered v.view x.view)
+  comes_back = record {
+    readings = λ r a low. inr (mine_behind x.view r a low);
+    keeper = λ one. absurd (one_none x.view.pass.keeping.right (ap (λ (k : Keeping). k.right) plain) one);
+    cleaned = ap (λ (k : Keeping). k.cleaned) plain ∙ sym (ap (λ (p : Pass). p.keeping.cleaned) none);
+    seen = λ one. absurd (one_none x.view.pass.keeping.right (ap (λ (k : Keeping). k.right) plain) one);
+  }
+
+  pub lower_pass : Joins (LogMemoryRuled t) id v other x (seats.joining lowered v x) (spent_with (spent_seat t.key.identity t.key.start))
+  lower_pass = joins t id other v x lowered (spent_seat t.key.identity t.key.start) idle idle'.0 (λ f a. a) comes_back (λ r a low. a) (λ one. one_none 0 refl one)
+      (first_none (weight length_of x.view.pass) (weight length_of v.view.pass) (ap (λ (p : Pass). weight length_of p) none)) (λ h. first_none (weight (in_entry h) x.view.pass) (weight (in_entry h) v.view.pass) (ap (λ (p : Pass). weight (in_entry h) p) none))
+      (λ h. first_none (committed_weight h x.view.pass) (committed_weight h v.view.pass) (ap (λ (p : Pass). committed_weight h p) none)) (swapping.lowers t.key id other v.view x.view none)
+    where
+      first_none : (a c : ℕ) → c ≡ 0 → a + 0 ≡ c + a
+      first_none a c e = omega arith
+
+-- whose room may be at home
+module _ (t : Site) (id other : ℕ) (v x : LogView) (idle : IsIdle v) (idle' : x.part.has ≡ 0) where
+  pub hand_over : v.view.pass.number < 8 → (v.view.pass.right.parts < 1024 → Among v.view.pass.number v.view.pass.right.numbers) → v.view.pass.right.armed ≡ 0 → x.view.pass.right.armed ≡ 0 → 0 < v.view.pass.right.parts → Joins (LogMemoryRuled t) id v other x (seats.joining handing_seats v x) (spent_with (spent_seat t.key.identity t.key.start))
+  hand_over low mine off off' able = let n : ℕ = v.view.pass.number in let cs = v.view.pass.right.claims in let ds = x.view.pass.right.claims in
+      joins t id other v x handing_seats (spent_seat t.key.identity t.key.start) idle idle' (λ f a. among_right f v.view.pass.work.drafts x.view.pass.work.drafts a) (keeps_as v.view x.view (handing_seats v.view x.view) (λ r a lt. inl (mine_behind v.view r a lt)) refl) (λ r a lt. a) (λ one. one_none 0 refl one)
+      (gathered length_of cs (map (owned_by n) ds) ∙ ap (λ (k : ℕ). total length_of (map entry_of cs) + k) (owned_same length_of n ds (λ c. refl)))
+      (λ h. gathered (in_entry h) cs (map (owned_by n) ds) ∙ ap (λ (k : ℕ). total (in_entry h) (map entry_of cs) + k) (owned_same (in_entry h) n ds (λ c. refl)))
+      (λ h. plus_none (total h (v.view.pass.work.frames ++ x.view.pass.work.frames)) ∙ total_append h v.view.pass.work.frames x.view.pass.work.frames)
+      (handing.hands_over t.key id other v.view x.view low mine off off' able)
 
 -- ---- loads that tell a pass of itself
 
@@ -209,6 +234,8 @@ seats_keep = record {
   news = news;
   knowledge = knowledge;
   part_again = part_again;
+  lift = lift_pass;
+  lower = lower_pass;
   tell = tell;
   return = return;
   gather = gather;

@@ -51,6 +51,7 @@ pub record StoresFrame (d : Draft) (behind : List (ℕ × Access)) (m m' : Mine)
   pub carried : m'.1 ≡ behind
   pub part : m'.0.part ≡ m.0.part
   pub room : m'.0.room ≡ m.0.room
+  pub parked : m'.0.parked ≡ m.0.parked
   pub steps : m'.0.view.steps ≡ suc m.0.view.steps
   pub learns : LearnsControls [] m.0.view m'.0.view
   pub fills : (front : List FrameWords) (cut : ℕ) (others : List FrameWords) → 0 < cut → m.0.view.pass.work.drafts ≡ front ++ blank d.start cut ∷ others → m'.0.view.pass ≡ with_work (m.0.view.pass.work.frames ++ frame d.start cut (words_of d) ∷ []) (front ++ others) m.0.view.pass

@@ -1,6 +1,8 @@
 -- Frames in memory: read by one who has a part, or taken back.
-use Rattle.std.specs.Prelude.{◌≡◌, ℕ, suc, max, ◌-◌, ◌+◌, ◌*◌, ◌/◌, ◌%◌, ◌^◌, ◌≤◌, List, [], ◌∷◌, drop, length, take}
+use Rattle.std.specs.Prelude.{◌≡◌, ℕ, suc, max, ◌-◌, ◌+◌, ◌*◌, ◌/◌, ◌%◌, ◌^◌, ◌<◌, ◌≤◌, List, [], ◌∷◌, drop, length, take}
+use Rattle.std.specs.List.{AllByRecursion}
 use Rattle.atomic_table.specs.Table.{rest}
+use Rattle.theory.specs.Bytes.{Identity}
 use Rattle.publication.specs.declared.pass.FrameWords.{FrameWords}
 use Rattle.publication.specs.declared.pass.Reading.{Reading}
 use Rattle.frame_words.specs.Contents.{bytes_in}
@@ -9,6 +11,7 @@ use Rattle.region.specs.declared.access.WriteAccess.{WriteAccess}
 use Rattle.publication.specs.Steps.{term_of}
 use Rattle.log_rule.specs.Claims.Memory.{IsCommittedFrame}
 use Rattle.log_rule.specs.Keepings.{least_there}
+use Rattle.log_rule.specs.Readings.{end_of}
 use Rattle.log_memory.specs.declared.view.Site.{Site}
 use Rattle.log_memory.specs.Places.{slot_of}
 use Rattle.log_memory.specs.Rule.{IsPart, ring}
@@ -55,6 +58,7 @@ pub record TakesFrame (t : Site) (m : Mine) (bytes : ℕ) (run : WriteAccess) (m
   pub row : Carries IsAnything (slot_of (ring t) m.0.room.freed 0) (8 * (bytes / 32)) [] m'.1
   pub part : m'.0.part ≡ m.0.part
   pub room : m'.0.room ≡ record { freed = m.0.room.freed; out = bytes }
+  pub parked : m'.0.parked ≡ m.0.parked
   pub rests : m'.0.view ≡ record m.0.view { steps = suc m.0.view.steps }
 
 -- the keeper has so many bytes out, from there on
@@ -70,6 +74,7 @@ pub record GivesFrame (m : Mine) (bytes : ℕ) (m' : Mine) : Type 0 where
   pub carried : m'.1 ≡ []
   pub part : m'.0.part ≡ m.0.part
   pub room : m'.0.room ≡ record { freed = m.0.room.freed + bytes; out = 0 }
+  pub parked : m'.0.parked ≡ m.0.parked
   pub rests : m'.0.view ≡ record m.0.view { steps = suc m.0.view.steps }
 
 -- the memory of the committed frame that begins where memory was taken back is room, by two steps
@@ -83,6 +88,7 @@ pub record FreesFrame (t : Site) (m : Mine) (bytes : ℕ) (m' : Mine) : Type 0 w
   pub carried : m'.1 ≡ []
   pub part : m'.0.part ≡ m.0.part
   pub room : m'.0.room ≡ record { freed = m.0.room.freed + bytes; out = 0 }
+  pub parked : m'.0.parked ≡ m.0.parked
   pub rests : m'.0.view ≡ record m.0.view { steps = suc (suc m.0.view.steps) }
 
 -- the keeper may take all back that begins below a position, which is a term or more below each consumer that is there
@@ -92,10 +98,19 @@ pub record MayFreeTo (end : ℕ) (m : Mine) : Type 0 where
   pub below : end ≤ max m.0.view.pass.start (least_there m.0.view.pass.keeping.there m.0.view.pass.keeping.positions - term_of m.0.view.pass)
   pub empty : m.1 ≡ []
 
--- what begins below a position is room, as far as that; beside that, and its steps, the keeper is as it was
-pub record FreesTo (end freed : ℕ) (m m' : Mine) : Type 0 where
+-- committed frames that lie one behind the other, from a position to another
+abbrev pub Follow : Identity → ℕ → List FrameWords → ℕ → Type 0
+Follow i p [] q = p ≡ q
+Follow i p (f ∷ fs) q = (f.start ≡ p) × IsCommittedFrame i f × Follow i (end_of f) fs q
+
+-- what begins below a position is room, as far as that: so many frames, by two steps each; beside that, and its steps, the keeper is as it was
+pub record FreesTo (i : Identity) (end freed : ℕ) (m m' : Mine) : Type 0 where
   pub reached : end ≤ freed
+  pub frames : List FrameWords
+  pub follow : Follow i m.0.room.freed frames freed
+  pub below : AllByRecursion (λ f. f.start < end) frames
   pub carried : m'.1 ≡ []
   pub part : m'.0.part ≡ m.0.part
   pub room : m'.0.room ≡ record { freed = freed; out = 0 }
-  pub rests : m'.0.view ≡ record m.0.view { steps = m'.0.view.steps }
+  pub parked : m'.0.parked ≡ m.0.parked
+  pub rests : m'.0.view ≡ record m.0.view { steps = m.0.view.steps + 2 * length frames }

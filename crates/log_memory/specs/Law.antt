@@ -14,6 +14,7 @@ use Rattle.log_rule.specs.Claims.Closing.{both_seats, handing_seats, numbered_se
 use Rattle.log_rule.specs.Meetings.{Steadies, Steady, back_left, back_right, meeting, meeting_seats, showing, was_shown}
 use Rattle.log_rule.specs.Shares.{Weighs}
 use Rattle.log_rule.specs.Table.{keeper_left, keeper_right, knowledge_right, news_left, news_right, reader_alone, reader_left, reader_right, returned_seat, told_seat}
+use Rattle.log_memory.specs.Lifted.{lifted_left, lifted_right, lowered}
 use Rattle.log_rule.specs.Claims.Packs.{consumer_place, count_place, limit_place, tail_place}
 use Rattle.log_rule.specs.Claims.Sure.{LearnsControls}
 use Rattle.log_rule.specs.Keepings.{Joins, LearnsLimit, Leaves, MayJoin, MayLeave, MayRaise, Raises, keeping, sweeping}
@@ -28,7 +29,9 @@ use Rattle.log_memory.specs.Places.{head_place}
 use Rattle.log_memory.specs.Opening.{SlotsBegun, WordsBegun}
 use Rattle.log_memory.specs.Rule.{LogMemoryRuled, ring, whole_seat}
 use Rattle.log_memory.specs.Seats.{dealt_with, joining, spent_with, viewing}
-use Rattle.log_memory.specs.Steps.{Adds, CleansTo, Commits, Gives, GivesRoom, IsIdle, Looks, MayCleanTo, MayCommit, MayGive, MayGiveRoom, MayReread, MayTakeBack, Mine, Rereads, Rests, TakesBack, any_step}
+use Rattle.log_memory.specs.Open.{HoldsOpen}
+use Rattle.log_memory.specs.Parking.{Fetches, Parks}
+use Rattle.log_memory.specs.Steps.{Adds, AreApart, CleansTo, Commits, Gives, GivesRoom, IsIdle, Looks, MayCleanTo, MayCommit, MayGive, MayGiveRoom, MayReread, MayTakeBack, Mine, Rereads, Rests, TakesBack, any_step}
 
 -- such a step, whatever stands, keeps the rule, tells this of what its seat knows of the stream, and moves no memory
 abbrev pub Keeps : Site → ℕ → ℕ → (ℕ → ℕ) → (words.Mine → ℕ → words.Mine → Type 0) → Mine → Type 0
@@ -59,7 +62,10 @@ pub record StepsKeep : Type 0 where
   pub take_back : (t : Site) (id : ℕ) (m : Mine) → MayTakeBack m.0 → (slots : ℕ) → Allows (LogMemoryRuled t) slots id m (head_place (ring t) m.0.room.freed) (λ n. n) (λ n w. TakesBack t m n w)
   -- what it took back becomes room, as zeros, where it stores zero over the frame's word
   pub give_room : (t : Site) (id : ℕ) (m : Mine) → MayGiveRoom t m → (slots : ℕ) → Allows (LogMemoryRuled t) slots id m (head_place (ring t) m.0.room.freed) (λ _. 0) (λ _ w. GivesRoom m w)
-  -- it knows, at any load, how far all is zero
+  -- the room of a pass's open frames goes home, and is taken from there, at any load
+  pub park : (t : Site) (id i : ℕ) (m : Mine) → IsIdle m.0 → HoldsOpen t m → (slots : ℕ) → Allows (LogMemoryRuled t) slots id m i (λ n. n) (λ _ w. Parks m w)
+  pub fetch : (t : Site) (id i : ℕ) (m : Mine) → m.0.part.has ≡ 0 → AreApart m.0.parked → (slots : ℕ) → Allows (LogMemoryRuled t) slots id m i (λ n. n) (λ _ w. Fetches t m w)
+  -- the keeper knows, at any load, how far all is zero
   pub clean_to : (t : Site) (id i end : ℕ) (m : Mine) → MayCleanTo end m.0 → IsIdle m.0 → (slots : ℕ) → Allows (LogMemoryRuled t) slots id m i (λ n. n) (λ _ w. CleansTo end m w)
   -- the keeper's other steps move no memory
   pub sweep : (t : Site) (id j : ℕ) (m : Mine) → m.0.view.pass.keeping.right ≡ 1 → IsThere m.0.view.pass.keeping.there j → j < 8 → IsIdle m.0 → Keeps t id (consumer_place j) (λ n. n) (sweeping j) m
@@ -80,8 +86,12 @@ pub record SeatsKeep : Type 0 where
   pub tell : (t : Site) (id other : ℕ) (v x : LogView) → IsIdle v → IsIdle x → x.view.pass ≡ record (newcomer t.key.identity t.key.start 0 0) { reading = x.view.pass.reading } → SeatsJoin (LogMemoryRuled t) id v other x (joining told_seat v x) (spent_with (spent_seat t.key.identity t.key.start))
   pub return : (t : Site) (id other : ℕ) (v x : LogView) → IsIdle v → IsIdle x → (c : Reading) → x.view.pass ≡ reader_alone t.key.identity t.key.start c → SeatsJoin (LogMemoryRuled t) id v other x (joining returned_seat v x) (spent_with (spent_seat t.key.identity t.key.start))
   pub gather : (t : Site) (id other : ℕ) (v x : LogView) → IsIdle v → IsIdle x → v.view.pass.right.armed ≡ 0 → x.view.pass.right.armed ≡ 0 → 0 < v.view.pass.right.parts → SeatsJoin (LogMemoryRuled t) id v other x (joining both_seats v x) (spent_with (spent_seat t.key.identity t.key.start))
-  pub hand_over : (t : Site) (id other : ℕ) (v x : LogView) → IsIdle v → IsIdle x → v.view.pass.number < 8 → (v.view.pass.right.parts < 1024 → Among v.view.pass.number v.view.pass.right.numbers) → v.view.pass.right.armed ≡ 0 → x.view.pass.right.armed ≡ 0 → 0 < v.view.pass.right.parts → SeatsJoin (LogMemoryRuled t) id v other x (joining handing_seats v x) (spent_with (spent_seat t.key.identity t.key.start))
+  -- the other's room may be at home
+  pub hand_over : (t : Site) (id other : ℕ) (v x : LogView) → IsIdle v → x.part.has ≡ 0 → v.view.pass.number < 8 → (v.view.pass.right.parts < 1024 → Among v.view.pass.number v.view.pass.right.numbers) → v.view.pass.right.armed ≡ 0 → x.view.pass.right.armed ≡ 0 → 0 < v.view.pass.right.parts → SeatsJoin (LogMemoryRuled t) id v other x (joining handing_seats v x) (spent_with (spent_seat t.key.identity t.key.start))
   pub meet : (t : Site) (id other : ℕ) (v x : LogView) → IsIdle v → IsIdle x → v.view.pass.right.armed ≡ 0 → x.view.pass.right.armed ≡ 0 → 0 < v.view.pass.right.parts → SeatsJoin (LogMemoryRuled t) id v other x (joining meeting_seats v x) (spent_with (spent_seat t.key.identity t.key.start))
+  -- a pass goes to a new seat, while its room stays, and comes back
+  pub lift : (t : Site) (id : ℕ) (v : LogView) → IsIdle v → Splits (LogMemoryRuled t) id v (viewing lifted_left v) (dealt_with lifted_right v)
+  pub lower : (t : Site) (id other : ℕ) (v x : LogView) → IsIdle v → IsIdle x → v.view.pass ≡ newcomer t.key.identity t.key.start 0 0 → x.view.pass.keeping ≡ no_keeping → SeatsJoin (LogMemoryRuled t) id v other x (joining lowered v x) (spent_with (spent_seat t.key.identity t.key.start))
   pub settle : (t : Site) (id : ℕ) (m : Mine) → IsIdle m.0 → (i : ℕ) → i < 208 → Keeps t id i (λ n. n) (reading (λ v k w. Steadies v w)) m
   pub weigh : (t : Site) (id : ℕ) (m : Mine) → IsIdle m.0 → (i : ℕ) → i < 208 → Keeps t id i (λ n. n) (reading (λ v k w. Weighs v w)) m
   pub show : (t : Site) (id : ℕ) (m : Mine) → IsIdle m.0 → (p : ℕ) → Keeps t id (tail_place p) (λ n. n) (showing (p % 3)) m

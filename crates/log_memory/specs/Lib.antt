@@ -10,4 +10,6 @@ pub mod Frames
 pub mod Found
 pub mod Drafts
 pub mod Open
+pub mod Parking
 pub mod Law
+pub mod Lifted

@@ -1,6 +1,5 @@
 -- The room of a pass's open frames, in the row of slots that its seat carries: one after the other, in the order of the frames.
-use Rattle.std.specs.Prelude.{◌≡◌, ◌≢◌, ◌==◌, if◌then◌else◌, ℕ, ◌+◌, ◌*◌, ◌/◌, ◌^◌, ◌<◌, List, [], ◌∷◌, ◌++◌, length, suc}
-use Rattle.theory.specs.Placed.{Among}
+use Rattle.std.specs.Prelude.{◌≡◌, ◌==◌, if◌then◌else◌, ℕ, ◌+◌, ◌*◌, ◌/◌, ◌^◌, ◌<◌, List, [], ◌∷◌, ◌++◌, length, suc}
 use Rattle.theory.specs.Position.{aligned}
 use Rattle.publication.specs.declared.pass.FrameWords.{FrameWords}
 use Rattle.publication.specs.Steps.{Adds, addition, blank, frame, with_work}
@@ -12,7 +11,7 @@ use Rattle.log_rule.specs.Shares.{claimed_bytes}
 use Rattle.log_memory.specs.declared.drafts.Draft.{Draft}
 use Rattle.log_memory.specs.declared.view.Site.{Site}
 use Rattle.log_memory.specs.Drafts.{words_of}
-use Rattle.log_memory.specs.Steps.{CarriesRange, IsIdle, IsRoomAt, Mine, any_step, as_view}
+use Rattle.log_memory.specs.Steps.{AreApart, CarriesRange, IsIdle, IsRoomAt, Mine, any_step, as_view}
 
 -- how many slots the memory of such frames has
 abbrev pub slots_in : List FrameWords → ℕ
@@ -42,6 +41,7 @@ pub record StoresOpen (t : Site) (d : Draft) (m m' : Mine) : Type 0 where
   pub holds : HoldsOpen t m'
   pub part : m'.0.part ≡ m.0.part
   pub room : m'.0.room ≡ m.0.room
+  pub parked : m'.0.parked ≡ m.0.parked
   pub steps : m'.0.view.steps ≡ suc m.0.view.steps
   pub learns : LearnsControls [] m.0.view m'.0.view
   pub fills : (front : List FrameWords) (cut : ℕ) (others : List FrameWords) → 0 < cut → m.0.view.pass.work.drafts ≡ front ++ blank d.start cut ∷ others → m'.0.view.pass ≡ with_work (m.0.view.pass.work.frames ++ frame d.start cut (words_of d) ∷ []) (front ++ others) m.0.view.pass
@@ -50,8 +50,10 @@ pub record StoresOpen (t : Site) (d : Draft) (m m' : Mine) : Type 0 where
 pub record AddsOpen (size : ℕ) (m : Mine) (n : ℕ) (m' : Mine) : Type 0 where
   pub part : m'.0.part ≡ m.0.part
   pub room : m'.0.room ≡ m.0.room
+  pub parked : m'.0.parked ≡ m.0.parked
   pub told : playing (λ v k w. Adds v size k w) (λ v k. addition v size k ∷ []) any_step (as_view m.0) n (as_view m'.0)
   pub low : claimed_bytes m'.0.view.pass < 2 ^ 63
+  pub apart : AreApart m'.0.view.pass.work.drafts
 
 -- ---- which of them it is
 
@@ -63,11 +65,6 @@ front_of p (f ∷ fs) = if f.start == p then [] else f ∷ front_of p fs
 abbrev pub others_of : ℕ → List FrameWords → List FrameWords
 others_of p [] = []
 others_of p (f ∷ fs) = if f.start == p then fs else others_of p fs
-
--- no two begin at one position
-abbrev pub AreApart : List FrameWords → Type 0
-AreApart [] = Unit {0}
-AreApart (f ∷ fs) = ((g : FrameWords) → Among g fs → g.start ≢ f.start) × AreApart fs
 
 -- the draft is one of the pass's open frames, of which none begins where another does
 pub record IsOneOpen (t : Site) (d : Draft) (m : Mine) : Type 0 where

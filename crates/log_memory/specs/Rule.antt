@@ -115,6 +115,11 @@ pub record IsFree (t : Site) (s : Board) (p : ℕ) : Type 0 where
   pub room : IsHome s (slot_of (ring t) p 0) (IsRoom t (slot_of (ring t) p 0))
   pub others : (j : ℕ) → j < 8 → IsThereAny s (slot_of (ring t) p j)
 
+-- the room of an open frame of the seat's pass is at home
+pub record IsParked (t : Site) (s : Board) (v : LogView) (f : FrameWords) : Type 0 where
+  pub draft : Among f v.view.pass.work.drafts
+  pub room : (p : ℕ) → p % 32 ≡ 0 → f.start ≤ p → p < end_of f → IsFree t s p
+
 abbrev pub IsPartOf : Site → Rounds → FrameWords → Access → Type 0
 IsPartOf t rounds f = IsPart t (slot_of (ring t) f.start 0) f.words (rounds f.start).0 (rounds f.start).1
 
@@ -173,6 +178,7 @@ pub record MemoryRuled (t : Site) (s : Board) (freed out : ℕ) (rounds : Rounds
   pub held : (i : ℕ) (v : LogView) → get_elem? s.views i ≡ some v → v.part.has ≡ 1 → IsHeld t (passes_of s.views) rounds v
   pub readers : (i : ℕ) (v : LogView) (r : Reading) → get_elem? s.views i ≡ some v → Among r v.view.pass.reading → r.number < 8 → IsBeyond t (passes_of s.views) (freed + out) r.position
   pub keeper : (i : ℕ) (v : LogView) → get_elem? s.views i ≡ some v → v.view.pass.keeping.right ≡ 1 → KnowsRoom t (passes_of s.views) freed out v
+  pub parked : (i : ℕ) (v : LogView) (f : FrameWords) → get_elem? s.views i ≡ some v → Among f v.parked → IsParked t s v f
 
 -- the state that the stream's words make
 abbrev pub stream_state : List ℕ → List LogView → State (Unit {0}) View
@@ -193,4 +199,4 @@ abbrev pub no_part : Part
 no_part = record { has = 0; number = 0; at = 0; round = 0; book = 0 }
 
 abbrev pub whole_seat : Site → LogView
-whole_seat t = record { view = words.whole_seat t.key; part = no_part; room = record { freed = t.key.start; out = 0 } }
+whole_seat t = record { view = words.whole_seat t.key; part = no_part; room = record { freed = t.key.start; out = 0 }; parked = [] }

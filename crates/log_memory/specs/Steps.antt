@@ -44,6 +44,7 @@ pub record Rests (then : words.Mine → ℕ → words.Mine → Type 0) (m : Mine
   pub carried : m'.1 ≡ m.1
   pub part : m'.0.part ≡ m.0.part
   pub room : m'.0.room ≡ m.0.room
+  pub parked : m'.0.parked ≡ m.0.parked
   pub told : then (as_view m.0) n (as_view m'.0)
 
 -- ---- slots that follow one another
@@ -67,6 +68,11 @@ CarriesRange t is start bytes before mine = Carries is (slot_of (ring t) start 0
 
 -- ---- an addition takes the room of what it claims
 
+-- no two begin at one position
+abbrev pub AreApart : List FrameWords → Type 0
+AreApart [] = Unit {0}
+AreApart (f ∷ fs) = ((g : FrameWords) → Among g fs → g.start ≢ f.start) × AreApart fs
+
 pub record TakesRoom (t : Site) (size n : ℕ) (m m' : Mine) : Type 0 where
   pub fits : offset_in n + framed_length (geometry_of m.0.view.pass) size ≤ term_of m.0.view.pass → CarriesRange t (IsRoomAt t) (start_in (geometry_of m.0.view.pass) n) (framed_length (geometry_of m.0.view.pass) size) m.1 m'.1
   pub trips : offset_in n < term_of m.0.view.pass → term_of m.0.view.pass < offset_in n + framed_length (geometry_of m.0.view.pass) size → CarriesRange t (IsRoomAt t) (start_in (geometry_of m.0.view.pass) n) (term_of m.0.view.pass - offset_in n) m.1 m'.1
@@ -75,10 +81,12 @@ pub record TakesRoom (t : Site) (size n : ℕ) (m m' : Mine) : Type 0 where
 pub record Adds (t : Site) (size : ℕ) (m : Mine) (n : ℕ) (m' : Mine) : Type 0 where
   pub part : m'.0.part ≡ m.0.part
   pub room : m'.0.room ≡ m.0.room
+  pub parked : m'.0.parked ≡ m.0.parked
   pub told : playing (λ v k w. steps.Adds v size k w) (λ v k. addition v size k ∷ []) any_step (as_view m.0) n (as_view m'.0)
   pub takes : TakesRoom t size n m m'
-  -- and what the pass has claimed by then can be counted
+  -- what the pass has claimed by then can be counted, and none of its open frames begins where another does
   pub low : claimed_bytes m'.0.view.pass < 2 ^ 63
+  pub apart : AreApart m'.0.view.pass.work.drafts
 
 -- ---- a frame is committed
 
@@ -102,6 +110,7 @@ pub record Commits (t : Site) (p : ℕ) (ws : List ℕ) (m m' : Mine) : Type 0 w
   pub carried : m'.1 ≡ drop (8 * length ws / 4) m.1
   pub part : m'.0.part ≡ m.0.part
   pub room : m'.0.room ≡ m.0.room
+  pub parked : m'.0.parked ≡ m.0.parked
   pub steps : m'.0.view.steps ≡ suc m.0.view.steps
   pub learns : LearnsControls [] m.0.view m'.0.view
   pub fills : (front : List FrameWords) (cut : ℕ) (behind : List FrameWords) → 0 < cut → m.0.view.pass.work.drafts ≡ front ++ blank p cut ∷ behind → m'.0.view.pass ≡ with_work (m.0.view.pass.work.frames ++ frame p cut ws ∷ []) (front ++ behind) m.0.view.pass
@@ -120,6 +129,7 @@ pub record TakesPart (t : Site) (number : ℕ) (f : FrameWords) (m m' : Mine) : 
 -- a consumer loads the word where it stands: the frame that it finds there it may read from then on
 pub record Looks (t : Site) (place : ℕ) (r : Reading) (m : Mine) (is : IsConsumer m.0.view.pass place r) (n : ℕ) (m' : Mine) : Type 0 where
   pub room : m'.0.room ≡ m.0.room
+  pub parked : m'.0.parked ≡ m.0.parked
   pub told : reading (λ v k w. readings.Looks v place k w) (as_view m.0) n (as_view m'.0)
   pub none : n ≡ 0 → (m'.1 ≡ m.1) × (m'.0.part ≡ m.0.part)
   pub found : (pos : 0 < n) → TakesPart t r.number ((told.3 r is).found pos).frame m m'
@@ -134,8 +144,12 @@ pub record MayReread (place : ℕ) (r : Reading) (f : FrameWords) (v : Pass) : T
 -- it loads that frame's word, and may read it
 pub record Rereads (t : Site) (r : Reading) (f : FrameWords) (m : Mine) (n : ℕ) (m' : Mine) : Type 0 where
   pub room : m'.0.room ≡ m.0.room
+  pub parked : m'.0.parked ≡ m.0.parked
   pub rests : reading (λ v k w. w ≡ v) (as_view m.0) n (as_view m'.0)
   pub word : n ≡ slice_index f.words 0
+  -- it is a frame of the stream, and the only one that the consumer has there
+  pub here : readings.IsFrameAt m.0.view.pass.identity f.start f
+  pub only : (g : FrameWords) → readings.Has m.0.view.pass r g → g.start ≡ f.start → g ≡ f
   pub takes : TakesPart t r.number f m m'
 
 -- the part of a frame that one of its consumers has, over what else is carried
@@ -154,6 +168,7 @@ pub record MayGive (t : Site) (r : Reading) (f : FrameWords) (m : Mine) : Type 0
 -- it goes back
 pub record Gives (m m' : Mine) : Type 0 where
   pub room : m'.0.room ≡ m.0.room
+  pub parked : m'.0.parked ≡ m.0.parked
   pub part : m'.0.part ≡ record m.0.part { has = 0 }
   pub rests : m'.0.view ≡ record m.0.view { steps = suc m.0.view.steps }
   pub carried : m'.1 ≡ drop 1 m.1
@@ -177,6 +192,7 @@ pub record TakesBack (t : Site) (m : Mine) (n : ℕ) (m' : Mine) : Type 0 where
   pub carries : CarriesRange t (IsPartAt t (slot_of (ring t) frame.start 0) frame.words round book) frame.start (8 * length frame.words) m.1 m'.1
   pub part : m'.0.part ≡ m.0.part
   pub room : m'.0.room ≡ record { freed = m.0.room.freed; out = 8 * length frame.words }
+  pub parked : m'.0.parked ≡ m.0.parked
   pub rests : m'.0.view ≡ record m.0.view { steps = suc m.0.view.steps }
 
 -- the slots of what is out are carried, each unit's with the right to write it, which is zeros
@@ -190,6 +206,7 @@ pub record GivesRoom (m m' : Mine) : Type 0 where
   pub carried : m'.1 ≡ drop (m.0.room.out / 4) m.1
   pub part : m'.0.part ≡ m.0.part
   pub room : m'.0.room ≡ record { freed = m.0.room.freed + m.0.room.out; out = 0 }
+  pub parked : m'.0.parked ≡ m.0.parked
   pub rests : m'.0.view ≡ record m.0.view { steps = suc m.0.view.steps }
 
 -- ---- the keeper knows how far all is zero
@@ -206,6 +223,7 @@ pub record CleansTo (end : ℕ) (m m' : Mine) : Type 0 where
   pub carried : m'.1 ≡ m.1
   pub part : m'.0.part ≡ m.0.part
   pub room : m'.0.room ≡ m.0.room
+  pub parked : m'.0.parked ≡ m.0.parked
   pub steps : m'.0.view.steps ≡ suc m.0.view.steps
   pub learns : LearnsControls [] m.0.view m'.0.view
   pub pass : m'.0.view.pass ≡ with_keeping m.0.view.pass (record m.0.view.pass.keeping { cleaned = end })
@@ -232,6 +250,6 @@ pub record IsQuiet (v w : View) : Type 0 where
 abbrev pub IsCalm : View → ℕ → (ℕ → ℕ) → Type 0
 IsCalm v i f = (i ≢ 0) ⊎ (((n : ℕ) → f n ≡ n) ⊎ ((v.pass.keeping.right ≡ 1) × ((n : ℕ) → (limit_in (f n) ≡ limit_in v.pass.keeping.limit) ⊎ (limit_in (f n) + greatest_claim (geometry_of v.pass) * 8 < v.pass.keeping.cleaned + 3 * term_of v.pass))))
 
--- it has no part of a frame
+-- it has no part of a frame, and no room of its is at home
 abbrev pub IsIdle : LogView → Type 0
-IsIdle v = v.part.has ≡ 0
+IsIdle v = (v.part.has ≡ 0) × (v.parked ≡ [])

@@ -16,8 +16,8 @@ use region::{Region, RegionStart, WriteAccess};
 use std::marker::Brand;
 use std::sync::Arc;
 
-/// A frame that is stored: where it begins, how many bytes it covers, the three words of its header that aren't zero, and its
-/// payload.
+/// A frame that is stored: where it begins, how many bytes it covers, the three words of its header
+/// that aren't zero, and its payload.
 #[derive(Clone, Copy)]
 pub struct Draft<'a> {
     pub start: u64,
@@ -41,7 +41,8 @@ fn header_bytes(first: u64, second: u64, third: u64) -> [u8; 32]
     ]
 }
 
-/// Writes a header and a payload over the front of a run, which lies `at` bytes behind the region's start.
+/// Writes a header and a payload over the front of a run, which lies `at` bytes behind the region's
+/// start.
 fn write_parts(
     run: WriteAccess,
     home: Arc<Region>,
@@ -66,8 +67,8 @@ fn write_parts(
     (home, head.append(body))
 }
 
-/// Stores a frame in the room that the seat carries in front, over the chosen slots, and puts the parts of the right to read it in
-/// its slots.
+/// Stores a frame in the room that the seat carries in front, over the chosen slots, and puts the
+/// parts of the right to read it in its slots.
 pub fn store_frame<N: Rowed>(
     memory: &LogMemory,
     seat: &mut LogSeat,
@@ -101,7 +102,8 @@ fn commit_as<N: Picked>(memory: &LogMemory, seat: &mut LogSeat, draft: &Draft<'_
         seat.old.table_id }
     requires draft { IsDraft draft.now }
     requires may { MayStore memory.now.table.shared.key draft.now seat.old.me }
-    requires row { IsParted memory.now.table.shared.key draft.now (behind_of draft.now seat.old.me.1)
+    requires row { IsParted memory.now.table.shared.key draft.now (behind_of draft.now
+        seat.old.me.1)
         seat.old.me.1 }
     requires chosen { (N.site ≡ memory.now.table.shared.key)
         × (N.frame ≡ frame draft.now.start 0 (words_of draft.now)) }
@@ -113,8 +115,9 @@ fn commit_as<N: Picked>(memory: &LogMemory, seat: &mut LogSeat, draft: &Draft<'_
     commit::<N>(table, seat, memory.head(draft.start), draft.first);
 }
 
-/// Commits an open frame of the seat's pass whose room it carries in front, over the chosen slots: its bytes are written plainly,
-/// then its first word is stored, by one step, which gives its parts to those who read it.
+/// Commits an open frame of the seat's pass whose room it carries in front, over the chosen slots:
+/// its bytes are written plainly, then its first word is stored, by one step, which gives its parts
+/// to those who read it.
 pub fn commit_frame<N: Rowed>(
     memory: &LogMemory,
     seat: &mut LogSeat,

@@ -1,4 +1,5 @@
-//! Frames in memory: a reader copies one of which it has a part, and the keeper makes the memory of one room again.
+//! Frames in memory: a reader copies one of which it has a part, and the keeper makes the memory of
+//! one room again.
 
 ghost use Rattle.std.specs.Prelude.{◌≡◌, ◌+◌, ◌*◌, ◌/◌, ◌^◌, ◌<◌, ◌≤◌, [], drop, length, take};
 ghost use Rattle.theory.specs.Position.{IsGeometry};
@@ -26,8 +27,8 @@ fn copy_behind(into: &mut [u8], bytes: &[u8])
     into.copy_from_slice(&bytes[32..]);
 }
 
-/// Copies the bytes behind the header of the frame that begins at `start` and of which a part shows all, as many as there are
-/// places.
+/// Copies the bytes behind the header of the frame that begins at `start` and of which a part shows
+/// all, as many as there are places.
 fn show_part(memory: &LogMemory, part: &ReadAccess, start: u64, into: &mut [u8])
     requires part { (part.now.identity ≡ memory.now.table.shared.key.region.identity)
         × (0 < part.now.count) }
@@ -43,8 +44,8 @@ fn show_part(memory: &LogMemory, part: &ReadAccess, start: u64, into: &mut [u8])
     );
 }
 
-/// Copies the bytes behind the header of the frame that begins at `start`, as many as there are places: the first slot that the
-/// seat carries has the part of the consumer with this number.
+/// Copies the bytes behind the header of the frame that begins at `start`, as many as there are
+/// places: the first slot that the seat carries has the part of the consumer with this number.
 pub fn copy_part(memory: &LogMemory, seat: &mut LogSeat, start: u64, number: u64, into: &mut [u8])
     requires seat { seat.old.table_id ≡ memory.now.table.shared.table_id }
     requires low { number < 8 }
@@ -62,7 +63,8 @@ pub fn copy_part(memory: &LogMemory, seat: &mut LogSeat, start: u64, number: u64
     let _none = table.exchange(seat, slot, Access { write, read });
 }
 
-/// A consumer of the seat gives its part of a frame back, at a load of the word of the unit at a position.
+/// A consumer of the seat gives its part of a frame back, at a load of the word of the unit at a
+/// position.
 pub fn give_back(memory: &LogMemory, seat: &mut LogSeat, position: u64)
     requires seat { IsSeatOf memory.now.table.shared.key memory.now.table.shared.table_id
         seat.old.table_id }
@@ -73,8 +75,8 @@ pub fn give_back(memory: &LogMemory, seat: &mut LogSeat, position: u64)
     give(&memory.table.shared, seat, memory.head(position));
 }
 
-/// Takes the memory of the frame that begins where memory was taken back, at `freed`, and that all consumers left a term ago.
-/// The answer is the right to write its bytes, and how many these are.
+/// Takes the memory of the frame that begins where memory was taken back, at `freed`, and that all
+/// consumers left a term ago. The answer is the right to write its bytes, and how many these are.
 fn take_frame(memory: &LogMemory, seat: &mut LogSeat, freed: u64) -> (WriteAccess, u32)
     requires seat { IsSeatOf memory.now.table.shared.key memory.now.table.shared.table_id
         seat.old.table_id }
@@ -92,14 +94,16 @@ fn take_frame(memory: &LogMemory, seat: &mut LogSeat, freed: u64) -> (WriteAcces
     (whole.end_reading(), bytes)
 }
 
-/// Gives zeros as room that were the memory of a frame that begins at `freed` and covers so many bytes.
+/// Gives zeros as room that were the memory of a frame that begins at `freed` and covers so many
+/// bytes.
 fn give_frame(memory: &LogMemory, seat: &mut LogSeat, run: WriteAccess, freed: u64, bytes: u32)
     requires seat { IsSeatOf memory.now.table.shared.key memory.now.table.shared.table_id
         seat.old.table_id }
     requires run { IsRun memory.now.table.shared.key (slot_of (ring memory.now.table.shared.key)
         freed 0) (32 * (bytes / 32)) run }
     requires out { IsOutAt freed bytes seat.old.me }
-    requires row { Carries IsAnything (slot_of (ring memory.now.table.shared.key) freed 0) (8 * (bytes
+    requires row { Carries IsAnything (slot_of (ring memory.now.table.shared.key) freed 0) (8 *
+        (bytes
         / 32)) [] seat.old.me.1 }
     ensures seat { (seat.new.table_id ≡ seat.old.table_id) × (seat.new.id ≡ seat.old.id) }
     ensures gives { GivesFrame seat.old.me bytes seat.new.me }
@@ -109,8 +113,9 @@ fn give_frame(memory: &LogMemory, seat: &mut LogSeat, run: WriteAccess, freed: u
     give_room(table, seat, memory.head(freed));
 }
 
-/// Makes the memory of the frame room again that begins where memory was taken back, at `freed`, and that all consumers left a
-/// term ago: it is taken, made zero and given. The answer is how many bytes it covers.
+/// Makes the memory of the frame room again that begins where memory was taken back, at `freed`,
+/// and that all consumers left a term ago: it is taken, made zero and given. The answer is how many
+/// bytes it covers.
 pub fn free_frame(
     memory: &LogMemory,
     seat: &mut LogSeat,
@@ -135,8 +140,9 @@ pub fn free_frame(
     (home, u64::from(bytes))
 }
 
-/// Makes all memory room again that begins from `freed` on, below a position that is a term or more below each consumer that is
-/// there. The answer is where that ends: there, or behind the frame in which that lies.
+/// Makes all memory room again that begins from `freed` on, below a position that is a term or more
+/// below each consumer that is there. The answer is where that ends: there, or behind the frame in
+/// which that lies.
 pub fn free_to(
     memory: &LogMemory,
     seat: &mut LogSeat,
@@ -153,7 +159,8 @@ pub fn free_to(
     requires low { end ≤ 2 ^ 56 }
     ensures home { result.0.value.identity ≡ home.value.identity }
     ensures seat { (seat.new.table_id ≡ seat.old.table_id) × (seat.new.id ≡ seat.old.id) }
-    ensures frees { FreesTo end result.1 seat.old.me seat.new.me }
+    ensures frees { FreesTo memory.now.table.shared.key.key.identity end result.1 seat.old.me
+        seat.new.me }
 {
     let _ = &memory.table;
     let mut home = home;

@@ -40,7 +40,8 @@ pub fn see(table: &LogTable, seat: &mut LogSeat, number: u64) -> u64
     see_as::<Brand>(table, seat, number)
 }
 
-/// Stores where the chosen consumer begins, whose number nobody had: the seat is that consumer then.
+/// Stores where the chosen consumer begins, whose number nobody had: the seat is that consumer
+/// then.
 pub fn begin<N: Seated>(table: &LogTable, seat: &mut LogSeat, number: u64, position: u64)
     requires seat { IsSeatOf table.now.key table.now.table_id seat.old.table_id }
     requires idle { IsIdle seat.old.me.0 }
@@ -87,7 +88,8 @@ fn take_back_as<N: Picked>(table: &LogTable, seat: &mut LogSeat, place: usize) -
     table.load::<TakeBack<N>>(seat, place)
 }
 
-/// Loads the word of the first frame whose memory wasn't taken back, which all consumers left a term ago, and takes its slots.
+/// Loads the word of the first frame whose memory wasn't taken back, which all consumers left a
+/// term ago, and takes its slots.
 #[inline(always)]
 pub fn take_back(table: &LogTable, seat: &mut LogSeat, place: usize) -> u64
     requires seat { IsSeatOf table.now.key table.now.table_id seat.old.table_id }

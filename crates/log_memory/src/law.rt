@@ -3,18 +3,20 @@
 ghost use Rattle.log_memory.specs.Law.{SeatsKeep, StepsKeep};
 ghost use Rattle.log_memory.specs.Found.{PartsAreFound};
 
-/// Each kind of step, whatever stands when it happens, keeps the rule, and tells of its seat what its call says.
+/// Each kind of step, whatever stands when it happens, keeps the rule, and tells of its seat what
+/// its call says.
 pub fn steps_keep()
     ensures { StepsKeep }
 {}
 
-/// Each kind of seat that is dealt or joined, and each load that tells a pass of itself, keeps the rule.
+/// Each kind of seat that is dealt or joined, and each load that tells a pass of itself, keeps the
+/// rule.
 pub fn seats_keep()
     ensures { SeatsKeep }
 {}
 
-/// A reader that found a frame where it stands carries its part of that in front, and may give it back; so does one that loaded
-/// the word of a frame that it has.
+/// A reader that found a frame where it stands carries its part of that in front, and may give it
+/// back; so does one that loaded the word of a frame that it has.
 pub fn parts_are_found()
     ensures { PartsAreFound }
 {}

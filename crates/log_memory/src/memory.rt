@@ -16,8 +16,9 @@ use std::sync::Arc;
 /// A log's table, with its memory.
 pub type OwnTable = Table<Access, LogView, Site, LogMemoryRule, Global>;
 
-/// A log's table, the region where its frames lie, and where that begins; how many units of 32 bytes three terms have, and by how
-/// many bits a unit's number is shifted to count the terms before it.
+/// A log's table, the region where its frames lie, and where that begins; how many units of 32
+/// bytes three terms have, and by how many bits a unit's number is shifted to count the terms
+/// before it.
 #[derive(Drop)]
 pub struct LogMemory {
     pub table: OwnTable,
@@ -44,7 +45,8 @@ pub(crate) fn shift_of(geometry: &Geometry) -> u32
 }
 
 impl LogMemory {
-    /// Where the unit at a position lies among those of three terms. It takes no division but by three.
+    /// Where the unit at a position lies among those of three terms. It takes no division but by
+    /// three.
     #[inline(always)]
     fn place(&self, position: u64) -> usize
         ensures is { result ≡ position / 32 % ring self.now.table.shared.key }

@@ -1,4 +1,5 @@
-//! A pass's open frames: an addition opens more, and any of them is committed, while the room of the others stays in its row.
+//! A pass's open frames: an addition opens more, and any of them is committed, while the room of
+//! the others stays in its row.
 
 ghost use Rattle.std.specs.Prelude.{◌≡◌, ◌-◌, ◌/◌, ◌≤◌, min, ℕ, List};
 ghost use Rattle.theory.specs.Position.{IsGeometry, framed_length, max_message};
@@ -24,8 +25,8 @@ use region::{Access, Region};
 use std::marker::{Brand, PhantomData};
 use std::sync::Arc;
 
-/// What a call picks where it commits an open frame: those before it and those behind it, the row of slots, and how many the
-/// frame has.
+/// What a call picks where it commits an open frame: those before it and those behind it, the row
+/// of slots, and how many the frame has.
 trait Opened {
     ghost front: { List frames.FrameWords };
 
@@ -83,8 +84,9 @@ impl<N: Opened> Rowed for Rest<N> {
     ghost behind = { drop N.slots (rotated (slots_in N.front) N.carried) };
 }
 
-/// Commits one of the open frames of the seat's pass, between the chosen ones: its bytes are written plainly, then its first word
-/// is stored, by one step. The room of the others stays in the seat's row.
+/// Commits one of the open frames of the seat's pass, between the chosen ones: its bytes are
+/// written plainly, then its first word is stored, by one step. The room of the others stays in the
+/// seat's row.
 fn commit_as<N: Opened>(
     memory: &LogMemory,
     seat: &mut LogSeat,
@@ -109,8 +111,8 @@ fn commit_as<N: Opened>(
     home
 }
 
-/// Commits one of the open frames of the seat's pass, whichever: its bytes are written plainly, then its first word is stored, by one
-/// step. The room of the others stays in the seat's row.
+/// Commits one of the open frames of the seat's pass, whichever: its bytes are written plainly,
+/// then its first word is stored, by one step. The room of the others stays in the seat's row.
 pub fn commit_open(
     memory: &LogMemory,
     seat: &mut LogSeat,
@@ -130,9 +132,9 @@ pub fn commit_open(
     commit_as::<Brand>(memory, seat, home, draft)
 }
 
-/// Adds what a message of `size` bytes covers to the tail for which the publisher is armed. The room of what it claims is in the
-/// seat's row then, behind that of the frames that were open before. The answers are the word that was there, and how many bytes
-/// it took.
+/// Adds what a message of `size` bytes covers to the tail for which the publisher is armed. The
+/// room of what it claims is in the seat's row then, behind that of the frames that were open
+/// before. The answers are the word that was there, and how many bytes it took.
 pub fn add_open(
     memory: &LogMemory,
     seat: &mut LogSeat,

@@ -56,8 +56,8 @@ fn begin_consumers(words: &mut Vec<u64>, position: u64, consumers: u64)
     }
 }
 
-/// The words of a log that opens, unconnected, its limit and its consumers at the start: 208 control words, and one for each of
-/// so many units.
+/// The words of a log that opens, unconnected, its limit and its consumers at the start: 208
+/// control words, and one for each of so many units.
 fn first_words(alloc: Global, key: &Key, units: usize) -> Result<Vec<u64>, AllocError>
     requires geometry { IsGeometry key.now.identity.geometry }
     requires below { key.now.start < max_position key.now.identity.geometry }
@@ -86,7 +86,8 @@ fn next_slot(left: WriteAccess, units: usize, slot: usize) -> (Access, WriteAcce
     (Access::none(), left)
 }
 
-/// The slots of so many units, of which a run of zeros is all memory: the first slot of each has the right to write it.
+/// The slots of so many units, of which a run of zeros is all memory: the first slot of each has
+/// the right to write it.
 fn rooms(alloc: Global, memory: WriteAccess, units: usize) -> Result<Vec<Access>, AllocError>
     requires at { memory.at ≡ 0 }
     requires zeros { memory.items ≡ replicate (32 * units) 0 }
@@ -105,7 +106,8 @@ fn rooms(alloc: Global, memory: WriteAccess, units: usize) -> Result<Vec<Access>
     Ok(slots)
 }
 
-/// A log that opens, unconnected, its limit and its consumers at the start: all its memory is zero, and room. The seat has all.
+/// A log that opens, unconnected, its limit and its consumers at the start: all its memory is zero,
+/// and room. The seat has all.
 pub fn open(alloc: Global, key: &Key) -> Result<(LogMemory, LogSeat), AllocError>
     requires geometry { IsGeometry key.now.identity.geometry }
     requires unit { key.now.start % 32 ≡ 0 }

@@ -98,7 +98,8 @@ fn exchange_next_as<N: Chosen>(
     table.compare_exchange::<Rotate<N>>(seat, place_of(count + 1), from, to)
 }
 
-/// Exchanges the raw tail of the partition behind a count's, from the word that was loaded to that of the next term's start.
+/// Exchanges the raw tail of the partition behind a count's, from the word that was loaded to that
+/// of the next term's start.
 #[inline(always)]
 pub fn exchange_next(table: &LogTable, seat: &mut LogSeat, count: u32, from: u64, to: u64) -> u64
     requires seat { IsSeatOf table.now.key table.now.table_id seat.old.table_id }
@@ -150,8 +151,8 @@ fn add_as<N: Picked>(
     table.fetch_add::<Add<N>>(seat, place_of(count), covered)
 }
 
-/// Adds what a message of `size` bytes covers to the tail for which the publisher is armed. The room of what it claims is its
-/// seat's then.
+/// Adds what a message of `size` bytes covers to the tail for which the publisher is armed. The
+/// room of what it claims is its seat's then.
 #[inline(always)]
 pub fn add(table: &LogTable, seat: &mut LogSeat, count: u32, size: u32, covered: u64) -> u64
     requires seat { IsSeatOf table.now.key table.now.table_id seat.old.table_id }
@@ -167,8 +168,8 @@ pub fn add(table: &LogTable, seat: &mut LogSeat, count: u32, size: u32, covered:
     add_as::<Brand>(table, seat, count, size, covered)
 }
 
-/// Stores the word of the chosen frame, which is committed then, and gives the parts of its memory, which are in front of what
-/// the seat carries.
+/// Stores the word of the chosen frame, which is committed then, and gives the parts of its memory,
+/// which are in front of what the seat carries.
 #[inline(always)]
 pub fn commit<N: Picked>(table: &LogTable, seat: &mut LogSeat, place: usize, word: u64)
     requires seat { IsSeatOf table.now.key table.now.table_id seat.old.table_id }

@@ -12,7 +12,8 @@ use crate::rights::{LogSeat, LogTable};
 use crate::steps::{Consume, Give, LookHere, Picked, Reread};
 use log_rule::{CONSUMERS, Chosen, LINE};
 
-/// The chosen consumer loads the word where it stands, and takes its part of the frame that begins there, if there is one.
+/// The chosen consumer loads the word where it stands, and takes its part of the frame that begins
+/// there, if there is one.
 #[inline(always)]
 pub fn look<N: Picked>(table: &LogTable, seat: &mut LogSeat, place: usize) -> u64
     requires seat { IsSeatOf table.now.key table.now.table_id seat.old.table_id }
@@ -27,7 +28,8 @@ pub fn look<N: Picked>(table: &LogTable, seat: &mut LogSeat, place: usize) -> u6
     table.load::<LookHere<N>>(seat, place)
 }
 
-/// The chosen consumer loads the word of the chosen frame, which it has, a term below it at the most, and takes its part of it.
+/// The chosen consumer loads the word of the chosen frame, which it has, a term below it at the
+/// most, and takes its part of it.
 #[inline(always)]
 pub fn reread<N: Picked>(table: &LogTable, seat: &mut LogSeat, place: usize) -> u64
     requires seat { IsSeatOf table.now.key table.now.table_id seat.old.table_id }
@@ -53,8 +55,8 @@ pub fn give(table: &LogTable, seat: &mut LogSeat, place: usize)
     table.load::<Give>(seat, place);
 }
 
-/// The consumer with this number, at the chosen place among those that the seat has, stores where the frame ends that it has
-/// read.
+/// The consumer with this number, at the chosen place among those that the seat has, stores where
+/// the frame ends that it has read.
 #[inline(always)]
 pub fn consume<N: Chosen>(table: &LogTable, seat: &mut LogSeat, number: u64, end: u64)
     requires seat { IsSeatOf table.now.key table.now.table_id seat.old.table_id }

@@ -1,5 +1,5 @@
-//! Rights to a log's bytes, between the slots that a seat carries and whoever writes there. They take no memory, so no call here
-//! moves a byte.
+//! Rights to a log's bytes, between the slots that a seat carries and whoever writes there. They
+//! take no memory, so no call here moves a byte.
 
 ghost use Rattle.std.specs.Prelude.{◌≡◌, ◌∷◌, ◌++◌, List, ℕ, ◌+◌, ◌*◌, ◌%◌, ◌^◌, ◌<◌, ◌≤◌, []};
 ghost use Rattle.atomic_table.specs.Table.{rest, turned};
@@ -70,7 +70,8 @@ fn take_unit<N: Rowed>(
         seat.old.me.1 }
     ensures seat { (seat.new.table_id ≡ seat.old.table_id) × (seat.new.id ≡ seat.old.id)
         × (seat.new.me.0 ≡ seat.old.me.0) }
-    ensures row { IsHalfway (IsRoomAt table.now.key) IsAnything first (8 * units) (done + 8) N.behind
+    ensures row { IsHalfway (IsRoomAt table.now.key) IsAnything first (8 * units) (done + 8)
+        N.behind
         seat.new.me.1 }
     ensures run { IsRun table.now.key (first + done) 32 result }
 {
@@ -80,7 +81,8 @@ fn take_unit<N: Rowed>(
     write
 }
 
-/// The right to write all bytes of so many units, whose slots the seat carries over others, from the slot `first` on.
+/// The right to write all bytes of so many units, whose slots the seat carries over others, from
+/// the slot `first` on.
 pub fn gather<N: Rowed>(
     table: &LogTable,
     seat: &mut LogSeat,
@@ -105,8 +107,8 @@ pub fn gather<N: Rowed>(
     run
 }
 
-/// A right to read all bytes of a frame is parted among its first unit's eight slots, of so many units that the seat carries over
-/// others.
+/// A right to read all bytes of a frame is parted among its first unit's eight slots, of so many
+/// units that the seat carries over others.
 pub fn deal_parts<N: Rowed>(
     table: &LogTable,
     seat: &mut LogSeat,
@@ -150,7 +152,8 @@ fn take_slot(table: &LogTable, seat: &mut LogSeat, slot: usize) -> Access
     access
 }
 
-/// The right to read a frame, whole, whose eight parts the first unit's slots have, of so many units that the seat carries.
+/// The right to read a frame, whole, whose eight parts the first unit's slots have, of so many
+/// units that the seat carries.
 pub fn collect_parts(table: &LogTable, seat: &mut LogSeat, first: usize, units: usize) -> ReadAccess
     requires seat { seat.old.table_id ≡ table.now.table_id }
     requires place { (0 < units) × (first + 8 * units < 2 ^ 60) }
@@ -172,7 +175,8 @@ pub fn collect_parts(table: &LogTable, seat: &mut LogSeat, first: usize, units: 
     whole
 }
 
-/// A run of zeros is dealt as room among so many units, whose slots the seat carries, from the slot `first` on.
+/// A run of zeros is dealt as room among so many units, whose slots the seat carries, from the slot
+/// `first` on.
 pub fn deal_room(table: &LogTable, seat: &mut LogSeat, run: WriteAccess, first: usize, units: usize)
     requires seat { seat.old.table_id ≡ table.now.table_id }
     requires run { IsRun table.now.key first (32 * units) run }

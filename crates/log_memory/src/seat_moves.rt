@@ -2,17 +2,18 @@
 
 ghost use Rattle.std.specs.Prelude.{◌≡◌, ℕ, ◌%◌, ◌<◌, []};
 ghost use Rattle.log_rule.specs.Claims.Closing.{both_seats, handing_seats, numbered_seat};
-ghost use Rattle.log_rule.specs.Claims.Plays.{dealing_seat, dealt_seat};
+ghost use Rattle.log_rule.specs.Claims.Plays.{dealing_seat, dealt_seat, newcomer, no_keeping};
 ghost use Rattle.log_rule.specs.Meetings.{back_left, back_right, meeting_seats};
 ghost use Rattle.log_rule.specs.Table.{keeper_left, keeper_right, knowledge_right, news_left, news_right, reader_left, reader_right, returned_seat, told_seat};
+ghost use Rattle.log_memory.specs.Lifted.{lifted_left, lifted_right, lowered};
 ghost use Rattle.log_memory.specs.Kinds.{IsConsumerAlone, IsSeatOf, IsSteadied, IsToldAlone, IsWeighed, MayGather, MayHandOver, MayPart, ShowsPartition};
 ghost use Rattle.log_memory.specs.Steps.{IsIdle};
 ghost use Rattle.log_memory.specs.Seats.{dealt_with, joining, viewing};
 
 use crate::rights::{LogSeat, LogTable};
 use crate::seats::{
-    DealKeeper, DealPublisher, DealReader, GatherSeat, HandOver, Knowledge, Meet, News, PartAgain,
-    Renumber, Return, Tell,
+    DealKeeper, DealPublisher, DealReader, GatherSeat, HandOver, Knowledge, Lift, Lower, Meet,
+    News, PartAgain, Renumber, Return, Tell,
 };
 use crate::steps::{Settle, Show, Weigh};
 use log_rule::{Carried, Chosen, Met, place_of};
@@ -122,6 +123,47 @@ pub fn part_again<N: Met>(table: &LogTable, seat: &mut LogSeat) -> LogSeat
     table.split_seat::<PartAgain<N>>(seat)
 }
 
+/// The pass goes to a new seat, while what its seat carries stays.
+pub fn lift(table: &LogTable, seat: &mut LogSeat) -> LogSeat
+    requires seat { IsSeatOf table.now.key table.now.table_id seat.old.table_id }
+    requires idle { IsIdle seat.old.me.0 }
+    ensures seat { (seat.new.table_id ≡ seat.old.table_id) × (seat.new.id ≡ seat.old.id)
+        × (seat.new.me ≡ (viewing lifted_left seat.old.me.0, seat.old.me.1)) }
+    ensures dealt { (result.table_id ≡ seat.old.table_id)
+        × (result.me ≡ (dealt_with lifted_right seat.old.me.0, [])) }
+{
+    table.split_seat::<Lift>(seat)
+}
+
+fn lower_as<N: Carried>(table: &LogTable, seat: &mut LogSeat, other: LogSeat)
+    requires seat { IsSeatOf table.now.key table.now.table_id seat.old.table_id }
+    requires other { (other.table_id ≡ seat.old.table_id) × (other.me.1 ≡ []) }
+    requires idle { IsIdle seat.old.me.0 × IsIdle other.me.0 }
+    requires none { seat.old.me.0.view.pass
+        ≡ newcomer table.now.key.key.identity table.now.key.key.start 0 0 }
+    requires plain { other.me.0.view.pass.keeping ≡ no_keeping }
+    requires carried { (N.identity ≡ table.now.key.key.identity)
+        × (N.start ≡ table.now.key.key.start) }
+    ensures seat { (seat.new.table_id ≡ seat.old.table_id) × (seat.new.id ≡ seat.old.id)
+        × (seat.new.me ≡ (joining lowered seat.old.me.0 other.me.0, seat.old.me.1)) }
+{
+    table.join_seat::<Lower<N>>(seat, other);
+}
+
+/// The pass of another seat, which isn't the keeper's, comes to one that has none.
+pub fn lower(table: &LogTable, seat: &mut LogSeat, other: LogSeat)
+    requires seat { IsSeatOf table.now.key table.now.table_id seat.old.table_id }
+    requires other { (other.table_id ≡ seat.old.table_id) × (other.me.1 ≡ []) }
+    requires idle { IsIdle seat.old.me.0 × IsIdle other.me.0 }
+    requires none { seat.old.me.0.view.pass
+        ≡ newcomer table.now.key.key.identity table.now.key.key.start 0 0 }
+    requires plain { other.me.0.view.pass.keeping ≡ no_keeping }
+    ensures seat { (seat.new.table_id ≡ seat.old.table_id) × (seat.new.id ≡ seat.old.id)
+        × (seat.new.me ≡ (joining lowered seat.old.me.0 other.me.0, seat.old.me.1)) }
+{
+    lower_as::<Brand>(table, seat, other);
+}
+
 fn tell_as<N: Carried>(table: &LogTable, seat: &mut LogSeat, other: LogSeat)
     requires seat { IsSeatOf table.now.key table.now.table_id seat.old.table_id }
     requires other { (other.table_id ≡ seat.old.table_id) × (other.me.1 ≡ []) }
@@ -200,7 +242,7 @@ pub fn take_seat(table: &LogTable, seat: &mut LogSeat, other: LogSeat)
 fn hand_over_as<N: Carried>(table: &LogTable, seat: &mut LogSeat, other: LogSeat)
     requires seat { IsSeatOf table.now.key table.now.table_id seat.old.table_id }
     requires other { (other.table_id ≡ seat.old.table_id) × (other.me.1 ≡ []) }
-    requires idle { IsIdle seat.old.me.0 × IsIdle other.me.0 }
+    requires idle { IsIdle seat.old.me.0 × (other.me.0.part.has ≡ 0) }
     requires may { MayHandOver seat.old.me.0.view.pass other.me.0.view.pass }
     requires carried { (N.identity ≡ table.now.key.key.identity)
         × (N.start ≡ table.now.key.key.start) }
@@ -214,7 +256,7 @@ fn hand_over_as<N: Carried>(table: &LogTable, seat: &mut LogSeat, other: LogSeat
 pub fn hand_over(table: &LogTable, seat: &mut LogSeat, other: LogSeat)
     requires seat { IsSeatOf table.now.key table.now.table_id seat.old.table_id }
     requires other { (other.table_id ≡ seat.old.table_id) × (other.me.1 ≡ []) }
-    requires idle { IsIdle seat.old.me.0 × IsIdle other.me.0 }
+    requires idle { IsIdle seat.old.me.0 × (other.me.0.part.has ≡ 0) }
     requires may { MayHandOver seat.old.me.0.view.pass other.me.0.view.pass }
     ensures seat { (seat.new.table_id ≡ seat.old.table_id) × (seat.new.id ≡ seat.old.id)
         × (seat.new.me ≡ (joining handing_seats seat.old.me.0 other.me.0, seat.old.me.1)) }

@@ -88,6 +88,32 @@ impl<N: Met> Split<LogView> for PartAgain<N> {
     ghost right = { dealt_with (back_right N.other) };
 }
 
+/// A pass goes to a new seat, while what its seat carries stays.
+pub struct Lift;
+
+impl Split<LogView> for Lift {
+    ghost use Rattle.log_memory.specs.Lifted.{lifted_left, lifted_right};
+
+    ghost left = { viewing lifted_left };
+
+    ghost right = { dealt_with lifted_right };
+}
+
+/// It comes back to a seat that has none.
+pub struct Lower<N> {
+    carried: PhantomData<N>,
+}
+
+impl<N: Carried> Join<LogView> for Lower<N> {
+    ghost use Rattle.log_rule.specs.Claims.Closing.{spent_seat};
+    ghost use Rattle.log_memory.specs.Lifted.{lowered};
+    ghost use Rattle.log_memory.specs.Seats.{spent_with};
+
+    ghost both = { joining lowered };
+
+    ghost spent = { spent_with (spent_seat N.identity N.start) };
+}
+
 /// A consumer is told what another seat knows.
 pub struct Tell<N> {
     carried: PhantomData<N>,

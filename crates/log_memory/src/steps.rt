@@ -92,7 +92,8 @@ impl Play<Access, LogView> for ExchangeCount {
     ghost then = { λ st. AdvancesCount st.first };
 }
 
-/// What a message of the chosen size covers is added to a tail, and the seat takes the room of what it claims.
+/// What a message of the chosen size covers is added to a tail, and the seat takes the room of what
+/// it claims.
 pub struct Add<N> {
     chosen: PhantomData<N>,
 }
@@ -114,8 +115,8 @@ impl<N: Picked> Play<Access, LogView> for Commit<N> {
     ghost then = { λ _ m _ w. Commits N.site N.frame.start N.frame.words m w };
 }
 
-/// The chosen consumer loads the word where it stands, and takes its part of the frame that begins there. The chosen number is
-/// its place among those that its seat has.
+/// The chosen consumer loads the word where it stands, and takes its part of the frame that begins
+/// there. The chosen number is its place among those that its seat has.
 pub struct LookHere<N> {
     chosen: PhantomData<N>,
 }
@@ -177,6 +178,26 @@ impl Play<Access, LogView> for GiveRoom {
     ghost then = { λ _ m _ w. GivesRoom m w };
 }
 
+/// The room of the open frames of a seat's pass goes home, at a load.
+pub struct Park;
+
+impl Play<Access, LogView> for Park {
+    ghost use Rattle.log_memory.specs.Parking.{Parks};
+
+    ghost then = { λ _ m _ w. Parks m w };
+}
+
+/// The seat that has the pass then takes it from there, at a load.
+pub struct Fetch<N> {
+    chosen: PhantomData<N>,
+}
+
+impl<N: Picked> Play<Access, LogView> for Fetch<N> {
+    ghost use Rattle.log_memory.specs.Parking.{Fetches};
+
+    ghost then = { λ _ m _ w. Fetches N.site m w };
+}
+
 /// The keeper knows that all is zero up to the chosen position, at a load.
 pub struct CleanTo<N> {
     chosen: PhantomData<N>,
@@ -199,7 +220,8 @@ impl<N: Chosen> Play<Access, LogView> for Sweep<N> {
     ghost then = { λ _. LoadsPosition N.number };
 }
 
-/// The keeper stores where a consumer begins whose number nobody had: its own pass is that consumer then.
+/// The keeper stores where a consumer begins whose number nobody had: its own pass is that consumer
+/// then.
 pub struct Place<N> {
     seated: PhantomData<N>,
 }

@@ -40,6 +40,7 @@ returns-clause-stores g c =
       carried = told.carried ∙ ap (λ (n : ℕ). drop (n / 4) m.1) (words_long d c.requires.draft);
       part = told.part;
       room = told.room;
+      parked = told.parked;
       steps = told.steps;
       learns = told.learns;
       fills = told.fills;

@@ -27,6 +27,7 @@ returns-clause-stores g c =
       carried = e.carried ∙ behind;
       part = e.part ∙ ap (λ (v : LogView). v.part) same;
       room = e.room ∙ ap (λ (v : LogView). v.room) same;
+      parked = e.parked ∙ ap (λ (v : LogView). v.parked) same;
       steps = e.steps ∙ ap (λ (v : LogView). suc v.view.steps) same;
       learns = subst (λ (v : LogView). LearnsControls [] v.view c.commit_as.new.seat.me.0.view) same e.learns;
       fills = subst (λ (v : LogView). (front : List FrameWords) (cut : ℕ) (others : List FrameWords) → 0 < cut → v.view.pass.work.drafts ≡ front ++ blank d.start cut ∷ others → c.commit_as.new.seat.me.0.view.pass ≡ with_work (v.view.pass.work.frames ++ frame d.start cut (words_of d) ∷ []) (front ++ others) v.view.pass) same e.fills;

@@ -28,5 +28,6 @@ returns-clause-gives c =
       carried = g.carried ∙ ap (λ (n : ℕ). drop (n / 4) c.deal_room.new.seat.me.1) out ∙ ap (λ (n : ℕ). drop n c.deal_room.new.seat.me.1) (sym (count c.args.bytes o.whole)) ∙ carries_drop (IsRoomAt t) c.slot.result (8 * (c.args.bytes / 32)) [] c.deal_room.new.seat.me.1 c.deal_room.ensures.row;
       part = g.part ∙ ap (λ (v : LogView). v.part) same;
       room = g.room ∙ (λ j. record { freed = (same j).room.freed + out j; out = 0 });
+      parked = g.parked ∙ ap (λ (v : LogView). v.parked) same;
       rests = g.rests ∙ ap (λ (v : LogView). record v.view { steps = suc v.view.steps }) same;
     }

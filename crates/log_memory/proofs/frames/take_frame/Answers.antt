@@ -54,5 +54,6 @@ returns-clause-takes c =
       row = subst (λ (k : ℕ). Carries IsAnything k (8 * (c.align32-bytes.result / 32)) [] c.collect_parts-whole.new.seat.me.1) first c.collect_parts-whole.ensures.row;
       part = ap (λ (v : LogView). v.part) same ∙ told.part;
       room = ap (λ (v : LogView). v.room) same ∙ told.room ∙ ap (λ (n : ℕ). record { freed = c.args.seat.now.me.0.room.freed; out = n }) (sym s.0);
+      parked = ap (λ (v : LogView). v.parked) same ∙ told.parked;
       rests = ap (λ (v : LogView). v.view) same ∙ told.rests;
     }

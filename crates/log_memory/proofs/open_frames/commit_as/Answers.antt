@@ -36,7 +36,7 @@ behind_is t d rest mine c = carries_drop (IsRoomAt t) (slot_of (ring t) d.start 
 pub commit_frame-home-requires-clause-may : goal.commit_frame-home-requires-clause-may
 commit_frame-home-requires-clause-may g c =
     let o = c.requires.open in let same : c.pass_chosen.new.seat.me.0 ≡ c.args.seat.now.me.0 = ap (λ (m : Mine). m.0) c.pass_chosen.ensures.2 in record {
-      idle = subst (λ (v : LogView). v.part.has ≡ 0) (sym same) o.idle;
+      idle = subst (λ (v : LogView). (v.part.has ≡ 0) × (v.parked ≡ [])) (sym same) o.idle;
       front = g.N.Opened.front;
       cut = o.cut;
       others = g.N.Opened.others;
@@ -64,6 +64,7 @@ returns-clause-stores g c =
       holds = subst (λ (x : List FrameWords × List (ℕ × Access)). HoldsRooms t x.0 [] x.1) (λ j. (sym (ap (λ (p : Pass). p.work.drafts) pass) j, sym (ap (λ (y : Mine). y.1) last ∙ ap (rotated (slots_in others)) (s.carried ∙ e)) j)) (holds_turned t others front holds.0 holds.2);
       part = ap (λ (v : LogView). v.part) view ∙ s.part ∙ ap (λ (v : LogView). v.part) same;
       room = ap (λ (v : LogView). v.room) view ∙ s.room ∙ ap (λ (v : LogView). v.room) same;
+      parked = ap (λ (v : LogView). v.parked) view ∙ s.parked ∙ ap (λ (v : LogView). v.parked) same;
       steps = ap (λ (v : LogView). v.view.steps) view ∙ s.steps ∙ ap (λ (v : LogView). suc v.view.steps) same;
       learns = subst (λ (x : LogView × LogView). LearnsControls [] x.0.view x.1.view) (λ j. (same j, sym view j)) s.learns;
       fills = subst (λ (x : LogView × LogView). (front : List FrameWords) (cut : ℕ) (others : List FrameWords) → 0 < cut → x.0.view.pass.work.drafts ≡ front ++ blank d.start cut ∷ others → x.1.view.pass ≡ with_work (x.0.view.pass.work.frames ++ frame d.start cut (words_of d) ∷ []) (front ++ others) x.0.view.pass) (λ j. (same j, sym view j)) s.fills;

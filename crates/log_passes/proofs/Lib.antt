@@ -1,0 +1,7 @@
+mod Resting
+mod Works
+mod Picked
+mod Heads
+mod Read
+mod Cleaned
+mod Together

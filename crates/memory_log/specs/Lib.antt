@@ -1,0 +1,9 @@
+pub mod Handles
+pub mod Readers
+pub mod Joining
+pub mod Sourced
+pub mod Keepers
+pub mod Parts
+pub mod Books
+pub mod Faults
+pub mod Whole
