@@ -7,6 +7,7 @@ mod Books
 mod Copies
 mod WorldRows
 mod SentRows
+mod ArrivedRows
 mod LifeRows
 mod LawRows
 mod TallyRows

@@ -133,7 +133,7 @@ names = record {
     no : {A : Type 0} → ◌≡◌ {A = List Placed} (first_frame ∷ []) [] → A
     no e = absurd (cc)
 
-spells_status : SpellsDatagram (SM 0 status ∷ []) status_bytes
+pub spells_status : SpellsDatagram (SM 0 status ∷ []) status_bytes
 spells_status = (refl, ((inl refl, (record { sfits = omega arith }, record { sfits = omega arith }, record { sfits = omega arith }, record { sfits = omega arith }, record { sfits = omega arith }, record { sfits = omega arith })), tt), refl)
 
 hears : HearsThere has_named 1 status_bytes has_heard []

@@ -1,8 +1,6 @@
 -- The fault texts.
 use Rattle.std.specs.Prelude.{ℕ, List, ◌++◌, codes, decimal}
 use Rattle.frames.specs.Fault.{text_of}
-use Rattle.commands.specs.declared.decoding.fault.DecodeError.{DecodeError}
-use Rattle.commands.specs.declared.decoding.fault.DecodeError.TheVariants as decoding
 use Rattle.script.specs.declared.fault.ScriptFault.{ScriptFault}
 use Rattle.script.specs.declared.fault.ScriptFault.TheVariants as script
 use Rattle.endpoint.specs.declared.device_error.DeviceError.{DeviceError}
@@ -29,13 +27,6 @@ shown_fault Device = codes "device"
 abbrev pub of_script : ScriptFault → Fault
 of_script (script.Line n) = Line n
 of_script script.Memory = Memory
-
--- a word's fault as the program's
-abbrev pub of_decoding : DecodeError → Fault
-of_decoding decoding.Hex = Hex
-of_decoding (decoding.Frame error) = Frame error
-of_decoding decoding.Memory = Memory
-of_decoding decoding.Write = Write
 
 -- why a line of an input isn't read, as the program's; one that is too long is no even number of digits, at most 131,072
 abbrev pub of_input : InputFault → Fault

@@ -70,9 +70,15 @@ AreRoutesAlong [] (r ∷ rs) = ⊥
 AreRoutesAlong (t ∷ ts) [] = ⊥
 AreRoutesAlong (t ∷ ts) (r ∷ rs) = IsRouteAlong t r × AreRoutesAlong ts rs
 
+-- no address was found
+abbrev pub IsUnknown : RouteFault → Type 0
+IsUnknown (Unknown name) = ⊤
+IsUnknown (Twice peer) = ⊥
+IsUnknown Memory = ⊥
+
 -- what a user reads where there are none
 abbrev pub route_text : RouteFault → List ℕ
-route_text (Unknown unknown) = codes "no address of " ++ unknown.0.now ++ codes " was found"
+route_text (Unknown name) = codes "no address of " ++ name.now ++ codes " was found"
 route_text (Twice peer) = joined (codes "to: " ∷ socket_text peer ∷ codes " stands twice" ∷ [])
 route_text Memory = codes "memory"
 

@@ -1,11 +1,9 @@
 //! Datagrams in hexadecimal digits, as a line for each of their frames.
 
 mod datagram;
-mod fault;
 mod frame_line;
 mod input;
 
 pub use datagram::decode;
-pub use fault::DecodeError;
 pub use frame_line::FrameLine;
 pub use input::{LineFault, decode_input};

@@ -1,10 +1,9 @@
 //! What a user reads where the program gives up.
 
 ghost use Rattle.std.specs.Prelude.{◌≡◌, Some};
-ghost use Rattle.commands.specs.Faults.{of_device, of_decoding, of_script, shown_fault};
-ghost use Rattle.commands.specs.declared.fault.Fault.TheVariants.{Memory, Plan};
+ghost use Rattle.commands.specs.Faults.{of_device, of_script, shown_fault};
+ghost use Rattle.commands.specs.declared.fault.Fault.TheVariants.{Frame, Memory, Plan};
 
-use crate::DecodeError;
 use endpoint::DeviceError;
 use frames::FrameError;
 use options::PlanFault;
@@ -67,16 +66,11 @@ impl From<AllocError> for Fault {
     }
 }
 
-impl From<DecodeError> for Fault {
-    ghost from_gives = { λ from fault. fault ≡ of_decoding from };
+impl From<FrameError> for Fault {
+    ghost from_gives = { λ from fault. fault ≡ Frame from };
 
-    fn from(fault: DecodeError) -> Fault {
-        match fault {
-            DecodeError::Hex => Fault::Hex,
-            DecodeError::Frame(error) => Fault::Frame(error),
-            DecodeError::Memory => Fault::Memory,
-            DecodeError::Write => Fault::Write,
-        }
+    fn from(fault: FrameError) -> Fault {
+        Fault::Frame(fault)
     }
 }
 

@@ -14,7 +14,7 @@
 //! `decode`, where it succeeds, appends a line for each frame of the datagram that a word of hexadecimal digits spells,
 //! each byte of them, to a writer that tells what it holds (`FrameLine` as `Display` writes it). `Hex` and a frame's fault
 //! (`F1` to `F8`) come only where the word has that fault, `Write` only where it has none, `Memory` only for an even length
-//! up to 131,072; at any fault but `Write` nothing was written (`DecodeError`).
+//! up to 131,072; at any fault but `Write` nothing was written.
 //!
 //! An end's socket is bound at its channel's interface, or else a publisher's at any address and a subscriber's at its
 //! endpoint's own; a name is looked up once, and the first address is taken that goes with the interface and the time to live
@@ -30,7 +30,6 @@
 #![tactic(auto)]
 
 mod decoding;
-mod drawn_ids;
 mod fault;
 mod line;
 mod publish_command;
@@ -40,7 +39,7 @@ mod script_command;
 mod status;
 mod subscribe_command;
 
-pub use decoding::{DecodeError, FrameLine, LineFault, decode, decode_input};
+pub use decoding::{FrameLine, LineFault, decode, decode_input};
 pub use fault::Fault;
 pub use line::command;
 pub use run_command::run_driver;

@@ -6,9 +6,8 @@ ghost use Rattle.command_line.specs.CommandLines.{driver_app};
 ghost use Rattle.command_line.specs.Readers.{faults_of};
 ghost use Rattle.command_line.specs.Refusals.{HoldRefusal};
 ghost use Rattle.commands.specs.DecodedInput.{DecodesInput};
-ghost use Rattle.commands.specs.Done.{DecodesWord, DrivesBy, DrivesShortBy, IsDone, IsDriven, IsDrivenShort, IsShort};
+ghost use Rattle.commands.specs.Done.{DrivesBy, DrivesShortBy, IsDone, IsDriven, IsDrivenShort, IsShort};
 ghost use Rattle.commands.specs.Running.{IsLeftBy};
-ghost use Rattle.commands.specs.Scripting.{PlaysInput};
 ghost use Rattle.commands.specs.Statuses.{IsStatusOf, RefusesLine, ran_status};
 
 use crate::decoding::{decode, decode_input};
@@ -110,23 +109,10 @@ fn driver_status<C: Threads + Wait + Clock + Net + Sync, R: Read, W: Write, E: W
     ensures short { result ≡ 3 → IsDrivenShort options.now (W.contents output.old) (W.contents output.new) }
 {
     match *options {
-        Options::Sim => sim_status(alloc, input, output, errors),
-        Options::Decode(word) => decode_status(alloc, word, output, errors),
+        Options::Sim => done(&sim(alloc, input, output), errors),
+        Options::Decode(word) => done(&decode(alloc, word, output), errors),
         Options::Run(options) => run_status(rt, alloc, &options, output, errors),
     }
-}
-
-/// Plays the script that the input holds, and gives the status.
-fn sim_status<R: Read, W: Write, E: Write>(
-    alloc: Global,
-    input: &mut R,
-    output: &mut W,
-    errors: &mut E,
-) -> u8
-    ensures most { result ≤ 1 }
-    ensures played { result ≡ 0 → PlaysInput (R.remaining input.old) (W.contents output.old) (W.contents output.new) }
-{
-    done(&sim(alloc, input, output), errors)
 }
 
 /// Prints the frames of the datagrams that the input spells, and gives the status.
@@ -143,19 +129,6 @@ fn decode_input_status<R: Read + Drop, W: Write, E: Write>(
         Ok(mut input) => done(&decode_input(alloc, &mut input, output), errors),
         Err(fault) => failed(&fault, errors),
     }
-}
-
-/// Prints the frames of the datagram that a word spells, and gives the status.
-fn decode_status<W: Write, E: Write>(
-    alloc: Global,
-    word: &str,
-    output: &mut W,
-    errors: &mut E,
-) -> u8
-    ensures most { result ≤ 1 }
-    ensures decoded { result ≡ 0 → DecodesWord word.now (W.contents output.old) (W.contents output.new) }
-{
-    done(&decode(alloc, word, output).map_err(Fault::from), errors)
 }
 
 /// Runs the driver, and gives the status. At 0 the run was whole, and at 3 short, as the lines that were written tell.

@@ -7,13 +7,12 @@ ghost use Rattle.publisher.specs.Ended.{PublishesAll};
 ghost use Rattle.commands.specs.Done.{HasPlanBy, PublishesBy, PublishesTo, PublishesTold};
 ghost use Rattle.commands.specs.Statuses.{HasPublishPlan, IsStatusOf, NoPublishPlan, NoWays, RefusesPublish, published_status};
 
-use crate::drawn_ids::drawn_ids;
 use crate::fault::Fault;
 use crate::route::{routes_of, tell_each_found};
 use crate::status::{failed, failed_by, line_status, unplanned};
 use channel::Transport;
 use command_line::publish_options;
-use options::{PublishOptions, PublishPlan, WayFault, publish_plan, ways_of};
+use options::{Drawn, PublishOptions, PublishPlan, WayFault, draw, publish_plan, ways_of};
 use publisher::{Ending, PublishFault, publish};
 use std::alloc::Global;
 use std::io::{Read, Write};
@@ -22,6 +21,13 @@ use std::random::RandomSource;
 use std::sync::Wait;
 use std::thread::Threads;
 use std::time::Clock;
+
+/// Ids that the system's random bytes spell, and whether it gave any; where it gives none they spell 0.
+pub(crate) fn drawn_ids<R: RandomSource>(rt: &R) -> (Drawn, bool) {
+    let mut bytes = [0; 16];
+    let given = rt.fill_bytes(&mut bytes).is_ok();
+    (draw(&bytes), given)
+}
 
 /// Publishes as planned along these ways, and gives the status; to which addresses names led is told, or that none was found.
 fn publish_planned<

@@ -1,11 +1,10 @@
 //! Where an end's socket is bound, and to whom it sends.
 
-ghost use Rattle.std.specs.Prelude.{◌≡◌, ◌≢◌, Some, IfErr, IfOk, IfSome, OnOk, codes, length, true, false, ◌++◌};
+ghost use Rattle.std.specs.Prelude.{◌≡◌, Some, IfErr, IfOk, IfSome, OnOk, length, true, false};
 ghost use Rattle.std.specs.Io.KnownBytes.{Appends};
 ghost use Rattle.channel.specs.declared.host.Host.TheVariants.{Name as Named};
 ghost use Rattle.channel.specs.declared.host.Name.{Name as AnyName};
-ghost use Rattle.commands.specs.declared.route.RouteFault.TheVariants.{Memory as Refused};
-ghost use Rattle.commands.specs.Routes.{ArePeersApart, AreRoutesAlong, IsAnyAddress, IsBindingOf, IsFound, IsPeer, IsRouteAlong, IsRouteOf, LeadElsewhere, LeadsAway, LeadsThere, TellsFound, route_text};
+ghost use Rattle.commands.specs.Routes.{ArePeersApart, AreRoutesAlong, IsAnyAddress, IsBindingOf, IsFound, IsPeer, IsRouteAlong, IsRouteOf, IsUnknown, LeadElsewhere, LeadsAway, LeadsThere, TellsFound, route_text};
 
 use channel::{Host, Name, Transport};
 use endpoint::{Binding, Route};
@@ -15,20 +14,30 @@ use std::io::Write;
 use std::net::{IpAddr, Ipv4Addr, Ipv6Addr, Net, SocketAddr, ToSocketAddrs};
 use std::{fmt, io};
 
-/// No address of a host of this name is known to the system that goes with what else the channel names.
+/// Why there are no routes.
 #[derive(Clone, Copy, Debug)]
-pub struct NoAddress<'a>(pub &'a str);
+pub enum RouteFault<'a> {
+    /// No address of a host of this name is known to the system that goes with what else the channel names.
+    Unknown(&'a str),
+    /// Two endpoints lead to this address: one of them by a name.
+    Twice(SocketAddr),
+    /// Memory was refused.
+    Memory,
+}
 
-impl fmt::Display for NoAddress<'_> {
-    ghost output = { λ fault. Some (codes "no address of " ++ fault.0.now ++ codes " was found") };
+impl fmt::Display for RouteFault<'_> {
+    ghost output = { λ fault. Some (route_text fault) };
 
     fn fmt<W: fmt::Write>(&self, f: &mut fmt::Formatter<W>) -> fmt::Result {
-        let name = self.0;
-        write!(f, "no address of {name} was found")
+        match *self {
+            RouteFault::Unknown(name) => write!(f, "no address of {name} was found"),
+            RouteFault::Twice(peer) => write!(f, "to: {peer} stands twice"),
+            RouteFault::Memory => write!(f, "memory"),
+        }
     }
 }
 
-impl Error for NoAddress<'_> {}
+impl Error for RouteFault<'_> {}
 
 /// The first address that the system gives for a name and that goes with what else the channel names.
 fn looked_up<R: Net>(rt: &R, transport: &Transport, name: &Name) -> Option<SocketAddr>
@@ -52,15 +61,15 @@ fn looked_up<R: Net>(rt: &R, transport: &Transport, name: &Name) -> Option<Socke
 pub(crate) fn peer_of<'a, R: Net>(
     rt: &R,
     transport: &'a Transport,
-) -> Result<SocketAddr, NoAddress<'a>>
+) -> Result<SocketAddr, RouteFault<'a>>
     ensures found { IfOk result (IsPeer transport.now transport.now.endpoint.host) }
-    ensures unknown { IfErr result (λ _. (n : AnyName) × (transport.now.endpoint.host ≡ Named n)) }
+    ensures unknown { IfErr result (λ fault. IsUnknown fault × ((n : AnyName) × (transport.now.endpoint.host ≡ Named n))) }
 {
     match &transport.endpoint.host {
         Host::Address(address) => Ok(SocketAddr::new(*address, transport.endpoint.port)),
         Host::Name(name) => match looked_up(rt, transport, name) {
             Some(peer) => Ok(peer),
-            None => Err(NoAddress(name.text())),
+            None => Err(RouteFault::Unknown(name.text())),
         },
     }
 }
@@ -112,39 +121,14 @@ pub(crate) fn route_of(transport: &Transport, peer: SocketAddr) -> Route
     }
 }
 
-/// Why there are no routes.
-#[derive(Clone, Copy, Debug)]
-pub enum RouteFault<'a> {
-    /// No address of a host of this name was found.
-    Unknown(NoAddress<'a>),
-    /// Two endpoints lead to this address: one of them by a name.
-    Twice(SocketAddr),
-    /// Memory was refused.
-    Memory,
-}
-
-impl fmt::Display for RouteFault<'_> {
-    ghost output = { λ fault. Some (route_text fault) };
-
-    fn fmt<W: fmt::Write>(&self, f: &mut fmt::Formatter<W>) -> fmt::Result {
-        match *self {
-            RouteFault::Unknown(unknown) => write!(f, "{unknown}"),
-            RouteFault::Twice(peer) => write!(f, "to: {peer} stands twice"),
-            RouteFault::Memory => write!(f, "memory"),
-        }
-    }
-}
-
-impl Error for RouteFault<'_> {}
-
 /// The route of a publisher along one of its ways.
 fn route_along<'a, R: Net>(rt: &R, way: &'a Transport) -> Result<Route, RouteFault<'a>>
     ensures route { IfOk result (IsRouteAlong way.now) }
-    ensures unknown { IfErr result (λ fault. fault ≢ Refused) }
+    ensures unknown { IfErr result IsUnknown }
 {
     match peer_of(rt, way) {
         Ok(peer) => Ok(route_of(way, peer)),
-        Err(unknown) => Err(RouteFault::Unknown(unknown)),
+        Err(fault) => Err(fault),
     }
 }
 

@@ -50,17 +50,9 @@ fn show_outcome<W: Write>(outcome: &Outcome, output: &mut W) -> Result<(), Fault
     ensures done { OnOk result (Appends (W.contents output.old) (W.contents output.new) (outcome_text outcome.now)) }
     ensures fault { IfErr result (λ fault. fault ≡ Fault.Write) }
 {
-    write_outcome(outcome, output)?;
-    output.flush().map_err(|_| Fault::Write)
-}
-
-/// Writes the lines.
-fn write_outcome<W: Write>(outcome: &Outcome, output: &mut W) -> Result<(), Fault>
-    ensures done { OnOk result (Appends (W.contents output.old) (W.contents output.new) (outcome_text outcome.now)) }
-    ensures fault { IfErr result (λ fault. fault ≡ Fault.Write) }
-{
     write_all_polled(&outcome.tallies, outcome.wanted, output)?;
-    writeln!(output, "{}", Line::Book(outcome.book)).map_err(|_| Fault::Write)
+    writeln!(output, "{}", Line::Book(outcome.book)).map_err(|_| Fault::Write)?;
+    output.flush().map_err(|_| Fault::Write)
 }
 
 /// Writes the two lines of each receiver, in order.

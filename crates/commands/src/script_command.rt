@@ -1,9 +1,9 @@
 //! A script from a reader, its lines to a writer.
 
-ghost use Rattle.std.specs.Prelude.{◌≡◌, ◌≤◌, ◌⊎◌, ◌++◌, ◌∷◌, [], length, vec_len, IfErr, IfOk, IfSome, OnOk};
+ghost use Rattle.std.specs.Prelude.{◌≡◌, ◌≤◌, ◌⊎◌, length, vec_len, IfErr, IfOk, IfSome, OnOk};
 ghost use Rattle.std.specs.Io.KnownBytes.{Appends, Consumes, Keeps};
-ghost use Rattle.simulation.specs.LineTexts.{line_text, text_of_lines};
-ghost use Rattle.simulation.specs.Lines.{line_content, line_contents};
+ghost use Rattle.simulation.specs.LineTexts.{text_of_lines};
+ghost use Rattle.simulation.specs.Lines.{line_contents};
 ghost use Rattle.commands.specs.Scripting.{ExplainsInput, ExplainsScript, PlaysInput};
 
 use crate::fault::Fault;
@@ -39,17 +39,9 @@ fn write_lines<W: Write>(lines: &[Line], output: &mut W) -> Result<(), Fault>
     ensures fault { IfErr result (λ fault. fault ≡ Fault.Write) }
 {
     for line in lines {
-        write_line(line, output)?;
+        writeln!(output, "{line}").map_err(|_| Fault::Write)?;
     }
     Ok(())
-}
-
-/// Writes a line, ended by a line feed.
-fn write_line<W: Write>(line: &Line, output: &mut W) -> Result<(), Fault>
-    ensures done { OnOk result (Appends (W.contents output.old) (W.contents output.new) (line_text (line_content line.now) ++ 10 ∷ [])) }
-    ensures fault { IfErr result (λ fault. fault ≡ Fault.Write) }
-{
-    writeln!(output, "{line}").map_err(|_| Fault::Write)
 }
 
 /// All of the input, unless it is longer than 1 MiB. The fault is `Input` then, `Read` where the input fails, or want of

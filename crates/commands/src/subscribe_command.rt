@@ -8,8 +8,8 @@ ghost use Rattle.subscriber.specs.declared.ending.Ending.TheVariants.{Lost, Whol
 ghost use Rattle.commands.specs.Done.{IsSubscribed, IsSubscribedTold, SubscribesBy, SubscribesShortBy};
 ghost use Rattle.commands.specs.Statuses.{HasSubscribePlan, IsStatusOf, NoSubscribePlan, RefusesSubscribe, subscribed_as, subscribed_status};
 
-use crate::drawn_ids::drawn_ids;
 use crate::fault::Fault;
+use crate::publish_command::drawn_ids;
 use crate::route::{binding_of, peer_of, tell_found};
 use crate::status::{failed, failed_by, line_status, unplanned};
 use command_line::subscribe_options;

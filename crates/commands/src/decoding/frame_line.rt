@@ -2,7 +2,7 @@
 
 ghost use Rattle.std.specs.Prelude.{◌≡◌, ◌+◌, length, Some};
 ghost use Rattle.frames.specs.Frames.{asks_of, header_of, nak_of, setup_of, status_of, wire};
-ghost use Rattle.commands.specs.FrameLines.{frame_line, header_text, nak_text, setup_lengths_text, setup_text, status_text};
+ghost use Rattle.commands.specs.FrameLines.{frame_line, header_text, nak_text, setup_text, status_text};
 
 use frames::{Frame, Header, Nak, Setup, Status};
 use std::fmt;
@@ -147,37 +147,18 @@ impl fmt::Display for SetupFields {
 
     fn fmt<W: fmt::Write>(&self, f: &mut fmt::Formatter<W>) -> fmt::Result {
         let Setup {
+            term_offset,
             session,
             stream,
             initial_term_id,
             active_term_id,
-            ..
-        } = self.0;
-        let lengths = SetupLengths(self.0);
-        write!(
-            f,
-            "session={session} stream={stream} initial={initial_term_id} active={active_term_id} {lengths}"
-        )
-    }
-}
-
-#[derive(Clone, Copy)]
-struct SetupLengths(Setup);
-
-impl fmt::Display for SetupLengths {
-    ghost output = { λ fields. Some (setup_lengths_text (setup_of fields.0)) };
-
-    fn fmt<W: fmt::Write>(&self, f: &mut fmt::Formatter<W>) -> fmt::Result {
-        let Setup {
-            term_offset,
             term_length,
             mtu,
             ttl,
-            ..
         } = self.0;
         write!(
             f,
-            "offset={term_offset} term-length={term_length} mtu={mtu} ttl={ttl}"
+            "session={session} stream={stream} initial={initial_term_id} active={active_term_id} offset={term_offset} term-length={term_length} mtu={mtu} ttl={ttl}"
         )
     }
 }

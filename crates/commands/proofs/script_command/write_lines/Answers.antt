@@ -12,9 +12,9 @@ loop-line-init g c = Appends-nil (g.W.Write.contents c.args.output.now)
 
 pub loop-line-preserved : goal.loop-line-preserved
 loop-line-preserved g c =
-    let printed : Appends (g.W.Write.contents c.loop-line.output) (g.W.Write.contents c.write_line.new.output) (line_text (line_content c.line-item.result) ++ 10 ∷ []) = search rules in
+    let printed : Appends (g.W.Write.contents c.loop-line.output) (g.W.Write.contents c.writeln.new.self) (line_text (line_content c.line-item.result) ++ 10 ∷ []) = search rules in
     let all = Appends-trans _ _ _ _ _ c.loop-line.invariant printed in
-    subst (Appends (g.W.Write.contents c.args.output.now) (g.W.Write.contents c.write_line.new.output)) (text_more c.args.lines.now c.loop-line.line-index c.line-item.result c.loop-line-test.true c.line-item.is) all
+    subst (Appends (g.W.Write.contents c.args.output.now) (g.W.Write.contents c.writeln.new.self)) (text_more c.args.lines.now c.loop-line.line-index c.line-item.result c.loop-line-test.true c.line-item.is) all
 
 pub returns-clause-done : goal.returns-clause-done
 returns-clause-done g c =
