@@ -31,8 +31,8 @@ use Rattle.receiver.specs.Lives.{IsStream, Stream}
 use Rattle.sender_meaning.specs.Lives.{IsSpelled, SendsStream, source_in}
 use Rattle.sender_meaning.specs.StreamLives.{StreamGivesHonest}
 use Rattle.options.specs.declared.ends.plans.PublishPlan.{PublishPlan}
-use Rattle.offering.specs.Offers.{Publishes, Taken, claim_of, frames_in}
-use Rattle.offering.specs.Offers.Taken.{Message, Padding}
+use Rattle.publisher.specs.Offers.{Publishes, Taken, claim_of, frames_in}
+use Rattle.publisher.specs.Offers.Taken.{Message, Padding}
 use Rattle.publisher.specs.Ended.{PublishesAll}
 use Rattle.publisher.specs.Openings.{HasNone}
 use Rattle.channel_meaning.specs.Books.{GivesAllHonest, PublishesAllOfIt, WritesAllOfIt, entries_in, stream_in}

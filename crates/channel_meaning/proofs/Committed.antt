@@ -16,8 +16,8 @@ use Rattle.log_rule.specs.Claims.Handles.{PublisherValue}
 use Rattle.log_rule.proofs.Claimed.Memories.{maps_append}
 use Rattle.shared_log.specs.Books.{IsCommittedBy, committed_of}
 use Rattle.shared_log.specs.Sourced.{placed}
-use Rattle.offering.specs.Offers.{Taken, frames_in}
-use Rattle.offering.specs.Offers.Taken.{Message, Padding}
+use Rattle.publisher.specs.Offers.{Taken, frames_in}
+use Rattle.publisher.specs.Offers.Taken.{Message, Padding}
 use Rattle.publisher.specs.Openings.{HasNone}
 use Rattle.channel_meaning.specs.Streams.{entry_of}
 

@@ -6,9 +6,9 @@ use Rattle.theory.specs.Position.{max_message}
 use Rattle.messages.specs.Forms.{block, line, spelling}
 use Rattle.messages.specs.declared.form.Form.{Form}
 use Rattle.messages.specs.declared.form.Form.TheVariants.{Lines, Blocks}
-use Rattle.offering.specs.Offers.{Reads, Stops}
-use Rattle.offering.specs.declared.reading.ReadingFault.{ReadingFault}
-use Rattle.offering.specs.declared.reading.ReadingEnd.{ReadingEnd}
+use Rattle.publisher.specs.Offers.{Reads, Stops}
+use Rattle.publisher.specs.declared.offering.reading.ReadingFault.{ReadingFault}
+use Rattle.publisher.specs.declared.offering.reading.ReadingEnd.{ReadingEnd}
 use Rattle.receiver.specs.Lives as meant
 use Rattle.receiver.specs.Receiving.{Opened}
 use Rattle.receiver.specs.Lives.{IsRunOf, Stream}
@@ -18,8 +18,8 @@ use Rattle.peer.specs.Ties.{Tied}
 use Rattle.peer.specs.declared.attendance.Attendance.{Attendance}
 use Rattle.publisher.specs.Ended.{AllArrived, PublishesAll}
 use Rattle.publisher.specs.Seeing.{ChannelDestination}
-use Rattle.offering.specs.declared.reading.Reading.{Reading}
-use Rattle.offering.specs.declared.reading.ReadingEnd.TheVariants.{All}
+use Rattle.publisher.specs.declared.offering.reading.Reading.{Reading}
+use Rattle.publisher.specs.declared.offering.reading.ReadingEnd.TheVariants.{All}
 use Rattle.publisher.specs.declared.sender_thread.SenderPasses.{SenderPasses}
 use Rattle.subscriber.specs.Living.{given_through}
 use Rattle.channel_meaning.specs.Books.{WritesAllOfIt, given_out, stream_in}

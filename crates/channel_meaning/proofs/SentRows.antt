@@ -24,8 +24,8 @@ use Rattle.sender_meaning.specs.Lives.{Hears, SendsStream, Ticks, source_in}
 use Rattle.sender_meaning.specs.Moments.{HearsThere, StreamCore, TicksThere}
 use Rattle.sender_meaning.specs.StreamLives.{Acts, StreamAct, StreamLives, given_in_all}
 use Rattle.sender_meaning.proofs.StreamRows.{ab, two}
-use Rattle.offering.specs.Offers.{frames_in}
-use Rattle.offering.specs.Offers.Taken.{Message}
+use Rattle.publisher.specs.Offers.{frames_in}
+use Rattle.publisher.specs.Offers.Taken.{Message}
 use Rattle.options.specs.declared.ends.plans.PublishPlan.{PublishPlan}
 use Rattle.endpoint.specs.Fans.{Fanned}
 use Rattle.endpoint.specs.declared.udp.Route.{Route}

@@ -10,8 +10,8 @@ use Rattle.theory.specs.Tiling.{Tiles}
 use Rattle.theory.proofs.Frames.{tiles_le}
 use Rattle.theory.proofs.Pieces.{pieces_join}
 use Rattle.model.proofs.Commits.{payload_cuts, pieces_length}
-use Rattle.offering.specs.Offers.{Taken, messages_in}
-use Rattle.offering.specs.Offers.Taken.{Message, Padding}
+use Rattle.publisher.specs.Offers.{Taken, messages_in}
+use Rattle.publisher.specs.Offers.Taken.{Message, Padding}
 use Rattle.channel_meaning.specs.Streams.{PublishesItsStream, entry_of}
 
 pub messages_skip : (c q : ℕ) (e : Entry) (es : List Entry) → is_between c q e ≡ false → messages c q (e ∷ es) ≡ messages c q es

@@ -23,11 +23,11 @@ use Rattle.shared_log.specs.declared.book.Book.{Book}
 use Rattle.sender_meaning.proofs.StreamRows.{ab, two}
 use Rattle.options.specs.declared.ends.plans.PublishPlan.{PublishPlan}
 use Rattle.messages.specs.declared.form.Form.TheVariants.{Lines}
-use Rattle.offering.specs.InputEnds.{EndsInput}
-use Rattle.offering.specs.Offers.{Publishes, Taken, claim_of, frames_in}
-use Rattle.offering.specs.Offers.Taken.{Message}
-use Rattle.offering.specs.declared.reading.Reading.{Reading}
-use Rattle.offering.specs.declared.reading.ReadingEnd.TheVariants.{All}
+use Rattle.publisher.specs.InputEnds.{EndsInput}
+use Rattle.publisher.specs.Offers.{Publishes, Taken, claim_of, frames_in}
+use Rattle.publisher.specs.Offers.Taken.{Message}
+use Rattle.publisher.specs.declared.offering.reading.Reading.{Reading}
+use Rattle.publisher.specs.declared.offering.reading.ReadingEnd.TheVariants.{All}
 use Rattle.messages.specs.Inputs.{IsOneLine}
 use Rattle.channel_meaning.specs.Streams.{IsItsStream}
 

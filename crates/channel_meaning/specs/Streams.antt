@@ -8,8 +8,8 @@ use Rattle.theory.specs.Placed.{AllAmong, Among, Pad}
 use Rattle.theory.specs.Position.{cuts_of}
 use Rattle.theory.specs.Wire.{SETUP, spelling}
 use Rattle.publication.specs.declared.pass.Pass.{Pass}
-use Rattle.offering.specs.Offers.{Publishes, Taken}
-use Rattle.offering.specs.Offers.Taken.{Message, Padding}
+use Rattle.publisher.specs.Offers.{Publishes, Taken}
+use Rattle.publisher.specs.Offers.Taken.{Message, Padding}
 use Rattle.options.specs.declared.ends.plans.SubscribePlan.{SubscribePlan}
 use Rattle.peer.specs.Farewells.{farewell_fields}
 use Rattle.receiver.specs.Receiving.{Opened, Receiver}

@@ -19,8 +19,8 @@ use Rattle.publisher.specs.declared.sender_thread.SenderPasses.{SenderPasses}
 use Rattle.messages.specs.declared.form.Form.{Form}
 use Rattle.options.specs.declared.ends.plans.PublishPlan.{PublishPlan}
 use Rattle.peer.specs.declared.attendance.Attendance.{Attendance}
-use Rattle.offering.specs.InputEnds.{EndsInput}
-use Rattle.offering.specs.declared.reader.InputEnd.{InputEnd}
+use Rattle.publisher.specs.InputEnds.{EndsInput}
+use Rattle.publisher.specs.declared.offering.reader.InputEnd.{InputEnd}
 use Rattle.peer.specs.declared.attended.ToldEnds.{ToldEnds}
 use Rattle.publisher.proofs.Sent.{sends_committed}
 use Rattle.publisher.specs.Destinations.{AreDestinationsAlong}

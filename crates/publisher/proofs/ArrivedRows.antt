@@ -4,10 +4,10 @@ use Rattle.std.proofs.Common.{pos, ap, refl, sym, ◌∙◌}
 use Rattle.peer.specs.Attending.{after_all, nobody}
 use Rattle.peer.specs.Endings.{is_whole}
 use Rattle.peer.specs.declared.attendance.Attendance.{Attendance}
-use Rattle.offering.specs.declared.reading.ReadingFault.{ReadingFault}
-use Rattle.offering.specs.declared.reading.Reading.{Reading}
-use Rattle.offering.specs.declared.reading.ReadingEnd.{ReadingEnd}
-use Rattle.offering.specs.declared.reading.ReadingEnd.TheVariants.{All, Stopped}
+use Rattle.publisher.specs.declared.offering.reading.ReadingFault.{ReadingFault}
+use Rattle.publisher.specs.declared.offering.reading.Reading.{Reading}
+use Rattle.publisher.specs.declared.offering.reading.ReadingEnd.{ReadingEnd}
+use Rattle.publisher.specs.declared.offering.reading.ReadingEnd.TheVariants.{All, Stopped}
 use Rattle.publisher.specs.Ended.{AllArrived, HasArrived}
 
 -- a receiver told its positions

@@ -4,7 +4,7 @@ use Rattle.std.proofs.lemmas.List.Folds.{list_all_more}
 use Rattle.std.specs.List.{list_all}
 use Rattle.std.specs.Prelude.{◌&&◌, ⊤}
 use Rattle.peer.specs.declared.attendance.Ending.{Ending}
-use Rattle.offering.specs.declared.reading.Reading.{Reading}
+use Rattle.publisher.specs.declared.offering.reading.Reading.{Reading}
 use Rattle.publisher.specs.Judging.{end_in}
 use Rattle.publisher.specs.Progress.{judged_by}
 use Rattle.publisher.specs.declared.judging.Judged.{Judged}

@@ -2,9 +2,9 @@
 use Rattle.std.proofs.Common.{◌≡◌, IfErr, Result, Err, subst}
 use Rattle.std.proofs.Math.Logic.{∥∥₁_map}
 use Rattle.theory.specs.Position.{Geometry}
-use Rattle.offering.specs.Inputs.{StopsReading}
-use Rattle.offering.specs.declared.reading.ReadingFault.{ReadingFault}
-use Rattle.offering.specs.declared.reading.ReadingEnd.{ReadingEnd}
+use Rattle.publisher.specs.Inputs.{StopsReading}
+use Rattle.publisher.specs.declared.offering.reading.ReadingFault.{ReadingFault}
+use Rattle.publisher.specs.declared.offering.reading.ReadingEnd.{ReadingEnd}
 use Rattle.publisher.specs.Faults.{publish_fault}
 use Rattle.publisher.specs.Judging.{IsStop}
 use Rattle.publisher.specs.declared.fault.PublishFault.{PublishFault}

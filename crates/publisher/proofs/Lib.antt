@@ -16,3 +16,5 @@ pub mod Numbered
 pub mod Begun
 pub mod Short
 pub mod Shorts
+pub mod Inputs
+pub mod Offers

@@ -8,7 +8,7 @@ use Rattle.std.specs.declared.net.SocketAddr.{SocketAddr}
 use Rattle.options.specs.declared.ends.plans.PublishPlan.{PublishPlan}
 use Rattle.peer.specs.declared.attendance.Ending.{Ending}
 use Rattle.peer.specs.declared.attendance.Ending.TheVariants.{Whole, Short}
-use Rattle.offering.specs.declared.reading.Reading.{Reading}
+use Rattle.publisher.specs.declared.offering.reading.Reading.{Reading}
 use Rattle.publisher.specs.Farewells.{ending_told, ending_unless_another}
 use Rattle.publisher.specs.Judging.{ended_by, fault_in, faulted_or}
 use Rattle.publisher.specs.Whys.{SaysElsewhere, told_by}

@@ -1,7 +1,7 @@
 -- Why a publisher goes on no more, and what it has told where it does.
 use Rattle.std.proofs.Common.{◌≡◌, ℕ, inr, Bool, true, false, ◌||◌, nat_eq, is_some, Option, None, Some, IfSome, Result, Ok, Err, if◌then◌else◌, refl, sym, ap, subst}
 use Rattle.std.specs.Prelude.{⊤}
-use Rattle.offering.specs.declared.reading.Reading.{Reading}
+use Rattle.publisher.specs.declared.offering.reading.Reading.{Reading}
 use Rattle.publisher.specs.Judging.{FailsBy, fault_in, reading_fault}
 use Rattle.publisher.specs.declared.fault.PublishFault.{PublishFault}
 

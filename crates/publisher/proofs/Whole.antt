@@ -6,11 +6,11 @@ use Rattle.peer.specs.declared.attendance.Attendance.{Attendance}
 use Rattle.peer.specs.declared.attendance.Ending.{Ending}
 use Rattle.peer.specs.declared.attendance.Ending.TheVariants.{Whole, Short}
 use Rattle.peer.specs.Endings as peers
-use Rattle.offering.specs.declared.reading.ReadingFault.{ReadingFault}
-use Rattle.offering.specs.declared.reading.Offered.{Offered}
-use Rattle.offering.specs.declared.reading.Reading.{Reading}
-use Rattle.offering.specs.declared.reading.ReadingEnd.{ReadingEnd}
-use Rattle.offering.specs.declared.reading.ReadingEnd.TheVariants.{All, Stopped}
+use Rattle.publisher.specs.declared.offering.reading.ReadingFault.{ReadingFault}
+use Rattle.publisher.specs.declared.offering.reading.Offered.{Offered}
+use Rattle.publisher.specs.declared.offering.reading.Reading.{Reading}
+use Rattle.publisher.specs.declared.offering.reading.ReadingEnd.{ReadingEnd}
+use Rattle.publisher.specs.declared.offering.reading.ReadingEnd.TheVariants.{All, Stopped}
 use Rattle.publisher.specs.declared.fault.PublishFault.{PublishFault}
 use Rattle.publisher.specs.declared.judging.Judged.{Judged}
 use Rattle.publisher.specs.Ended.{AllArrived, HasArrived}

@@ -7,7 +7,7 @@ use Rattle.peer.specs.declared.attendance.Attendance.{Attendance}
 use Rattle.peer.specs.declared.attendance.Ending.{Ending}
 use Rattle.peer.specs.declared.attendance.Ending.TheVariants.{Whole, Short}
 use Rattle.peer.specs.Endings as peers
-use Rattle.offering.specs.declared.reading.Reading.{Reading}
+use Rattle.publisher.specs.declared.offering.reading.Reading.{Reading}
 use Rattle.publisher.specs.declared.fault.PublishFault.{PublishFault}
 use Rattle.publisher.specs.declared.judging.Judged.{Judged}
 use Rattle.publisher.specs.Ended.{AllArrived}

@@ -19,10 +19,10 @@ use Rattle.peer.specs.Ties.{Tied}
 use Rattle.peer.specs.declared.attendance.Attendance.{Attendance}
 use Rattle.peer.specs.Endings.{is_whole}
 use Rattle.peer.specs.declared.attended.ToldEnds.{ToldEnds}
-use Rattle.offering.specs.InputEnds.{EndsInput}
-use Rattle.offering.specs.declared.reader.InputEnd.{InputEnd}
-use Rattle.offering.specs.declared.reading.Reading.{Reading}
-use Rattle.offering.specs.declared.reading.ReadingEnd.TheVariants.{All}
+use Rattle.publisher.specs.InputEnds.{EndsInput}
+use Rattle.publisher.specs.declared.offering.reader.InputEnd.{InputEnd}
+use Rattle.publisher.specs.declared.offering.reading.Reading.{Reading}
+use Rattle.publisher.specs.declared.offering.reading.ReadingEnd.TheVariants.{All}
 use Rattle.publisher.specs.Destinations.{AreDestinationsAlong}
 use Rattle.publisher.specs.Endings.{heard_along}
 use Rattle.publisher.specs.Farewells.{TellsFarewell, are_told_alone, ends_along}

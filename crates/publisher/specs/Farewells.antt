@@ -7,7 +7,7 @@ use Rattle.peer.specs.Watching.{Watched, with_end}
 use Rattle.peer.specs.declared.attendance.Ending.{Ending}
 use Rattle.peer.specs.declared.attendance.Ending.TheVariants.{Short}
 use Rattle.peer.specs.declared.attended.ToldEnds.{ToldEnds}
-use Rattle.offering.specs.declared.reading.Reading.{Reading}
+use Rattle.publisher.specs.declared.offering.reading.Reading.{Reading}
 use Rattle.publisher.specs.Judging.{end_in}
 use Rattle.publisher.specs.Seeing.{ChannelDestination}
 use Rattle.publisher.specs.declared.destination.Destination.{Destination}

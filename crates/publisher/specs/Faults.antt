@@ -3,8 +3,8 @@ use Rattle.endpoint.specs.declared.device_error.DeviceError.TheVariants.{Memory}
 use Rattle.endpoint.specs.declared.open_error.OpenError.{OpenError}
 use Rattle.endpoint.specs.declared.open_error.OpenError.TheVariants as opening
 use Rattle.endpoint.specs.declared.udp.Route.{Route}
-use Rattle.offering.specs.declared.reading.ReadingFault.{ReadingFault}
-use Rattle.offering.specs.declared.reading.ReadingFault.TheVariants as stops
+use Rattle.publisher.specs.declared.offering.reading.ReadingFault.{ReadingFault}
+use Rattle.publisher.specs.declared.offering.reading.ReadingFault.TheVariants as stops
 use Rattle.publisher.specs.declared.fault.PublishFault.{PublishFault}
 use Rattle.publisher.specs.declared.fault.PublishFault.TheVariants.{Input, Full, NoSocket, Failed}
 

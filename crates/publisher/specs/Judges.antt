@@ -1,6 +1,6 @@
 -- How a publisher is judged to end.
 use Rattle.std.specs.Prelude.{◌≡◌, ◌⊎◌, ℕ, true, false, List, [], ◌∷◌, Option, None, Some, IfSome}
-use Rattle.offering.specs.declared.reading.Reading.{Reading}
+use Rattle.publisher.specs.declared.offering.reading.Reading.{Reading}
 use Rattle.peer.specs.declared.attendance.Ending.{Ending}
 use Rattle.peer.specs.declared.attendance.Ending.TheVariants.{Whole, Short}
 use Rattle.publisher.specs.Judging.{end_in, fault_in, tail_in}

@@ -3,12 +3,12 @@ use Rattle.std.specs.Prelude.{◌≡◌, ◌⊎◌, ℕ, Bool, true, false, ◌&
 use Rattle.endpoint.specs.declared.device_error.DeviceError.TheVariants.{Device}
 use Rattle.peer.specs.declared.attendance.Ending.{Ending}
 use Rattle.peer.specs.declared.attendance.Ending.TheVariants.{Short}
-use Rattle.offering.specs.Inputs as inputs
-use Rattle.offering.specs.declared.reading.ReadingFault.{ReadingFault}
-use Rattle.offering.specs.declared.reading.Offered.{Offered}
-use Rattle.offering.specs.declared.reading.Reading.{Reading}
-use Rattle.offering.specs.declared.reading.ReadingEnd.{ReadingEnd}
-use Rattle.offering.specs.declared.reading.ReadingEnd.TheVariants.{All, Stopped}
+use Rattle.publisher.specs.Inputs as inputs
+use Rattle.publisher.specs.declared.offering.reading.ReadingFault.{ReadingFault}
+use Rattle.publisher.specs.declared.offering.reading.Offered.{Offered}
+use Rattle.publisher.specs.declared.offering.reading.Reading.{Reading}
+use Rattle.publisher.specs.declared.offering.reading.ReadingEnd.{ReadingEnd}
+use Rattle.publisher.specs.declared.offering.reading.ReadingEnd.TheVariants.{All, Stopped}
 use Rattle.publisher.specs.Faults.{publish_fault}
 use Rattle.publisher.specs.declared.fault.PublishFault.{PublishFault}
 use Rattle.publisher.specs.declared.fault.PublishFault.TheVariants.{Failed}

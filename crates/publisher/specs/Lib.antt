@@ -16,3 +16,7 @@ pub mod Texts
 pub mod Whys
 pub mod Shorts
 pub mod Beginnings
+pub mod Inputs
+pub mod Refusals
+pub mod Offers
+pub mod InputEnds

@@ -4,7 +4,7 @@ use Rattle.peer.specs.declared.attendance.Attendance.{Attendance}
 use Rattle.peer.specs.declared.attendance.Heard.{Heard}
 use Rattle.peer.specs.declared.attendance.Ending.{Ending}
 use Rattle.peer.specs.Silences.{never, seen_at}
-use Rattle.offering.specs.declared.reading.Reading.{Reading}
+use Rattle.publisher.specs.declared.offering.reading.Reading.{Reading}
 use Rattle.publisher.specs.declared.fault.PublishFault.{PublishFault}
 use Rattle.publisher.specs.declared.judging.Judged.{Judged}
 use Rattle.publisher.specs.declared.destination.Seen.{Seen}

@@ -10,7 +10,7 @@ use Rattle.peer.specs.declared.attendance.Attendance.{Attendance}
 use Rattle.peer.specs.declared.attendance.Ending.{Ending}
 use Rattle.peer.specs.declared.attendance.Ending.TheVariants.{Short}
 use Rattle.peer.specs.declared.attended.ToldEnds.{ToldEnds}
-use Rattle.offering.specs.declared.reading.Reading.{Reading}
+use Rattle.publisher.specs.declared.offering.reading.Reading.{Reading}
 use Rattle.publisher.specs.Destinations.{AreDestinationsAlong}
 use Rattle.publisher.specs.Ended.{ArrivesAt, IsBegun}
 use Rattle.publisher.specs.Farewells.{are_told_no_other}

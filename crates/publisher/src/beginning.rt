@@ -6,12 +6,12 @@ ghost use Rattle.publisher.specs.Openings.{identity_of};
 
 use crate::destination::ChannelDevice;
 use crate::fault::PublishFault;
+use crate::offering::OfferingState;
 use crate::sender_thread::SenderPasses;
 use agents::{Began, Duty, LogPasses, open_log};
 use conductor::Conductor;
 use endpoint::{Datagrams, DeviceError};
 use loss_injector::Lossy;
-use offering::OfferingState;
 use options::PublishPlan;
 use peer::{Attended, PatientDevice};
 use position::Identity;

@@ -18,7 +18,7 @@ ghost use Rattle.publisher.specs.Destinations.{AreDestinationsAlong, IsDestinati
 ghost use Rattle.publisher.specs.Ended.{ArrivesAt, CanClose, HasSent, IsBegun, IsClosed, LeavesLog, PublishesAll, reading_left};
 ghost use Rattle.publisher.specs.Farewells.{are_told_alone, are_told_no_other};
 ghost use Rattle.publisher.specs.Faults.{of_opening};
-ghost use Rattle.offering.specs.InputEnds.{EndsInput};
+ghost use Rattle.publisher.specs.InputEnds.{EndsInput};
 ghost use Rattle.publisher.specs.Judging.{end_in, fault_in};
 ghost use Rattle.publisher.specs.Openings.{ArePasses, IsKept, identity_of};
 ghost use Rattle.publisher.specs.Shorts.{EndsShort, SaysItsShortfall, unclosed};
@@ -27,6 +27,7 @@ use crate::beginning::{PublisherParts, channel_device, parts_over, planned_strea
 use crate::destination::{Calls, ChannelDevice, Destination};
 use crate::fault::PublishFault;
 use crate::log_end::{LogEnd, ending_closed, log_of};
+use crate::offering::{OfferingState, start_reader};
 use crate::progress::Progress;
 use crate::sender_thread::{ChannelSender, Destinations, PublisherContext, SenderPasses};
 use crate::telling::tell_if_unclosed;
@@ -34,7 +35,6 @@ use crate::two_threads::{Published, run};
 use agents::{Began, open_stream_sender};
 use endpoint::{Datagrams, DeviceError, Fan, OpenError, Route};
 use messages::FusedReader;
-use offering::{OfferingState, start_reader};
 use options::PublishPlan;
 use peer::{Awaited, Ending, TiedDevice};
 use sender_meaning::stream_keeps_its_reader;

@@ -4,9 +4,9 @@ ghost use Rattle.publisher.specs.Texts.{number_of, text_of};
 ghost use Rattle.endpoint.specs.declared.device_error.DeviceError.TheVariants.{Memory};
 ghost use Rattle.publisher.specs.declared.fault.PublishFault.TheVariants.{Failed};
 
+use crate::offering::ReadingFault;
 use endpoint::{DeviceError, Route};
 use messages::InputFault;
-use offering::ReadingFault;
 use std::alloc::AllocError;
 use std::error::Error;
 use std::fmt;

@@ -5,9 +5,9 @@ ghost use Rattle.publisher.specs.Judging.{IsStop, end_in, fault_in, input_fault,
 ghost use Rattle.publisher.specs.Progress.{with_fault};
 
 use crate::fault::PublishFault;
+use crate::offering::{Reading, ReadingEnd};
 use crate::progress::Progress;
 use crate::telling::{Line, ToldShortfall, tell};
-use offering::{Reading, ReadingEnd};
 use peer::Ending;
 use std::io::Write;
 

@@ -11,7 +11,7 @@ ghost use Rattle.publisher.specs.Ended.{CanClose, IsClosed, LeavesPasses, ShowsA
 ghost use Rattle.publisher.specs.Shorts.{unclosed};
 
 use crate::fault::PublishFault;
-use offering::{InputEnd, OfferingState};
+use crate::offering::{InputEnd, OfferingState};
 use peer::Ending;
 use shared_log::{Book, Keeper, Log, LogReader, Publisher, close_read};
 use std::sync::Arc;

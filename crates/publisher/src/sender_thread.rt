@@ -24,6 +24,7 @@ use crate::destination::{ChannelDevice, Destination, are_broken, begin_all, endi
 use crate::destination_lines::{tell_all_done, tell_counts, tell_ending, tell_news};
 use crate::fault::PublishFault;
 use crate::judging::{Judged, check_reading, end_in, messages_in, tail_in};
+use crate::offering::OfferingState;
 use crate::progress::Progress;
 use crate::telling::{Line, NANOSECONDS_PER_SECOND, tell};
 use crate::two_threads::tell_all;
@@ -31,7 +32,6 @@ use agents::{Began, Duty, IdleStrategy, StreamSender, conduct};
 use conductor::{Client, Conductor, Taker};
 use endpoint::{Datagrams, DeviceError, Fan};
 use flow_control::StreamFlow;
-use offering::OfferingState;
 use options::PublishPlan;
 use shared_log::Keeper;
 use std::io::Write;

@@ -9,7 +9,7 @@ use Rattle.sender_meaning.specs.StreamLives.{StreamLived}
 use Rattle.publisher.specs.Ended.{ArrivesAt, HasSent, reading_left}
 use Rattle.publisher.specs.Openings.{IsKept, IsPlanned}
 use Rattle.publisher.specs.Shorts.{EndsShort}
-use Rattle.offering.specs.declared.offering_state.OfferingState.{OfferingState}
+use Rattle.publisher.specs.declared.offering.offering_state.OfferingState.{OfferingState}
 use Rattle.publisher.proofs.AllPublished.{as_given}
 use Rattle.publisher.proofs.Sent.{has_sent, still_reads}
 use Rattle.publisher.proofs.channel_publisher.publish_over.Goals as goal

@@ -3,7 +3,7 @@ use Rattle.publisher.specs.Ended.{AllHaveArrived, reading_left}
 use Rattle.publisher.specs.Endings.{heard_along}
 use Rattle.publisher.specs.Farewells.{are_told_alone, are_told_no_other, ends_along}
 use Rattle.publisher.specs.Judging.{end_in, fault_in}
-use Rattle.offering.specs.declared.reading.Reading.{Reading}
+use Rattle.publisher.specs.declared.offering.reading.Reading.{Reading}
 use Rattle.publisher.specs.Seeing.{ChannelDestination}
 use Rattle.publisher.proofs.Short.{fault_still, no_other, says_why, whole_still}
 use Rattle.publisher.proofs.WholeAlong.{all_arrived, still_faulted, told_alone, whole_before}

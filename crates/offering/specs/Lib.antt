@@ -1,4 +1,0 @@
-pub mod Inputs
-pub mod Refusals
-pub mod Offers
-pub mod InputEnds
