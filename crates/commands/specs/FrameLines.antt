@@ -26,11 +26,15 @@ status_text f = joined (
     codes "session=" ∷ signed_decimal f.session ∷ codes " stream=" ∷ signed_decimal f.stream ∷ codes " term=" ∷ signed_decimal f.term_id
     ∷ codes " offset=" ∷ signed_decimal f.term_offset ∷ codes " window=" ∷ signed_decimal f.window ∷ codes " receiver=" ∷ signed_decimal f.receiver ∷ [])
 
+abbrev pub setup_lengths_text : Setup → List ℕ
+setup_lengths_text f = joined (
+    codes "offset=" ∷ signed_decimal f.term_offset ∷ codes " term-length=" ∷ signed_decimal f.term_length ∷ codes " mtu=" ∷ signed_decimal f.mtu
+    ∷ codes " ttl=" ∷ signed_decimal f.ttl ∷ [])
+
 abbrev pub setup_text : Setup → List ℕ
 setup_text f = joined (
     codes "session=" ∷ signed_decimal f.session ∷ codes " stream=" ∷ signed_decimal f.stream ∷ codes " initial=" ∷ signed_decimal f.initial_term_id
-    ∷ codes " active=" ∷ signed_decimal f.active_term_id ∷ codes " offset=" ∷ signed_decimal f.term_offset ∷ codes " term-length=" ∷ signed_decimal f.term_length
-    ∷ codes " mtu=" ∷ signed_decimal f.mtu ∷ codes " ttl=" ∷ signed_decimal f.ttl ∷ [])
+    ∷ codes " active=" ∷ signed_decimal f.active_term_id ∷ codes " " ∷ setup_lengths_text f ∷ [])
 
 -- A frame's line. A DATA frame's length counts its header of 32 bytes.
 abbrev pub frame_line : Wire → List ℕ

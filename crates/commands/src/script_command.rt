@@ -19,9 +19,7 @@ const GREATEST_INPUT: usize = 1_048_576;
 /// taken of it; `Read` and `Memory` come only before. At any fault but `Write` nothing was written; at `Write` some of the
 /// output's bytes may have been.
 pub fn sim<R: Read, W: Write>(alloc: Global, input: &mut R, output: &mut W) -> Result<(), Fault>
-    // What is written is an output of the script, line by line.
     ensures done { OnOk result (PlaysInput (R.remaining input.old) (W.contents output.old) (W.contents output.new)) }
-    // A fault has its reason in the input.
     ensures fault { IfErr result (λ fault. ExplainsScript (R.remaining input.old) (R.remaining input.new) fault) }
     ensures kept { IfErr result (λ fault. (fault ≡ Fault.Write)
         ⊎ Keeps (W.contents output.old) (W.contents output.new)) }

@@ -22,10 +22,8 @@ pub(crate) const GREATEST_WORD: usize = 131_072;
 /// even number of characters, at most as many. Where its bytes are no datagram, the fault is the datagram's first one. At any
 /// fault but `Write` nothing was printed.
 pub fn decode<W: Write>(alloc: Global, word: &str, output: &mut W) -> Result<(), Fault>
-    // What is printed are the lines of the datagram's frames.
     ensures done { OnOk result ((frames : List Wire) × SaysFrames word.now frames
         × Appends (W.contents output.old) (W.contents output.new) (frame_lines frames)) }
-    // A fault has its reason in the word.
     ensures fault { IfErr result (λ fault. Explains word.now fault) }
     ensures kept { IfErr result (λ fault. (fault ≡ Fault.Write)
         ⊎ Keeps (W.contents output.old) (W.contents output.new)) }

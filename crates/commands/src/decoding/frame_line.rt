@@ -1,8 +1,8 @@
 //! The lines of frames.
 
 ghost use Rattle.std.specs.Prelude.{◌≡◌, ◌+◌, length, Some};
-ghost use Rattle.frames.specs.Frames.{asks_of, header_of, nak_of, setup_of, status_of, wire};
-ghost use Rattle.commands.specs.FrameLines.{frame_line, header_text, nak_text, setup_text, status_text};
+ghost use Rattle.frames.specs.Frames.{header_of, nak_of, setup_of, status_of, wire};
+ghost use Rattle.commands.specs.FrameLines.{frame_line, header_text, nak_text, setup_lengths_text, setup_text, status_text};
 
 use frames::{Frame, Header, Nak, Setup, Status};
 use std::fmt;
@@ -48,7 +48,7 @@ impl fmt::Display for FrameLine<'_> {
                 write!(f, "NAK {fields}")
             }
             Frame::Status { asks, status } => {
-                let flags = [status_flags(asks)];
+                let flags = [if asks { 0x80 } else { 0 }];
                 let flags = Hexadecimal(&flags);
                 let fields = StatusFields(status);
                 write!(f, "SM flags={flags} {fields}")
@@ -66,12 +66,6 @@ fn frame_length(payload: &[u8]) -> usize
     ensures { result ≡ 32 + length payload.now }
 {
     32 + payload.len()
-}
-
-fn status_flags(asks: bool) -> u8
-    ensures { result ≡ asks_of asks }
-{
-    if asks { 0x80 } else { 0 }
 }
 
 /// The fields that a DATA frame, a padding and a heartbeat have in common.
@@ -147,18 +141,37 @@ impl fmt::Display for SetupFields {
 
     fn fmt<W: fmt::Write>(&self, f: &mut fmt::Formatter<W>) -> fmt::Result {
         let Setup {
-            term_offset,
             session,
             stream,
             initial_term_id,
             active_term_id,
+            ..
+        } = self.0;
+        let lengths = SetupLengths(self.0);
+        write!(
+            f,
+            "session={session} stream={stream} initial={initial_term_id} active={active_term_id} {lengths}"
+        )
+    }
+}
+
+#[derive(Clone, Copy)]
+struct SetupLengths(Setup);
+
+impl fmt::Display for SetupLengths {
+    ghost output = { λ fields. Some (setup_lengths_text (setup_of fields.0)) };
+
+    fn fmt<W: fmt::Write>(&self, f: &mut fmt::Formatter<W>) -> fmt::Result {
+        let Setup {
+            term_offset,
             term_length,
             mtu,
             ttl,
+            ..
         } = self.0;
         write!(
             f,
-            "session={session} stream={stream} initial={initial_term_id} active={active_term_id} offset={term_offset} term-length={term_length} mtu={mtu} ttl={ttl}"
+            "offset={term_offset} term-length={term_length} mtu={mtu} ttl={ttl}"
         )
     }
 }

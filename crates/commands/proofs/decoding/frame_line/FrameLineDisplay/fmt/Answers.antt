@@ -5,6 +5,3 @@ returns-in-Data-clause-writes g c = rw (c.in-Data.is, ← c.frame_length-length.
 
 pub returns-in-Pad-clause-writes : goal.returns-in-Pad-clause-writes
 returns-in-Pad-clause-writes g c = rw c.in-Pad.is c.write-in-Pad.ensures.writes
-
-pub returns-in-Status-clause-writes : goal.returns-in-Status-clause-writes
-returns-in-Status-clause-writes g c = rw (c.in-Status.is, ← c.status_flags.ensures) c.write-in-Status.ensures.writes
