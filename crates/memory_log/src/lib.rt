@@ -34,6 +34,7 @@ pub use log_passes::{Log, meets_never_fall};
 pub use opening::open_whole;
 pub use parts::{Parts, first_there, open};
 pub use publisher::Publisher;
+pub use publisher::filling::{fill_data, fill_padding};
 pub use publisher::meeting::meet;
 pub use publisher::numbering::renumber;
 pub use publisher::retiring::retire;

@@ -4,6 +4,7 @@ ghost use Rattle.std.specs.Prelude.{◌≡◌};
 ghost use Rattle.log_rule.specs.Shares.{claimed_bytes};
 ghost use Rattle.memory_log.specs.Handles.{OwnsClaims};
 
+pub(crate) mod filling;
 pub(crate) mod meeting;
 pub(crate) mod numbering;
 pub(crate) mod retiring;
