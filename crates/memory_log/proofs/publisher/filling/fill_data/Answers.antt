@@ -1,12 +1,11 @@
-use Rattle.std.proofs.Common.{rules, ◌≡◌, ℕ, ◌+◌, ◌∷◌, [], length, ap, refl, sym, ◌∙◌, subst, arith}
-use Rattle.std.specs.Int.{w64, from_le_bytes}
+use Rattle.std.proofs.Common.{◌≡◌, ℕ, ◌+◌, ◌∷◌, [], length, ap, refl, sym, ◌∙◌, arith}
 use Rattle.theory.specs.Bytes.{Identity}
 use Rattle.theory.specs.Placed.{Data}
 use Rattle.theory.specs.Position.{aligned}
-use Rattle.frame_words.specs.Words.{frame_words, header_words}
+use Rattle.frame_words.specs.Words.{header_words}
 use Rattle.frame_words.proofs.Fields.{all_bytes}
 use Rattle.publication.proofs.Filling.{data_first}
-use Rattle.memory_log.proofs.Filling.{data_spelt, fills, opens, spelt_by}
+use Rattle.memory_log.proofs.Filling.{data_spelt, fills, opens}
 use Rattle.memory_log.proofs.publisher.filling.fill_data.Goals as goal
 
 covers : (n a k : ℕ) → k ≡ aligned a → a ≡ n + 32 → k ≡ aligned (32 + n)
