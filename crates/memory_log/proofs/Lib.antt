@@ -13,3 +13,4 @@ mod Owned
 mod Gathered
 mod Holding
 mod Cleaning
+mod Filling

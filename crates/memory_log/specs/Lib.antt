@@ -7,3 +7,4 @@ pub mod Parts
 pub mod Books
 pub mod Faults
 pub mod Whole
+pub mod Counted

@@ -10,8 +10,12 @@
 //! knows (`reread`). The keeper reads where consumers stand, makes memory zero and room behind them, frame by frame, and
 //! raises the limit (`clean_and_limit`); consumers join and leave by it (`Keeper::join`, `Keeper::leave`).
 //!
-//! Counted are the steps on words that a pass makes: one load where a frame begins, one store for a position, and for each
-//! frame whose memory is room again two.
+//! A publisher's calls are those of `publication` over `OnLog`. A frame is written plainly, then committed by one store
+//! (`fill_data`, `fill_padding`).
+//!
+//! Counted are the steps on words that a pass makes: one store for a frame that is committed, one load where a frame begins,
+//! one store for a position, and two steps for each frame whose memory is room again. What a call of `publication` stores is
+//! counted from above: at most as many words as its frames have.
 #![tactic(auto)]
 
 mod book;
@@ -34,6 +38,8 @@ pub use log_passes::{Log, meets_never_fall};
 pub use opening::open_whole;
 pub use parts::{Parts, first_there, open};
 pub use publisher::Publisher;
+pub use publisher::calls::OnLog;
+pub use publisher::filling::{fill_data, fill_padding};
 pub use publisher::meeting::meet;
 pub use publisher::numbering::renumber;
 pub use publisher::retiring::retire;
