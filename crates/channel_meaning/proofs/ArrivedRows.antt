@@ -253,19 +253,23 @@ module _ (p : PublishPlan) (route : Route) (socket : Tied) (client : ClientSeen)
     along = record { many = refl; each = along };
     heard = map heard_along (ended ∷ []);
     told = map ends_along (ended ∷ []);
-    arrived = (sender_with begins destination, record { reader = (reads 0 [] 0).reader; begun = record { made = refl; log_is = refl; reader_is = refl }; passes_are = refl; peer_is = refl }, record {
-      noted = record {
-        last = sender_with waits twice;
-        judged = judged;
-        ends = record { count = 1; begun = false; before = sender_with sent_both once; turns = (false, sender_with begins destination, (refl, refl), turn); now = 1; cycles = cycles_twice; is = refl; why = (0, refl) };
-        end = Some 128;
-        after = ended ∷ [];
-        farewell = refl;
-        heard_are = refl;
-        told_are = refl;
-        many = refl;
-      };
-      arrived = (record { all = refl; heard = refl }, tt);
-    });
+    arrived = (
+      sender_with begins destination,
+      record { reader = (reads 0 [] 0).reader; begun = record { made = refl; log_is = refl; reader_is = refl }; passes_are = refl; peer_is = refl },
+      record {
+        noted = record {
+          last = sender_with waits twice;
+          judged = judged;
+          ends = record { count = 1; begun = false; before = sender_with sent_both once; turns = (false, sender_with begins destination, (refl, refl), turn); now = 1; cycles = cycles_twice; is = refl; why = (0, refl) };
+          end = Some 128;
+          after = ended ∷ [];
+          farewell = refl;
+          heard_are = refl;
+          told_are = refl;
+          many = refl;
+        };
+        arrived = (record { all = refl; heard = refl }, tt);
+      },
+    );
     alone = refl;
   }
