@@ -32,6 +32,7 @@ pub record Retires (p other q : PublisherValue) : Type 0 where
   pub seat : q.seat ≡ p.seat
   pub pass : q.pass ≡ handed_over p.pass other.pass
   pub sure : q.sure ≡ 0
+  pub freed : q.freed ≡ p.freed
 
 -- ---- closing
 

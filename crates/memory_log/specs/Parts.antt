@@ -26,6 +26,7 @@ pub record IsNewKeeper (l : LogValue) (k : KeeperValue) : Type 0 where
   pub held : IsFresh l (record (newcomer l.identity l.start 0 8) { keeping = first_keeping l }) k.held
   pub limit : k.limit ≡ l.start
   pub cleaned : k.cleaned ≡ l.start
+  pub freed : k.held.freed ≡ l.start
 
 pub record IsNewReader (l : LogValue) (number : ℕ) (r : ReaderValue) : Type 0 where
   pub held : IsFresh l (record (newcomer l.identity l.start 0 0) { reading = consumers_at l.start number 1 }) r.held

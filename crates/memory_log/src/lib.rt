@@ -1,6 +1,7 @@
 //! The log that threads share, with its frames in plain memory: eight publishers, its readers and its keeper, each by a pass of
-//! its own. No call waits, and none takes memory but `open`. It is what `shared_log` is to become: the calls are the same, and
-//! so are their promises but for the steps that are counted.
+//! its own. No call waits, and none takes memory but `open` and `open_whole`. It is what `shared_log` is to become: it has the
+//! same calls but `Log::peek`, and promises the same of them, but for how many steps a call makes. `open_whole` and `renumber`
+//! are functions here.
 //!
 //! A log opens unconnected, its limit and its consumers at the start, or for three causes of refusal in order (`open`,
 //! `open_whole`, `LogError`). Two publishers meet (`meet`), also with open claims; one that retires leaves what it has to

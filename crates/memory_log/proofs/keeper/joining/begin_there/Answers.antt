@@ -22,6 +22,7 @@ returns-clause-becomes c =
       seat = seat.seat ∙ ap (λ (k : KeeperValue). k.held.seat) c.keeper.view_is;
       pass_is = c.begin_consumer.ensures.joins ∙ ap (λ (k : KeeperValue). joined k.held.pass c.args.number c.args.place c.args.position) c.keeper.view_is;
       sure = seat.sure ∙ ap (λ (k : KeeperValue). k.held.sure) c.keeper.view_is;
+      freed = seat.freed ∙ ap (λ (k : KeeperValue). k.held.freed) c.keeper.view_is;
       limit = ap (λ (k : KeeperValue). k.limit) c.keeper.view_is;
       cleaned = ap (λ (k : KeeperValue). k.cleaned) c.keeper.view_is;
     }

@@ -28,6 +28,7 @@ returns c =
         seat = seat.seat ∙ ap (λ (k : KeeperValue). k.held.seat) c.keeper.view_is;
         pass_is = c.end_consumer.ensures.leaves ∙ ap (λ (k : KeeperValue). left k.held.pass c.args.place c.args.number) c.keeper.view_is;
         sure = seat.sure ∙ ap (λ (k : KeeperValue). k.held.sure) c.keeper.view_is;
+        freed = seat.freed ∙ ap (λ (k : KeeperValue). k.held.freed) c.keeper.view_is;
         limit = ap (λ (k : KeeperValue). k.limit) c.keeper.view_is;
         cleaned = ap (λ (k : KeeperValue). k.cleaned) c.keeper.view_is;
       };
