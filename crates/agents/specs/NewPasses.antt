@@ -1,7 +1,8 @@
 -- The passes of a log that was just opened for the agents of one stream.
 use Rattle.std.specs.Prelude.{◌≡◌, ℕ, length}
 use Rattle.theory.specs.Bytes.{Identity}
-use Rattle.shared_log.specs.Handles.{AreNew, IsLogOf}
+use Rattle.shared_log.specs.Handles.{AreNew}
+use Rattle.log_passes.specs.Handles.{IsLogOf}
 use Rattle.shared_log.specs.Parts.{IsNewKeeper, IsNewReader}
 use Rattle.agents.specs.declared.log_passes.LogPasses.{LogPasses}
 

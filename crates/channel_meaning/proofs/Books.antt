@@ -15,13 +15,13 @@ use Rattle.publication.specs.declared.pass.ClaimRange.{ClaimRange}
 use Rattle.publication.specs.declared.pass.FrameWords.{FrameWords}
 use Rattle.publication.specs.declared.pass.Pass.{Pass}
 use Rattle.publication.specs.Orders.{AreInOrder, claim_end}
-use Rattle.log_rule.specs.Claims.Handles.{PublisherValue}
+use Rattle.log_passes.specs.Handles.{LogValue, PublisherValue}
 use Rattle.log_rule.specs.Claims.Rule.{IsClaimEntry, weight}
 use Rattle.log_rule.specs.Claims.Rule as rules
 use Rattle.log_rule.specs.Claims.Sums.{total}
 use Rattle.log_rule.proofs.Claimed.Totals.{extent_of, none_behind, tiles_up}
 use Rattle.shared_log.specs.Books.{HasEntries, IsCommittedBy, ShowsBook, weight_in}
-use Rattle.shared_log.specs.Handles.{IsNew, LogValue}
+use Rattle.shared_log.specs.Handles.{IsNew}
 use Rattle.shared_log.specs.Readers.{known_of}
 use Rattle.shared_log.specs.Sourced.{placed}
 use Rattle.shared_log.specs.declared.book.Book.{Book}

@@ -12,7 +12,7 @@ use Rattle.frame_words.specs.Words.{frame_words}
 use Rattle.frame_words.proofs.Contents.{bytes_small, data_said, flags_low, pad_said}
 use Rattle.publication.specs.declared.pass.FrameWords.{FrameWords}
 use Rattle.publication.specs.Frames.{frames_at}
-use Rattle.log_rule.specs.Claims.Handles.{PublisherValue}
+use Rattle.log_passes.specs.Handles.{PublisherValue}
 use Rattle.log_rule.proofs.Claimed.Memories.{maps_append}
 use Rattle.shared_log.specs.Books.{IsCommittedBy, committed_of}
 use Rattle.shared_log.specs.Sourced.{placed}

@@ -11,14 +11,13 @@ use Rattle.theory.proofs.Rows.{abc, identity, the_geometry}
 use Rattle.theory.proofs.UnitRows.{legal}
 use Rattle.frame_words.specs.Words.{frame_words}
 use Rattle.publication.specs.Steps.{Extent, works}
-use Rattle.log_rule.specs.Claims.Handles.{PublisherValue}
+use Rattle.log_passes.specs.Handles.{IsOf, LogValue, PublisherValue}
 use Rattle.log_rule.specs.Claims.Plays.{newcomer}
 use Rattle.log_rule.specs.Claims.Rule.{IsClaimEntry, entries_of}
 use Rattle.log_rule.specs.Claims.Sure.{no_controls}
 use Rattle.log_rule.specs.Claims.Sums.{total}
 use Rattle.log_rule.specs.Edges.{in_entry}
 use Rattle.shared_log.specs.Books.{IsDone, ShowsBook, committed_in, share_as}
-use Rattle.shared_log.specs.Handles.{IsOf, LogValue}
 use Rattle.shared_log.specs.declared.book.Book.{Book}
 use Rattle.sender_meaning.proofs.StreamRows.{ab, two}
 use Rattle.options.specs.declared.ends.plans.PublishPlan.{PublishPlan}

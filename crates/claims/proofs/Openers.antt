@@ -2,8 +2,8 @@
 use Rattle.std.proofs.Common.{◌≡◌, ℕ, zero, suc, ◌+◌, ◌<◌, ◌≤◌, List, [], ◌∷◌, All, length, sym, ap, subst, arith}
 use Rattle.std.specs.declared.option.Option.{Option}
 use Rattle.std.specs.declared.option.Option.TheVariants.{None, Some}
-use Rattle.log_rule.specs.Claims.Handles.{PublisherValue}
-use Rattle.shared_log.specs.Handles.{AreNew, IsOf, LogValue}
+use Rattle.log_passes.specs.Handles.{IsOf, LogValue, PublisherValue}
+use Rattle.shared_log.specs.Handles.{AreNew}
 use Rattle.shared_log.specs.Keepers.{KeeperValue}
 use Rattle.shared_log.specs.Parts.{AreReaders, IsNewKeeper}
 use Rattle.shared_log.specs.Readers.{IsReaderOf, ReaderValue}

@@ -1,9 +1,8 @@
 -- All passes of a log whose publishers claim.
 use Rattle.std.specs.Prelude.{◌≡◌, ◌+◌, List, [], All}
-use Rattle.log_rule.specs.Claims.Handles.{PublisherValue, parts_in}
+use Rattle.log_passes.specs.Handles.{IsOf, LogValue, PublisherValue, parts_in}
 use Rattle.log_rule.specs.Claims.Sums.{total}
 use Rattle.shared_log.specs.Books.{IsDone}
-use Rattle.shared_log.specs.Handles.{IsOf, LogValue}
 use Rattle.shared_log.specs.Keepers.{KeeperValue}
 
 -- all claimants and the keeper, which has claimed nothing

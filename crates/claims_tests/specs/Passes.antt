@@ -1,8 +1,7 @@
 -- Passes that close a log together.
 use Rattle.std.specs.Prelude.{◌≡◌, ℕ, []}
-use Rattle.log_rule.specs.Claims.Handles.{PublisherValue}
+use Rattle.log_passes.specs.Handles.{IsOf, LogValue, PublisherValue}
 use Rattle.shared_log.specs.Books.{IsDone}
-use Rattle.shared_log.specs.Handles.{IsOf, LogValue}
 use Rattle.shared_log.specs.Keepers.{KeeperValue}
 
 -- a publisher of this log, with so many parts of the right to close it

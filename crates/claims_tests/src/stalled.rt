@@ -2,9 +2,9 @@
 
 ghost use Rattle.std.specs.Prelude.{◌≡◌, IfOk};
 ghost use Rattle.std.specs.List.{AllByRecursion};
-ghost use Rattle.log_rule.specs.Claims.Handles.{parts_in};
+ghost use Rattle.log_passes.specs.Handles.{IsOf, parts_in};
 ghost use Rattle.log_rule.specs.Claims.Sums.{total};
-ghost use Rattle.shared_log.specs.Handles.{AreNew, IsOf};
+ghost use Rattle.shared_log.specs.Handles.{AreNew};
 ghost use Rattle.claims_tests.specs.Passes.{IsPart};
 ghost use Rattle.claims_tests.specs.OtherPasses.{AreOtherPasses, IsFollower};
 

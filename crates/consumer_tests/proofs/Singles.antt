@@ -1,6 +1,6 @@
 -- A reader of a log that was just opened is one consumer, and nothing else.
 use Rattle.std.proofs.Common.{◌≡◌, ℕ, ◌<◌, arith}
-use Rattle.shared_log.specs.Handles.{LogValue}
+use Rattle.log_passes.specs.Handles.{LogValue}
 use Rattle.shared_log.specs.Parts.{IsNewReader}
 use Rattle.shared_log.specs.Readers.{ReaderValue}
 use Rattle.log_rule.specs.Keepings.{newly}

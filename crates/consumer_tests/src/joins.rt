@@ -2,9 +2,9 @@
 
 ghost use Rattle.std.specs.Prelude.{◌≡◌, ◌≤◌, IfOk, length};
 ghost use Rattle.std.specs.List.{AllByRecursion};
-ghost use Rattle.log_rule.specs.Claims.Handles.{parts_in};
+ghost use Rattle.log_passes.specs.Handles.{IsOf, parts_in};
 ghost use Rattle.log_rule.specs.Claims.Sums.{total};
-ghost use Rattle.shared_log.specs.Handles.{AreNew, IsOf};
+ghost use Rattle.shared_log.specs.Handles.{AreNew};
 ghost use Rattle.stream_tests.specs.Consumers.{IsSingle};
 ghost use Rattle.claims_tests.specs.Passes.{IsKeeping, IsPart};
 ghost use Rattle.consumer_tests.specs.Passes.{ArePasses};

@@ -15,14 +15,13 @@ use Rattle.publication.specs.declared.pass.ClaimRange.{ClaimRange}
 use Rattle.publication.specs.declared.pass.FrameWords.{FrameWords}
 use Rattle.publication.specs.Frames.{frame_at}
 use Rattle.publication.specs.Steps.{Extent, works}
-use Rattle.log_rule.specs.Claims.Handles.{PublisherValue}
+use Rattle.log_passes.specs.Handles.{LogValue, PublisherValue}
 use Rattle.log_rule.specs.Claims.Plays.{newcomer}
 use Rattle.log_rule.specs.Claims.Sure.{no_controls}
 use Rattle.log_rule.specs.Claims.Sums.{total}
 use Rattle.log_rule.specs.Edges.{in_entry}
 use Rattle.log_rule.specs.Table.{reader_alone}
 use Rattle.shared_log.specs.Books.{IsCommittedBy, ShowsBook, committed_in, share_as}
-use Rattle.shared_log.specs.Handles.{LogValue}
 use Rattle.shared_log.specs.Readers.{ReaderValue, known_of}
 use Rattle.shared_log.specs.declared.book.Book.{Book}
 use Rattle.log_messages.specs.Closed.{ClosedIsStream, ClosesAsStream, HasCommitted, HaveClaimed, Merges}

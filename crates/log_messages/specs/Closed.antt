@@ -9,11 +9,10 @@ use Rattle.theory.specs.Position.{IsGeometry, max_position}
 use Rattle.theory.specs.Tiling.{Tiles, share_of}
 use Rattle.publication.specs.declared.pass.FrameWords.{FrameWords}
 use Rattle.publication.specs.Frames.{frames_at}
-use Rattle.log_rule.specs.Claims.Handles.{PublisherValue}
+use Rattle.log_passes.specs.Handles.{LogValue, PublisherValue}
 use Rattle.log_rule.specs.Claims.Rule.{entries_of}
 use Rattle.shared_log.specs.declared.book.Book.{Book}
 use Rattle.shared_log.specs.Books.{IsCommittedBy, ShowsBook, committed_of}
-use Rattle.shared_log.specs.Handles.{LogValue}
 use Rattle.shared_log.specs.Readers.{known_of}
 use Rattle.shared_log.specs.Sourced.{placed}
 use Rattle.log_messages.specs.Reading.{HasRead, Reading, given_of}

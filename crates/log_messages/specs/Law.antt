@@ -9,12 +9,11 @@ use Rattle.log_rule.specs.declared.rule.Key.{Key}
 use Rattle.log_rule.specs.Claims.Plays.{pass_in}
 use Rattle.log_rule.specs.Edges.{CommittedBy}
 use Rattle.log_rule.specs.Table.{LogRuled}
-use Rattle.log_rule.specs.Claims.Handles.{PublisherValue}
+use Rattle.log_passes.specs.Handles.{LogValue, PublisherValue}
 use Rattle.publication.specs.declared.pass.FrameWords.{FrameWords}
 use Rattle.theory.specs.Placed.{Among}
 use Rattle.shared_log.specs.declared.book.Book.{Book}
 use Rattle.shared_log.specs.Books.{IsCommittedBy, ShowsBook}
-use Rattle.shared_log.specs.Handles.{LogValue}
 use Rattle.shared_log.specs.Readers.{known_of}
 use Rattle.log_messages.specs.Reading.{HasRead, Reading}
 

@@ -7,8 +7,6 @@ pub mod Memory
 pub mod Admits
 pub mod Sure
 pub mod Plays
-pub mod Handles
 pub mod Openings
 pub mod Closing
-pub mod Leading
 pub mod Events

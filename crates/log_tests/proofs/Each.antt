@@ -1,9 +1,9 @@
 -- The publishers of a log that was just opened are its own.
 use Rattle.std.proofs.Common.{◌≡◌, ℕ, zero, suc, ◌<◌, List, [], ◌∷◌, length, slice_index_or, sym, ap, ◌∙◌, subst, arith}
 use Rattle.publication.specs.declared.pass.Pass.{Pass}
-use Rattle.shared_log.specs.Handles.{AreNew, IsNew, IsOf, LogValue}
-use Rattle.shared_log.specs.Meets.{IsBack}
-use Rattle.log_rule.specs.Claims.Handles.{PublisherValue}
+use Rattle.shared_log.specs.Handles.{AreNew, IsNew}
+use Rattle.log_passes.specs.Handles.{IsOf, LogValue, PublisherValue}
+use Rattle.log_passes.specs.Meets.{IsBack}
 use Rattle.log_tests.specs.Stays.{IsRested, Stays}
 
 pub each_of : (l : LogValue) (n : ℕ) (ps : List PublisherValue) → AreNew l n ps → (i : ℕ) (x : PublisherValue) → i < length ps → x ≡ slice_index_or ps i x → IsOf l x

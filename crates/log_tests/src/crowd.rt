@@ -1,6 +1,7 @@
 //! Eight publishers on one log, each in a thread of its own.
 
-ghost use Rattle.shared_log.specs.Handles.{AreNew, IsOf};
+ghost use Rattle.shared_log.specs.Handles.{AreNew};
+ghost use Rattle.log_passes.specs.Handles.{IsOf};
 
 use crate::claimed::Claimed;
 use crate::opening::open_ready;

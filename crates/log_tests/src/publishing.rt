@@ -2,7 +2,7 @@
 
 ghost use Rattle.std.specs.Prelude.{◌≡◌, ◌≤◌, ◌<◌, length};
 ghost use Rattle.theory.specs.Position.{max_message, max_payload};
-ghost use Rattle.shared_log.specs.Handles.{IsOf};
+ghost use Rattle.log_passes.specs.Handles.{IsOf};
 
 use crate::claimed::{Claimed, LONGEST, fill};
 use position::Geometry;

@@ -2,7 +2,7 @@
 
 ghost use Rattle.std.specs.Prelude.{◌≡◌, ◌≤◌, length, IfOk};
 ghost use Rattle.theory.specs.Position.{max_message};
-ghost use Rattle.shared_log.specs.Handles.{IsOf};
+ghost use Rattle.log_passes.specs.Handles.{IsOf};
 ghost use Rattle.log_tests.specs.Stays.{Stays};
 
 use crate::opening::open_ready;

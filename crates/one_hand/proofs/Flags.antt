@@ -5,12 +5,11 @@ use Rattle.std.proofs.lemmas.Bool.{eq-eqb, ne_eqb}
 use Rattle.theory.specs.Refusal.{is_closed, is_connected, limit_in}
 use Rattle.publication.specs.declared.pass.Controls.{Controls}
 use Rattle.publication.specs.declared.pass.Pass.{Pass}
-use Rattle.log_rule.specs.Claims.Handles.{PublisherValue}
+use Rattle.log_passes.specs.Handles.{LogValue, PublisherValue}
 use Rattle.log_rule.specs.Keepings.{numbered, with_keeping}
 use Rattle.one_hand.proofs.InHand.{knows_by}
 use Rattle.shared_log.specs.Keepers.{closed_word, connected_word}
 use Rattle.shared_log.specs.Readers.{numbers_of}
-use Rattle.shared_log.specs.Handles.{LogValue}
 use Rattle.one_hand.specs.Stream.{Stream}
 use Rattle.one_hand.specs.declared.log_hand.held.Held.{Held}
 use Rattle.one_hand.specs.Shown.{IsWhole, consumers_of, kept, shares_of, stream_of}

@@ -8,9 +8,8 @@ use Rattle.publication.specs.declared.pass.ClaimRange.{ClaimRange}
 use Rattle.publication.specs.declared.pass.Keeping.{Keeping}
 use Rattle.publication.specs.declared.pass.Reading.{Reading}
 use Rattle.publication.specs.declared.refusal.Refusal.{Refusal}
-use Rattle.log_rule.specs.Claims.Handles.{PublisherValue}
+use Rattle.log_passes.specs.Handles.{LogValue, PublisherValue}
 use Rattle.log_rule.specs.Shares.{claimed_bytes}
-use Rattle.shared_log.specs.Handles.{LogValue}
 use Rattle.one_hand.specs.Entries.{with_share}
 use Rattle.one_hand.specs.Legal.{IsStream}
 use Rattle.one_hand.specs.Stream.{Stream, term_of}

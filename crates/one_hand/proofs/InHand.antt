@@ -19,8 +19,7 @@ use Rattle.publication.specs.declared.step.WordStep.{WordStep}
 use Rattle.publication.specs.Claims.{Fills, Justified}
 use Rattle.publication.specs.Offers.{Offered, Opened}
 use Rattle.publication.proofs.Alone as alone
-use Rattle.log_rule.specs.Claims.Handles.{PublisherValue, Took}
-use Rattle.shared_log.specs.Handles.{IsOf, LogValue}
+use Rattle.log_passes.specs.Handles.{IsOf, LogValue, PublisherValue, Took}
 use Rattle.log_rule.specs.Shares.{claimed_bytes}
 use Rattle.shared_log.specs.Readers.{positions_of}
 use Rattle.one_hand.specs.Entries.{with_share}

@@ -7,9 +7,8 @@ use Rattle.std.specs.Prelude.{Option, slice_index, slice_index_or, slice_set}
 use Rattle.publication.specs.declared.pass.Keeping.{Keeping}
 use Rattle.publication.specs.declared.pass.Pass.{Pass}
 use Rattle.publication.specs.declared.pass.Reading.{Reading}
-use Rattle.log_rule.specs.Claims.Handles.{PublisherValue}
+use Rattle.log_passes.specs.Handles.{LogValue, PublisherValue}
 use Rattle.log_rule.specs.Keepings.{left, newly, numbered}
-use Rattle.shared_log.specs.Handles.{LogValue}
 use Rattle.shared_log.specs.Joining as joining
 use Rattle.shared_log.specs.Joining.{begun}
 use Rattle.shared_log.specs.Keepers.{KnowsWho, flag_of}

@@ -5,11 +5,10 @@ use Rattle.theory.specs.Refusal.{limit_in}
 use Rattle.theory.proofs.Places.{power_half}
 use Rattle.publication.specs.declared.pass.Controls.{Controls}
 use Rattle.publication.specs.declared.pass.Pass.{Pass}
-use Rattle.log_rule.specs.Claims.Handles.{PublisherValue}
+use Rattle.log_passes.specs.Handles.{LogValue, PublisherValue}
 use Rattle.log_rule.specs.Keepings.{least_there, numbered, with_keeping}
 use Rattle.shared_log.specs.Keepers.{raised}
 use Rattle.shared_log.specs.Readers.{numbers_of}
-use Rattle.shared_log.specs.Handles.{LogValue}
 use Rattle.one_hand.specs.Stream as one_hand
 use Rattle.one_hand.specs.Stream.{Stream, clean_end, cleaned_and_limited, least, standing}
 use Rattle.one_hand.specs.declared.log_hand.held.Held.{Held}

@@ -5,9 +5,8 @@ use Rattle.publication.specs.declared.refusal.Refusal.{Refusal}
 use Rattle.publication.specs.declared.pass.Controls.{Controls}
 use Rattle.publication.specs.declared.pass.Pass.{Pass}
 use Rattle.publication.specs.Claims.{HasBlank}
-use Rattle.log_rule.specs.Claims.Handles.{PublisherValue}
+use Rattle.log_passes.specs.Handles.{IsOf, LogValue, PublisherValue}
 use Rattle.log_rule.specs.Keepings.{numbered}
-use Rattle.shared_log.specs.Handles.{IsOf, LogValue}
 use Rattle.shared_log.specs.Readers.{numbers_of}
 use Rattle.log_rule.specs.Shares.{claimed_bytes}
 use Rattle.one_hand.specs.Entries.{with_share}

@@ -1,11 +1,10 @@
 -- What a hand holds beside its log, and what it shows.
 use Rattle.std.specs.Prelude.{◌≡◌, ℕ, ◌≤◌, Bool, List, Option, None, Some, length, slice_index, slice_index_or}
-use Rattle.log_rule.specs.Claims.Handles.{PublisherValue}
+use Rattle.log_passes.specs.Handles.{LogValue, PublisherValue}
 use Rattle.log_rule.specs.Claims.Closing.{no_identity}
 use Rattle.log_rule.specs.Claims.Plays.{newcomer}
 use Rattle.log_rule.specs.Claims.Sure.{no_controls}
 use Rattle.shared_log.specs.Keepers.{KnowsWho}
-use Rattle.shared_log.specs.Handles.{LogValue}
 use Rattle.one_hand.specs.Stream.{Stream}
 use Rattle.one_hand.specs.declared.log_hand.held.Held.{Held}
 use Rattle.one_hand.specs.Shown.{consumers_of, kept, shares_of, stream_of}

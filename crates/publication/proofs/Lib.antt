@@ -1,5 +1,4 @@
 pub mod Steppings
-pub mod Patches
 pub mod Messages
 pub mod Justifying
 pub mod Refusing
@@ -8,7 +7,6 @@ pub mod Padded
 pub mod Ordered
 pub mod Seeing
 pub mod Turned
-pub mod Filling
 pub mod Offering
 pub mod WordRows
 pub mod Packed

@@ -1,5 +1,5 @@
 -- A message's frames, filled one after the other.
-use Rattle.std.proofs.Common.{◌≡◌, ℕ, ◌+◌, ◌-◌, ◌/◌, ◌%◌, ◌<◌, ◌≤◌, Bool, true, false, List, [], ◌∷◌, ◌++◌, length, take, drop, length-drop, append_assoc, sym, refl, ap, ◌∙◌, subst, arith}
+use Rattle.std.proofs.Common.{◌≡◌, ℕ, suc, ◌+◌, ◌-◌, ◌%◌, ◌<◌, ◌≤◌, Bool, true, false, List, [], ◌∷◌, ◌++◌, length, take, drop, length-drop, append_assoc, sym, refl, ap, ◌∙◌, subst, arith}
 use Rattle.std.proofs.lemmas.List.{take_all, length-take-le}
 use Rattle.theory.specs.Position.{Geometry, IsGeometry, aligned, cuts_of, framed_length, max_payload, max_position, span}
 use Rattle.theory.specs.Placed.{Data, Frame}
@@ -11,7 +11,7 @@ use Rattle.theory.proofs.Pieces.{cuts_behind}
 use Rattle.publication.specs.declared.pass.FrameWords.{FrameWords}
 use Rattle.publication.specs.declared.pass.Pass.{Pass}
 use Rattle.publication.specs.Steps.{blank, blanks, geometry_of, with_work}
-use Rattle.publication.specs.Frames.{frame_at, frame_flags, frames_at, message_frames, stored_words}
+use Rattle.publication.specs.Frames.{frame_at, frame_flags, frames_at, message_frames}
 use Rattle.publication.specs.Claims.{Fills, HasBlank}
 use Rattle.publication.specs.Offers.{FillsAll, HasBlanks}
 
@@ -60,8 +60,8 @@ last_filled v w first p rest low fills front behind parts =
     fills front behind (parts ∙ ap (λ (cs : List ℕ). front ++ (blanks p cs ++ behind)) cuts)
     ∙ ap (λ (fs : List Frame). with_work (v.work.frames ++ frames_at v.identity p fs) (front ++ behind) v) (sym body)
 
-pub last_stored : (g : Geometry) (n : ℕ) → n ≤ max_payload g → stored_words (cuts_of g n) ≡ stored_words ((32 + n) ∷ [])
-last_stored g n low = ap stored_words (short_cuts g n low) ∙ ap (λ (k : ℕ). (k + 7) / 8 + 0) (let e : n + 32 ≡ 32 + n = omega arith in e)
+pub last_stored : (g : Geometry) (n : ℕ) → n ≤ max_payload g → length (cuts_of g n) ≡ 1
+last_stored g n low = ap length (short_cuts g n low)
 
 -- ---- a full frame, and those behind it
 
@@ -75,10 +75,8 @@ module _ (g : Geometry) (legal : IsGeometry g) where
   aligned_mtu : aligned (32 + max_payload g) ≡ g.mtu
   aligned_mtu = omega (arith, long, unit)
 
-  pub full_stored : (n : ℕ) → max_payload g < n → stored_words (cuts_of g n) ≡ stored_words ((32 + max_payload g) ∷ []) + stored_words (cuts_of g (n - max_payload g))
-  full_stored n high =
-      let whole : (g.mtu + 7) / 8 ≡ (32 + max_payload g + 7) / 8 + 0 = omega (arith, long) in
-      ap stored_words (cuts_behind g n long high) ∙ ap (λ (k : ℕ). k + stored_words (cuts_of g (n - max_payload g))) whole
+  pub full_stored : (n : ℕ) → max_payload g < n → length (cuts_of g n) ≡ 1 + length (cuts_of g (n - max_payload g))
+  full_stored n high = ap length (cuts_behind g n long high) ∙ (let e : suc (length (cuts_of g (n - max_payload g))) ≡ 1 + length (cuts_of g (n - max_payload g)) = omega arith in e)
 
   -- and what it covers
   pub full_framed : (n : ℕ) → max_payload g < n → framed_length g n ≡ g.mtu + framed_length g (n - max_payload g)

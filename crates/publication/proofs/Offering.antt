@@ -7,7 +7,7 @@ use Rattle.publication.specs.declared.pass.FrameWords.{FrameWords}
 use Rattle.publication.specs.declared.pass.Pass.{Pass}
 use Rattle.publication.specs.Steps.{blanks, geometry_of, with_work, works}
 use Rattle.publication.specs.Frames.{message_frames}
-use Rattle.publication.specs.Claims.{Claimed, padding_words}
+use Rattle.publication.specs.Claims.{Claimed, padding_stores}
 use Rattle.publication.specs.Offers.{FillsAll, HasBlanks, Offered, Opened}
 
 module _ (p v : Pass) (n start : ℕ) (h : Claimed p n start v) where
@@ -20,7 +20,7 @@ module _ (p v : Pass) (n start : ℕ) (h : Claimed p n start v) where
   claimed_drafts : v.work.drafts ≡ p.work.drafts ++ blanks start (cuts_of (geometry_of p) n)
   claimed_drafts = ap (λ (u : Pass). u.work.drafts) h.after ∙ ap (λ (s : ℕ). p.work.drafts ++ blanks s (cuts_of (geometry_of p) n)) (sym h.from)
 
-  pub claimed_nothing : padding_words p v ≡ 0
+  pub claimed_nothing : padding_stores p v ≡ 0
   claimed_nothing = let e : length v.work.frames ≡ length p.work.frames = ap (λ (fs : List FrameWords). length fs) claimed_frames in omega arith
 
   claimed_parts : v.work.drafts ≡ p.work.drafts ++ (blanks start (cuts_of (geometry_of v) n) ++ [])

@@ -6,7 +6,7 @@ use Rattle.theory.specs.Words.{offset_in}
 use Rattle.publication.specs.declared.pass.Pass.{Pass}
 use Rattle.publication.specs.Steps.{count_in, geometry_of, start_in, term_of}
 use Rattle.publication.specs.Frames.{frame_at}
-use Rattle.publication.specs.Claims.{Fills, HasBlank, padding_words}
+use Rattle.publication.specs.Claims.{Fills, HasBlank, padding_stores}
 use Rattle.publication.specs.Looks.{Pads}
 use Rattle.publication.proofs.Adding.{in_stream}
 
@@ -20,13 +20,13 @@ no_further : (m n : ℕ) → m + 0 ≤ n → m ≤ n
 no_further m n h = omega (arith, h)
 
 -- one frame is committed more
-pub one_more : (v w : Pass) (start cut : ℕ) → HasBlank v start cut → Fills v start (Pad cut) w → 4 ≡ padding_words v w
+pub one_more : (v w : Pass) (start cut : ℕ) → HasBlank v start cut → Fills v start (Pad cut) w → 1 ≡ padding_stores v w
 one_more v w start cut blank fills =
     let all : length w.work.frames ≡ length (v.work.frames ++ frame_at v.identity start (Pad cut) ∷ []) = ap (λ (u : Pass). length u.work.frames) (fills blank.front blank.behind blank.parts) in
     let one : length (v.work.frames ++ frame_at v.identity start (Pad cut) ∷ []) ≡ length v.work.frames + 1 = length-append v.work.frames (frame_at v.identity start (Pad cut) ∷ []) in
     omega (arith, all, one)
 
-pub none_more : (v : Pass) → 0 ≡ padding_words v v
+pub none_more : (v : Pass) → 0 ≡ padding_stores v v
 none_more v = omega arith
 
 -- the blank that is left begins at the word's offset

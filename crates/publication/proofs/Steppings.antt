@@ -3,7 +3,7 @@ use Rattle.std.proofs.Common.{◌≡◌, ℕ, ◌+◌, ◌≤◌, List, [], ◌�
 use Rattle.publication.specs.declared.pass.Pass.{Pass}
 use Rattle.publication.specs.declared.step.WordStep.{WordStep}
 use Rattle.publication.specs.Steps.{Keeps, Moved}
-use Rattle.publication.specs.Claims.{Called, PartOfCall, TookCall, TookMore, exactly, padding_words}
+use Rattle.publication.specs.Claims.{Called, PartOfCall, TookCall, TookMore, exactly, padding_stores}
 
 pub moves : {L P I : Type 0} (fits : L → P → Type 0) (pass_of : L → P → Pass) (name : P → ℕ) (id : L → I) (l m n : L) (p q r : P) → Moved fits pass_of name id l p m q → Moved fits pass_of name id m q n r → Moved fits pass_of name id l p n r
 moves fits pass_of name id l m n p q r a b = record {
@@ -98,8 +98,8 @@ module _ {L P I : Type 0} (fits : L → P → Type 0) (pass_of : L → P → Pas
 pub frames_kept : (p q : Pass) → Keeps p q → length q.work.frames ≡ length p.work.frames
 frames_kept p q k = ap (λ (u : Pass). length u.work.frames) k
 
-pub none_padded : (p x q : Pass) → Keeps p x → Keeps x q → 0 + 0 ≡ padding_words p q
+pub none_padded : (p x q : Pass) → Keeps p x → Keeps x q → 0 + 0 ≡ padding_stores p q
 none_padded p x q a b = let e = frames_kept p x a in let f = frames_kept x q b in omega (arith, e, f)
 
-pub padded_behind : (p x q : Pass) → Keeps p x → 0 + padding_words x q ≡ padding_words p q
+pub padded_behind : (p x q : Pass) → Keeps p x → 0 + padding_stores x q ≡ padding_stores p q
 padded_behind p x q a = let e = frames_kept p x a in omega (arith, e)

@@ -1,14 +1,14 @@
--- Computed rows: how many words are stored, what tails say, and a whole claim.
+-- Computed rows: how many frames are stored, what tails say, and a whole claim.
 use Rattle.std.proofs.Common.{◌≡◌, ℕ, [], ◌∷◌, refl, lit<, lit≤, arith}
-use Rattle.std.specs.Prelude.{false, pos}
+use Rattle.std.specs.Prelude.{false, pos, Err}
 use Rattle.theory.specs.Bytes.{Identity}
 use Rattle.theory.specs.Position.{Geometry}
 use Rattle.publication.specs.declared.pass.ClaimRange.{ClaimRange}
 use Rattle.publication.specs.declared.pass.Pass.{Pass}
+use Rattle.publication.specs.declared.refusal.Refusal.TheVariants.{BackPressured}
 use Rattle.publication.specs.declared.step.WordStep.TheVariants as steps
 use Rattle.publication.specs.Steps.{Adds, Arms, Counts, Sees, addition, count_in, message_at, noted, opened, start_in, tail_step, with_armed, with_count, with_limit}
-use Rattle.publication.specs.Frames.{stored_words}
-use Rattle.publication.specs.Claims.{Claimed}
+use Rattle.publication.specs.Claims.{Claimed, message_stores, offer_stores}
 use Rattle.publication.specs.Orders.{AreInOrder}
 
 abbrev shape : Geometry
@@ -16,10 +16,6 @@ shape = record { term_length = 65536; mtu = 1408; initial_term_id = pos 7 }
 
 abbrev stream : Identity
 stream = record { geometry = shape; session = pos 1; stream = pos 1001 }
-
--- four words of a header, and one of three bytes
-five_words : stored_words (35 ∷ []) ≡ 5
-five_words = refl
 
 -- tails: at the start, behind 57,184 bytes, in the next term, and in the one before the first
 at_start : start_in shape 0x0000000700000000 ≡ 0
@@ -63,6 +59,16 @@ armed = noted (tail_step seen_count 0x0000000700000000) (with_armed seen_count)
 
 abbrev claimed : Pass
 claimed = noted (addition armed 3 0x0000000700000000) (opened armed (message_at armed 0x0000000700000000 3))
+
+-- one store for three bytes, two for what is longer than one frame, and none for what isn't accepted
+one_store : message_stores 3 fresh fresh ≡ 1
+one_store = refl
+
+two_stores : message_stores 2000 fresh fresh ≡ 2
+two_stores = refl
+
+none_refused : offer_stores 2000 (Err BackPressured) fresh fresh ≡ 0
+none_refused = refl
 
 sees : Sees fresh 32769 seen_limit
 sees = refl

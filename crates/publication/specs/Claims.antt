@@ -11,12 +11,12 @@ use Rattle.publication.specs.declared.step.WordStep.TheVariants as steps
 use Rattle.publication.specs.declared.refusal.Refusal.{Refusal}
 use Rattle.publication.specs.declared.refusal.Refusal.TheVariants.{NotConnected, BackPressured, AdminAction, Closed, MaxPositionExceeded}
 use Rattle.publication.specs.Steps.{IsTerm, Keeps, Moved, Names, begun_word, blank, count_in, geometry_of, message_at, opened, padding_at, start_in, term_of, with_work}
-use Rattle.publication.specs.Frames.{frame_at, stored_words}
+use Rattle.publication.specs.Frames.{frame_at}
 use Rattle.publication.specs.Orders.{EndBelow}
 
 -- ---- the steps that it took
 
--- these are noted in the call behind what was, and so many words were stored
+-- these are noted in the call behind what was, and so many frames were stored
 pub record TookMore {L P : Type 0} (took : L → P → L → P → List WordStep → ℕ → Type 0) (pass_of : L → P → Pass) (l : L) (p : P) (m : L) (q : P) (stored : ℕ) : Type 0 where
   pub noted : List WordStep
   pub steps : took l p m q noted stored
@@ -26,27 +26,27 @@ pub record TookMore {L P : Type 0} (took : L → P → L → P → List WordStep
 abbrev pub TookCall : {L P : Type 0} → (L → P → L → P → List WordStep → ℕ → Type 0) → (L → P → Pass) → L → P → L → P → ℕ → Type 0
 TookCall took pass_of l p m q stored = took l p m q (pass_of m q).call stored
 
--- ---- how many words were stored, by the pass before and after
+-- ---- how many frames were stored, each by one store, by the pass before and after
 
 abbrev pub exactly : ℕ → Pass → Pass → ℕ
 exactly count p q = count
 
--- a padding's header, for each frame that is committed more
-abbrev pub padding_words : Pass → Pass → ℕ
-padding_words p q = 4 * (length q.work.frames - length p.work.frames)
+-- a padding, for each frame that is committed more
+abbrev pub padding_stores : Pass → Pass → ℕ
+padding_stores p q = length q.work.frames - length p.work.frames
 
 -- the frames of a message of this many bytes
-abbrev pub message_words : ℕ → Pass → Pass → ℕ
-message_words size p q = stored_words (cuts_of p.identity.geometry size)
+abbrev pub message_stores : ℕ → Pass → Pass → ℕ
+message_stores size p q = length (cuts_of p.identity.geometry size)
 
 -- those, if it was accepted, and a padding's, if one is left
-abbrev pub offer_words : ℕ → Result ℕ Refusal → Pass → Pass → ℕ
-offer_words size (Ok end) p q = message_words size p q
-offer_words size (Err why) p q = padding_words p q
+abbrev pub offer_stores : ℕ → Result ℕ Refusal → Pass → Pass → ℕ
+offer_stores size (Ok end) p q = message_stores size p q
+offer_stores size (Err why) p q = padding_stores p q
 
 -- ---- what holds of all that a pass does
 
--- a whole call: the log and its other passes stay, the call notes each word step that was made in it, seven at the most, and so many words were stored
+-- a whole call: the log and its other passes stay, the call notes each word step that was made in it, seven at the most, and so many frames were stored
 pub record Called {L P I : Type 0} (fits : L → P → Type 0) (pass_of : L → P → Pass) (name : P → ℕ) (id : L → I) (made : L → P → L → P → List WordStep → ℕ → Type 0) (l : L) (p : P) (m : L) (q : P) (stored : Pass → Pass → ℕ) : Type 0 where
   pub moved : Moved fits pass_of name id l p m q
   pub took : TookCall made pass_of l p m q (stored (pass_of l p) (pass_of m q))

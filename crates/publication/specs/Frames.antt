@@ -1,5 +1,5 @@
 -- The frames of a claim.
-use Rattle.std.specs.Prelude.{◌≡◌, ℕ, ◌+◌, ◌/◌, ◌<◌, Bool, List, [], ◌∷◌, ◌++◌, length, slice_set, if◌then◌else◌}
+use Rattle.std.specs.Prelude.{◌≡◌, ℕ, ◌+◌, ◌<◌, Bool, List, [], ◌∷◌, ◌++◌, length, slice_set, if◌then◌else◌}
 use Rattle.theory.specs.Position.{aligned, cuts_of}
 use Rattle.theory.specs.Placed.{Frame, frame_length}
 use Rattle.theory.specs.Entry.{pieces_of}
@@ -24,11 +24,6 @@ message_frames i first p message = frames_at i p (pieces_of first (cuts_of i.geo
 -- the flags of a message's frame, by whether it is the first and the last
 abbrev pub frame_flags : Bool → Bool → ℕ
 frame_flags first last = if last then (if first then 192 else 64) else (if first then 128 else 0)
-
--- how many words are stored of frames with these lengths: those of the headers and payloads
-abbrev pub stored_words : List ℕ → ℕ
-stored_words [] = 0
-stored_words (cut ∷ cuts) = (cut + 7) / 8 + stored_words cuts
 
 -- the open frame that begins at this position is a frame of the stream, of the length that was claimed, once this is its
 -- first word

@@ -1,33 +1,14 @@
 -- What an accepted offer leaves of its pass, and what ends a claim.
-use Rattle.std.specs.Prelude.{◌≡◌, ℕ, ◌+◌, ◌≤◌, Bool, true, List, [], ◌∷◌, ◌++◌, length, slice_set, suc}
+use Rattle.std.specs.Prelude.{◌≡◌, ℕ, ◌+◌, Bool, true, List, [], ◌∷◌, ◌++◌, length}
 use Rattle.theory.specs.Placed.{Frame, frame_length}
 use Rattle.theory.specs.Position.{cuts_of, framed_length}
 use Rattle.publication.specs.declared.pass.FrameWords.{FrameWords}
 use Rattle.publication.specs.declared.pass.Pass.{Pass}
 use Rattle.publication.specs.declared.refusal.Refusal.{Refusal}
 use Rattle.publication.specs.Orders.{AreInOrder}
-use Rattle.publication.specs.Steps.{blank, blanks, frame, geometry_of, with_work, works}
+use Rattle.publication.specs.Steps.{blank, blanks, geometry_of, with_work, works}
 use Rattle.publication.specs.Frames.{message_frames}
 use Rattle.publication.specs.Claims.{Claimed, Fills, HasBlank, Justified}
-
--- words with these over them, from the kth on
-abbrev pub patch : List ℕ → ℕ → List ℕ → List ℕ
-patch old k [] = old
-patch old k (x ∷ xs) = patch (slice_set old k x) (suc k) xs
-
--- words are stored in the open frame that begins here, from the kth on
-abbrev pub Puts : Pass → ℕ → ℕ → List ℕ → Pass → Type 0
-Puts v p k xs w = (front : List FrameWords) (cut : ℕ) (words : List ℕ) (behind : List FrameWords) → v.work.drafts ≡ front ++ frame p cut words ∷ behind → k + length xs ≤ length words
-    → w ≡ with_work v.work.frames (front ++ frame p cut (patch words k xs) ∷ behind) v
-
--- one of the open frames begins here, and has so many words at least
-pub record HasRoom (v : Pass) (p count : ℕ) : Type 0 where
-  pub front : List FrameWords
-  pub cut : ℕ
-  pub words : List ℕ
-  pub behind : List FrameWords
-  pub parts : v.work.drafts ≡ front ++ frame p cut words ∷ behind
-  pub room : count ≤ length words
 
 -- open frames of these lengths follow each other from here, and nothing of them is stored
 pub record HasBlanks (v : Pass) (p : ℕ) (cuts : List ℕ) : Type 0 where

@@ -2,7 +2,7 @@
 
 ghost use Rattle.std.specs.Prelude.{◌≡◌, ◌+◌, ◌<◌, ◌≤◌, IfOk, IfErr, length};
 ghost use Rattle.theory.specs.Position.{cuts_of, max_message, max_payload};
-ghost use Rattle.publication.specs.Claims.{Called, Claimed, Justified, PartOfCall, padding_words};
+ghost use Rattle.publication.specs.Claims.{Called, Claimed, Justified, PartOfCall, padding_stores};
 ghost use Rattle.publication.specs.Looks.{Granted, Pads, ToPad, Tripping};
 
 use crate::looking::{Look, look_at};
@@ -23,7 +23,7 @@ pub(crate) fn claim<W: WordCalls>(
 ) -> Result<u64, Refusal>
     requires fits { W.fits words.old pass.old }
     requires short { size ≤ max_message (W.pass_of words.old pass.old).identity.geometry }
-    ensures called { Called W.fits W.pass_of W.name W.id W.took words.old pass.old words.new pass.new padding_words }
+    ensures called { Called W.fits W.pass_of W.name W.id W.took words.old pass.old words.new pass.new padding_stores }
     ensures accepted { IfOk result (λ start. Claimed (W.pass_of words.old pass.old) size start (W.pass_of words.new pass.new)) }
     ensures refused { IfErr result (λ why. Justified (W.pass_of words.old pass.old) size why (W.pass_of words.new pass.new)) }
 {
@@ -46,7 +46,7 @@ fn add_frames<W: WordCalls>(
     requires armed { (W.pass_of words.old pass.old).right.armed ≡ 1 }
     requires count { (W.pass_of words.old pass.old).seen.term ≡ count }
     requires short { size ≤ max_message (W.pass_of words.old pass.old).identity.geometry }
-    ensures part { PartOfCall W.fits W.pass_of W.name W.id W.took words.old pass.old words.new pass.new padding_words }
+    ensures part { PartOfCall W.fits W.pass_of W.name W.id W.took words.old pass.old words.new pass.new padding_stores }
     ensures accepted { IfOk result (λ start. Granted (W.pass_of words.old pass.old) count size start (W.pass_of words.new pass.new)) }
     ensures refused { IfErr result (λ why. Tripping (W.pass_of words.old pass.old) count size why (W.pass_of words.new pass.new)) }
 {
@@ -74,7 +74,7 @@ pub fn add_range<W: WordCalls>(
     requires armed { (W.pass_of words.old pass.old).right.armed ≡ 1 }
     requires count { (W.pass_of words.old pass.old).seen.term ≡ count }
     requires short { size ≤ max_payload (W.pass_of words.old pass.old).identity.geometry }
-    ensures part { PartOfCall W.fits W.pass_of W.name W.id W.took words.old pass.old words.new pass.new padding_words }
+    ensures part { PartOfCall W.fits W.pass_of W.name W.id W.took words.old pass.old words.new pass.new padding_stores }
     ensures accepted { IfOk result (λ start. Granted (W.pass_of words.old pass.old) count size start (W.pass_of words.new pass.new)) }
     ensures refused { IfErr result (λ why. Tripping (W.pass_of words.old pass.old) count size why (W.pass_of words.new pass.new)) }
 {
@@ -87,7 +87,7 @@ pub fn add_range<W: WordCalls>(
 fn pad<W: WordCalls>(words: &mut W, pass: &mut W::Pass, word: u64)
     requires fits { W.fits words.old pass.old }
     requires draft { ToPad (W.pass_of words.old pass.old) word }
-    ensures part { PartOfCall W.fits W.pass_of W.name W.id W.took words.old pass.old words.new pass.new padding_words }
+    ensures part { PartOfCall W.fits W.pass_of W.name W.id W.took words.old pass.old words.new pass.new padding_stores }
     ensures pads { Pads (W.pass_of words.old pass.old) word (W.pass_of words.new pass.new) }
 {
     let geometry = words.identity(pass).geometry();

@@ -1,14 +1,13 @@
 //! Publishing without a lock: offers and claims of a publisher, their commit and abort, and the turn to the next
 //! term, written once over the trait of word calls (`WordCalls`): each is one step on one word, but for those that fill an
-//! open frame, which store it whole and commit it. A log whose frames are words fills them by `write_data` and
-//! `write_padding`, over the trait of its stores (`FrameStores`).
+//! open frame, which store it whole and commit it, by one store.
 //!
 //! Each contract speaks of the pass before and after and of the answer, never of the log. An accepted `offer` gives
 //! its pass one claim more, at the position of the word that its addition answered, with the message in its frames'
 //! words, all committed; `try_claim` the same, open, until `commit` or `abort` ends it. A refusal is justified by the
 //! words that this call loaded or added to, and leaves nothing, or, where the addition passed the term's end, that
 //! one padding. Every word step counts, and is told with the word that it answered: seven at the most in a call,
-//! beside the words that it stores. A turn (`rotate`) is told whole: which raw tail is loaded, that it is exchanged
+//! beside one store for each frame. A turn (`rotate`) is told whole: which raw tail is loaded, that it is exchanged
 //! where its term is two before and only there, and that the active count is exchanged where the next term has begun
 //! and only there, each once. Where nobody else steps between, the answer is the one that the tail, the active count
 //! and the limit make it (a lemma). No call takes memory or waits.
@@ -27,7 +26,6 @@ mod order;
 mod pass;
 mod refusal;
 mod step;
-mod stores;
 mod tail;
 mod turn;
 mod words;
@@ -40,8 +38,6 @@ pub use order::{InOrder, claims_in_order};
 pub use pass::{ClaimRange, Controls, FrameWords, Keeping, Pass, Reading, Right, Seen, Work};
 pub use refusal::Refusal;
 pub use step::WordStep;
-pub use stores::FrameStores;
 pub use tail::{position_shown, taken, term_offset};
 pub use turn::{rotate, turn_from};
 pub use words::WordCalls;
-pub use writing::{write_data, write_padding};

@@ -3,9 +3,8 @@
 ghost use Rattle.std.specs.Prelude.{◌≡◌, ◌+◌, ◌≤◌, ◌∷◌, [], IfOk, IfErr, length, if◌then◌else◌};
 ghost use Rattle.theory.specs.Position.{aligned, cuts_of, framed_length, max_message, max_payload, max_position};
 ghost use Rattle.theory.specs.Placed.{Data, Pad};
-ghost use Rattle.publication.specs.Frames.{stored_words};
 ghost use Rattle.publication.specs.Refusals.{SightsJustify};
-ghost use Rattle.publication.specs.Claims.{Called, Fills, HasBlank, Justified, PartOfCall, exactly, offer_words, padding_words};
+ghost use Rattle.publication.specs.Claims.{Called, Fills, HasBlank, Justified, PartOfCall, exactly, offer_stores, padding_stores};
 ghost use Rattle.publication.specs.Offers.{Offered, Opened};
 
 use crate::claiming::claim;
@@ -27,7 +26,7 @@ pub fn offer<W: WordCalls>(
 ) -> Result<u64, Refusal>
     requires fits { W.fits words.old pass.old }
     requires short { length message.now ≤ max_message (W.pass_of words.old pass.old).identity.geometry }
-    ensures called { Called W.fits W.pass_of W.name W.id W.took words.old pass.old words.new pass.new (offer_words (length message.now) result) }
+    ensures called { Called W.fits W.pass_of W.name W.id W.took words.old pass.old words.new pass.new (offer_stores (length message.now) result) }
     ensures accepted { IfOk result (λ end. Offered (W.pass_of words.old pass.old) message.now end (W.pass_of words.new pass.new)) }
     ensures refused { IfErr result (λ why. Justified (W.pass_of words.old pass.old) (length message.now) why (W.pass_of words.new pass.new)) }
     ensures justified { IfErr result (λ why. SightsJustify (W.pass_of words.old pass.old) (length message.now) why (W.pass_of words.new pass.new)) }
@@ -45,7 +44,7 @@ pub fn offer<W: WordCalls>(
 pub fn try_claim<W: WordCalls>(words: &mut W, pass: &mut W::Pass, size: u32) -> Result<u64, Refusal>
     requires fits { W.fits words.old pass.old }
     requires short { size ≤ max_payload (W.pass_of words.old pass.old).identity.geometry }
-    ensures called { Called W.fits W.pass_of W.name W.id W.took words.old pass.old words.new pass.new padding_words }
+    ensures called { Called W.fits W.pass_of W.name W.id W.took words.old pass.old words.new pass.new padding_stores }
     ensures accepted { IfOk result (λ start. Opened (W.pass_of words.old pass.old) size start (W.pass_of words.new pass.new)) }
     ensures refused { IfErr result (λ why. Justified (W.pass_of words.old pass.old) size why (W.pass_of words.new pass.new)) }
     ensures justified { IfErr result (λ why. SightsJustify (W.pass_of words.old pass.old) size why (W.pass_of words.new pass.new)) }
@@ -60,7 +59,7 @@ pub fn commit<W: WordCalls>(words: &mut W, pass: &mut W::Pass, start: u64, messa
     requires short { length message.now ≤ max_payload (W.pass_of words.old pass.old).identity.geometry }
     requires in_stream { start + aligned (32 + length message.now) ≤ max_position (W.pass_of words.old pass.old).identity.geometry }
     requires blank { HasBlank (W.pass_of words.old pass.old) start (32 + length message.now) }
-    ensures part { PartOfCall W.fits W.pass_of W.name W.id W.took words.old pass.old words.new pass.new (exactly (stored_words ((32 + length message.now) ∷ []))) }
+    ensures part { PartOfCall W.fits W.pass_of W.name W.id W.took words.old pass.old words.new pass.new (exactly 1) }
     ensures committed { Fills (W.pass_of words.old pass.old) start (Data 192 message.now) (W.pass_of words.new pass.new) }
     ensures end { result ≡ start + aligned (32 + length message.now) }
 {
@@ -76,7 +75,7 @@ pub fn abort<W: WordCalls>(words: &mut W, pass: &mut W::Pass, start: u64, size: 
     requires short { size ≤ max_payload (W.pass_of words.old pass.old).identity.geometry }
     requires in_stream { start + aligned (32 + size) ≤ max_position (W.pass_of words.old pass.old).identity.geometry }
     requires blank { HasBlank (W.pass_of words.old pass.old) start (32 + size) }
-    ensures part { PartOfCall W.fits W.pass_of W.name W.id W.took words.old pass.old words.new pass.new (exactly 4) }
+    ensures part { PartOfCall W.fits W.pass_of W.name W.id W.took words.old pass.old words.new pass.new (exactly 1) }
     ensures aborted { Fills (W.pass_of words.old pass.old) start (Pad (32 + size)) (W.pass_of words.new pass.new) }
     ensures end { result ≡ start + aligned (32 + size) }
 {

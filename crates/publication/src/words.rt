@@ -8,7 +8,6 @@ ghost use Rattle.theory.specs.Words.{id_before, id_in};
 ghost use Rattle.publication.specs.declared.pass.Pass.{Pass};
 ghost use Rattle.publication.specs.declared.step.WordStep.{WordStep};
 ghost use Rattle.publication.specs.declared.step.WordStep.TheVariants as steps;
-ghost use Rattle.publication.specs.Frames.{stored_words};
 ghost use Rattle.publication.specs.Claims.{Fills, HasBlank, PartOfCall, exactly};
 ghost use Rattle.publication.specs.Steps.{Adds, Arms, Counts, ExchangesCount, Moved, Nexts, Rotates, Sees, addition, begun_word, geometry_of, tail_step};
 
@@ -120,7 +119,7 @@ pub trait WordCalls {
         requires flags { IsDataFlags flags }
         requires short { 32 + length payload.now ≤ (pass_of self.old pass.old).identity.geometry.mtu }
         requires blank { HasBlank (pass_of self.old pass.old) start (32 + length payload.now) }
-        ensures part { PartOfCall fits pass_of name id took self.old pass.old self.new pass.new (exactly (stored_words ((32 + length payload.now) ∷ []))) }
+        ensures part { PartOfCall fits pass_of name id took self.old pass.old self.new pass.new (exactly 1) }
         ensures fills { Fills (pass_of self.old pass.old) start (Data flags payload.now) (pass_of self.new pass.new) };
 
     /// Stores a padding into an open frame of its length, of which nothing is stored, and commits it.
@@ -136,7 +135,7 @@ pub trait WordCalls {
         requires long { 32 ≤ frame_length }
         requires short { frame_length ≤ (pass_of self.old pass.old).identity.geometry.term_length }
         requires blank { HasBlank (pass_of self.old pass.old) start frame_length }
-        ensures part { PartOfCall fits pass_of name id took self.old pass.old self.new pass.new (exactly 4) }
+        ensures part { PartOfCall fits pass_of name id took self.old pass.old self.new pass.new (exactly 1) }
         ensures fills { Fills (pass_of self.old pass.old) start (Pad frame_length) (pass_of self.new pass.new) };
 
     ghost none: { (l : Self) (p : Self.Pass) → took l p l p [] 0 };

@@ -2,11 +2,11 @@
 use Rattle.std.proofs.Common.{◌≡◌, ◌∙◌, List, [], ◌∷◌, ◌++◌, ℕ, ◌+◌, ◌<◌, length, true, Option, None, Some, IfSome, ap, refl, subst, sym, arith}
 use Rattle.std.proofs.lemmas.List.Elements.{All-from_recursion}
 use Rattle.theory.proofs.Lists.{all_append}
-use Rattle.log_rule.specs.Claims.Handles.{PublisherValue, parts_in}
+use Rattle.log_passes.specs.Handles.{LogValue, PublisherValue, parts_in}
 use Rattle.log_rule.specs.Claims.Sums.{total}
 use Rattle.log_rule.proofs.Claimed.Totals.{total_append}
 use Rattle.shared_log.specs.Books.{AreAll, IsDone, ShowsBook}
-use Rattle.shared_log.specs.Handles.{IsNew, LogValue}
+use Rattle.shared_log.specs.Handles.{IsNew}
 use Rattle.shared_log.specs.Readers.{IsReaderOf}
 use Rattle.shared_log.specs.declared.book.Book.{Book}
 use Rattle.std.specs.List.{AllByRecursion}

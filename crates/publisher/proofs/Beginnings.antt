@@ -6,9 +6,9 @@ use Rattle.std.proofs.lemmas.Bool.Decides.{nat_tests}
 use Rattle.std.specs.Io.Buffered.{reader_buffer, reader_capacity, reader_inner, reader_remaining}
 use Rattle.std.specs.Io.KnownBytes.{prepend_known}
 use Rattle.std.specs.declared.io.buffered.BufReader.{BufReader}
-use Rattle.log_rule.specs.Claims.Handles.{PublisherValue, parts_in}
+use Rattle.log_passes.specs.Handles.{LogValue, PublisherValue, parts_in}
 use Rattle.log_rule.specs.Claims.Sums.{total}
-use Rattle.shared_log.specs.Handles.{AreNew, IsNew, LogValue}
+use Rattle.shared_log.specs.Handles.{AreNew, IsNew}
 use Rattle.shared_log.specs.Keepers.{KeeperValue}
 use Rattle.shared_log.specs.Parts.{IsNewKeeper}
 use Rattle.agents.proofs.NewPublishers.{are_done}

@@ -3,11 +3,11 @@ use Rattle.std.specs.Prelude.{◌≡◌, ◌<◌, ℕ, true, List, [], ◌∷◌
 use Rattle.std.specs.List.{AllByRecursion}
 use Rattle.std.specs.declared.net.SocketAddr.{SocketAddr}
 use Rattle.position.specs.Openings.{IsStart}
-use Rattle.log_rule.specs.Claims.Handles.{PublisherValue}
+use Rattle.log_passes.specs.Handles.{LogValue, PublisherValue}
 use Rattle.flow_control.specs.Stream.{flow_after, group_of}
 use Rattle.shared_log.specs.Books.{IsCommittedBy, IsDone, ShowsBook}
 use Rattle.shared_log.specs.Readers.{IsReaderOf, ReaderValue, known_of}
-use Rattle.shared_log.specs.Handles.{IsNew, LogValue}
+use Rattle.shared_log.specs.Handles.{IsNew}
 use Rattle.shared_log.specs.declared.book.Book.{Book}
 use Rattle.endpoint.specs.Fans.{Fanned}
 use Rattle.endpoint.specs.declared.udp.Route.{Route}

@@ -1,10 +1,9 @@
 -- What is left where the thread that reads has ended.
 use Rattle.std.specs.Prelude.{◌≡◌, ℕ, List, Option}
 use Rattle.theory.specs.Position.{max_message}
-use Rattle.log_rule.specs.Claims.Handles.{PublisherValue}
+use Rattle.log_passes.specs.Handles.{LogValue, PublisherValue}
 use Rattle.publication.specs.declared.pass.Pass.{Pass}
 use Rattle.shared_log.specs.Books.{IsDone}
-use Rattle.shared_log.specs.Handles.{LogValue}
 use Rattle.messages.specs.declared.form.Form.{Form}
 use Rattle.publisher.specs.declared.offering.reading.Reading.{Reading}
 use Rattle.publisher.specs.Offers.{PublishesInput}

@@ -11,12 +11,11 @@ use Rattle.theory.specs.Tiling.{Tiles}
 use Rattle.theory.proofs.Claims.{covers_framed}
 use Rattle.theory.proofs.Lists.{all_append, all_weaker}
 use Rattle.publication.specs.declared.pass.ClaimRange.{ClaimRange}
-use Rattle.log_rule.specs.Claims.Handles.{PublisherValue, parts_in}
+use Rattle.log_passes.specs.Handles.{LogValue, PublisherValue, parts_in}
 use Rattle.log_rule.specs.Claims.Rule.{entry_of}
 use Rattle.log_rule.specs.Claims.Sums.{total}
 use Rattle.log_rule.specs.Shares.{claimed_bytes, range_bytes}
 use Rattle.log_rule.proofs.Claimed.Totals.{total_append, total_map}
-use Rattle.shared_log.specs.Handles.{LogValue}
 use Rattle.shared_log.specs.Keepers.{KeeperValue}
 use Rattle.endpoint.specs.Devices.{Device}
 use Rattle.shared_log.specs.Books.{AreAll, IsDone, ShowsBook, share_as, weight_in}

@@ -16,12 +16,11 @@ use Rattle.publication.specs.declared.pass.ClaimRange.{ClaimRange}
 use Rattle.publication.specs.declared.pass.FrameWords.{FrameWords}
 use Rattle.publication.specs.Frames.{frames_at, message_frames}
 use Rattle.publication.specs.Orders as orders
-use Rattle.log_rule.specs.Claims.Handles.{PublisherValue}
+use Rattle.log_passes.specs.Handles.{LogValue, PublisherValue}
 use Rattle.log_rule.specs.Claims.Rule.{IsClaimEntry}
 use Rattle.log_rule.specs.Claims.Rule as rules
 use Rattle.log_rule.specs.Claims.Sums.{total}
 use Rattle.shared_log.specs.Books.{HasEntries, ShowsBook, weight_in}
-use Rattle.shared_log.specs.Handles.{LogValue}
 use Rattle.shared_log.specs.Sourced.{placed}
 use Rattle.log_messages.specs.Closed.{AreInOrder, ClosedIsStream, ClosesAsStream, CommitsItsClaims, HasClaimed, HaveClaimed, IsTold, bare, joined, words_in}
 use Rattle.options.specs.declared.run.made.Plan.{Plan}

@@ -19,10 +19,9 @@ use Rattle.publication.specs.Frames.{frame_at, message_frames}
 use Rattle.publication.specs.Offers.{Offered}
 use Rattle.publication.specs.Orders.{AreInOrder}
 use Rattle.publication.proofs.Ordered as ordered
-use Rattle.log_rule.specs.Claims.Handles.{PublisherValue}
+use Rattle.log_passes.specs.Handles.{IsOf, LogValue, PublisherValue}
 use Rattle.log_rule.specs.Claims.Sums.{total}
 use Rattle.log_rule.proofs.Claimed.Totals.{total_append}
-use Rattle.shared_log.specs.Handles.{IsOf, LogValue}
 use Rattle.shared_log.specs.Books.{IsDone}
 use Rattle.run_parties.specs.Messages.{HasPublished, IsRunClaim, frames_from, frames_in, message_in, message_of}
 use Rattle.run_parties.specs.Passes.{Ends}

@@ -9,9 +9,8 @@ use Rattle.publication.specs.declared.pass.ClaimRange.{ClaimRange}
 use Rattle.publication.specs.declared.pass.FrameWords.{FrameWords}
 use Rattle.publication.specs.Frames.{frames_at, message_frames}
 use Rattle.publication.specs.Orders.{AreInOrder}
-use Rattle.log_rule.specs.Claims.Handles.{PublisherValue}
+use Rattle.log_passes.specs.Handles.{LogValue, PublisherValue}
 use Rattle.log_rule.specs.Claims.Sums.{total}
-use Rattle.shared_log.specs.Handles.{LogValue}
 use Rattle.run_parties.specs.Passes.{Ends}
 
 -- a message of a run: its publisher's number and its own count, from 0, of four bytes each, the lowest first; and zeros up to its length

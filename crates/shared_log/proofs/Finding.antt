@@ -1,6 +1,6 @@
 -- What a look finds, for a reader.
-use Rattle.std.proofs.Common.{◌≡◌, ℕ, zero, suc, ◌+◌, ◌-◌, ◌*◌, ◌/◌, ◌^◌, ◌<◌, ◌≤◌, Bool, true, false, List, [], ◌∷◌, ◌++◌, length, take, drop, inl, inr, sym, refl, ap, ◌∙◌, subst, arith}
-use Rattle.std.specs.Prelude.{nat_eq, slice_index, if◌then◌else◌}
+use Rattle.std.proofs.Common.{rules, ◌≡◌, ℕ, zero, suc, ◌+◌, ◌-◌, ◌*◌, ◌/◌, ◌^◌, ◌<◌, ◌≤◌, Bool, true, false, List, [], ◌∷◌, ◌++◌, length, take, drop, inl, inr, sym, refl, ap, ◌∙◌, subst, arith}
+use Rattle.std.specs.Prelude.{nat_eq, nat_le, slice_index, if◌then◌else◌}
 use Rattle.std.specs.Int.{w64, to_le_bytes}
 use Rattle.theory.specs.Position.{Geometry, IsGeometry, aligned, max_position}
 use Rattle.theory.specs.Bytes.{Identity}
@@ -18,16 +18,15 @@ use Rattle.frame_words.specs.Contents.{bytes_in, head_by}
 use Rattle.publication.specs.Contents.{frame_in}
 use Rattle.frame_words.proofs.Contents.{head_said, legal_said}
 use Rattle.log_rule.specs.Claims.Memory.{IsCommittedFrame}
-use Rattle.shared_log.specs.Handles.{LogValue}
-use Rattle.log_rule.specs.Claims.Handles.{PublisherValue}
-use Rattle.shared_log.specs.Readers.{Advances, Copies, Finds, FindsNone, Has, IsReaderOf, IsReading, LoadsWord, MayReread, Misses, OnlyReads, ReaderValue, ReadsFrame, Rereads, Rests, SameSeat, Stays, known_at, known_of, misses_at, positions_of}
+use Rattle.log_passes.specs.Readers.{Copies, CopiesHad, CopiesKnown, IsRead, MayRereadAt, ReadsAgain, SameSeat, fitting, part_bytes, part_of}
+use Rattle.log_passes.specs.Handles.{LogValue, PublisherValue}
+use Rattle.shared_log.specs.Readers.{Advances, Finds, FindsNone, FindsPart, Has, IsReaderOf, IsReading, MayReread, Misses, OnlyReads, ReaderValue, ReadsFrame, Rereads, Rests, Stays, consumer_of, known_at, known_of, misses_at, positions_of}
 use Rattle.log_rule.specs.Readings as Frames
-use Rattle.log_rule.specs.Says.{IsCommittedFor}
 use Rattle.log_rule.specs.Readings.{Consumes, IsConsumer, IsFrameAt, Looks, knows_more, missed, moved_to, with_consumer}
-use Rattle.log_rule.proofs.InTerm.{done_long, words_cover}
+use Rattle.log_rule.proofs.InTerm.{words_cover}
 use Rattle.log_rule.proofs.Saying.{known_committed}
 use Rattle.std.proofs.lemmas.List.{map-set}
-use Rattle.shared_log.proofs.Looking.{has_on, known_is, known_missing, known_on, misses_is, misses_on, missing_is, rests_on, put_equal, put_there, same_on}
+use Rattle.shared_log.proofs.Looking.{known_is, known_missing, misses_is, missing_is, put_equal, put_there}
 
 -- which frame its words say
 pub content_is : (i : Identity) (f : FrameWords) → IsGeometry i.geometry → (d : IsCommittedFrame i f) → frame_in f ≡ d.content
@@ -179,123 +178,103 @@ taken : (b : Bool) (p n flags m : ℕ) (xs : List ℕ) → (head_of p (if b then
 taken true p n flags m xs e = absurd (kinds_apart (sym e))
 taken false p n flags m xs e = let l : 32 + length (take m xs) - 32 ≡ length (take m xs) = omega arith in (ap (λ (k : ℕ). take k xs) l ∙ take_again m xs, l)
 
-abbrev pub finds_rests : (l : LogValue) (r : ReaderValue) (head : FrameHead) (q s : ReaderValue) → Finds l r head q → Rests q s → Finds l r head s
-finds_rests l r head q s f a = record {
-  frame = f.frame;
-  here = f.here;
-  shown = f.shown;
-  legal = f.legal;
-  known = known_on q s a ∙ f.known;
-  committed = subst (λ (v : Pass). IsCommittedFor v f.frame) (sym a.pass) f.committed;
-  looked = misses_on q s a ∙ f.looked;
-  only = f.only;
-  own = f.own;
-  stays = record {
-    seat = same_on r.held q.held s.held f.stays.seat a.seat;
-    pass = subst (OnlyReads r.held.pass) (sym a.pass) f.stays.pass;
-    positions = ap positions_of a.pass ∙ f.stays.positions;
-    same = a.same ∙ ap (λ (x : ReaderValue). record x { held = s.held }) f.stays.same ∙ ap (λ (n : ℕ). record r { held = s.held; read_to = n }) (sym (ap (λ (x : ReaderValue). x.read_to) a.same));
-  };
-  read = ap (λ (x : ReaderValue). x.read_to) a.same ∙ f.read;
-}
+le_is : (a b : ℕ) → a ≤ b → nat_le a b ≡ true
+le_is a b le = search (rules, le)
 
-pub read_data : (l : LogValue) (r : ReaderValue) (head : FrameHead) (before : List ℕ) (q q' : ReaderValue) (after : List ℕ) → IsGeometry l.identity.geometry → (f : Finds l r head q) → head.kind ≡ kinds.Data → Rests q q' → Copies q head.start (head.frame_length - 32) before after → ReadsFrame l r head before q' after
-read_data l r head before q q' after g f kind rests copies =
-    let x : FrameWords = f.frame in let p : ℕ = r.position in let start : head.start ≡ p = ap (λ (h : FrameHead). h.start) f.shown ∙ starts p (frame_in x) in
-    let at : x.start ≡ head.start = f.here.at ∙ sym start in
-    let both = taken (nat_eq (slice_index (to_le_bytes w64 (slice_index x.words 0)) 6) 0) p _ _ _ (bytes_in (drop 4 x.words)) (sym (ap (λ (h : FrameHead). h.kind) f.shown) ∙ kind) in
-    let n : ℕ = head.frame_length - 32 in let long : n ≡ (head_of p (frame_in x)).frame_length - 32 = ap (λ (h : FrameHead). h.frame_length - 32) f.shown in
-    let covers = covers_is l.identity x g f.here.done in let whole : aligned head.frame_length ≡ 8 * length x.words = ap (λ (h : FrameHead). aligned h.frame_length) f.shown ∙ ap (λ (k : ℕ). aligned (head_of k (frame_in x)).frame_length) (sym f.here.at) ∙ covers in
-    let is : after ≡ take n (bytes_in (drop 4 x.words)) ++ drop n before = copies x (inl (subst (Among x) (sym f.known) (among_right x (known_of r) (x ∷ []) (inl refl)))) at (inside head.frame_length (length x.words) f.legal.long whole) (near q.position head.start (term_of q.held.pass) (ap (λ (y : ReaderValue). y.position) f.stays.same ∙ sym start)) in record {
-      finds = finds_rests l r head q q' f rests;
-      copied = is ∙ (λ j. take (long j) (bytes_in (drop 4 x.words)) ++ drop ((long ∙ both.1) j) before) ∙ ap (λ (ys : List ℕ). ys ++ drop (length (payload_of (frame_in x))) before) both.0;
-    }
+not_le : (a b : ℕ) → b < a → nat_le a b ≡ false
+not_le a b lt = search (rules, lt)
+
+-- how much of it is copied
+fits_is : (count room : ℕ) → count ≤ room → fitting count room ≡ count
+fits_is count room le = ap (λ (b : Bool). if b then count else 0) (le_is count room le)
+
+-- a payload that fits stands in front of the bytes
+whole : (head : FrameHead) (p : ℕ) (x : FrameWords) (before after : List ℕ) → head ≡ head_of p (frame_in x) → (head.kind ≡ kinds.Data → head.frame_length - 32 ≤ length before) → Copies x (part_bytes head (length before)) before after → after ≡ payload_of (frame_in x) ++ drop (length (payload_of (frame_in x))) before
+whole head p x before after shown fits copied = by head.kind refl
   where
-    starts : (p : ℕ) (f : Frame) → (head_of p f).start ≡ p
-    starts p (Data flags payload) = refl
-    starts p (Pad n) = refl
+    n : ℕ
+    n = head.frame_length - 32
 
-    inside : (n w : ℕ) → 32 ≤ n → aligned n ≡ 8 * w → 32 + (n - 32) ≤ 8 * w
-    inside n w long e = omega arith
+    long : n ≡ (head_of p (frame_in x)).frame_length - 32
+    long = ap (λ (h : FrameHead). h.frame_length - 32) shown
 
-    near : (p s t : ℕ) → p ≡ s → p ≤ s + t
-    near p s t e = omega arith
-
-pub read_pad : (l : LogValue) (r : ReaderValue) (head : FrameHead) (before : List ℕ) (q : ReaderValue) → (f : Finds l r head q) → head.kind ≡ kinds.Pad → ReadsFrame l r head before q before
-read_pad l r head before q f pad = record { finds = f; copied = empty (frame_in f.frame) (sym (ap (λ (h : FrameHead). h.kind) f.shown) ∙ pad) }
-  where
-    empty : (x : Frame) → (head_of r.position x).kind ≡ kinds.Pad → before ≡ payload_of x ++ drop (length (payload_of x)) before
+    empty : (y : Frame) → (head_of p y).kind ≡ kinds.Pad → before ≡ payload_of y ++ drop (length (payload_of y)) before
     empty (Data flags payload) e = absurd (kinds_apart e)
-    empty (Pad n) e = refl
+    empty (Pad k) e = refl
+
+    by : (k : FrameKind) → head.kind ≡ k → after ≡ payload_of (frame_in x) ++ drop (length (payload_of (frame_in x))) before
+    by kinds.Data e =
+        let both = taken (nat_eq (slice_index (to_le_bytes w64 (slice_index x.words 0)) 6) 0) p _ _ _ (bytes_in (drop 4 x.words)) (sym (ap (λ (h : FrameHead). h.kind) shown) ∙ e) in
+        copied ∙ ap (λ (m : ℕ). take m (bytes_in (drop 4 x.words)) ++ drop m before) (ap (λ (k : FrameKind). part_of k n (length before)) e ∙ fits_is n (length before) (fits e))
+        ∙ (λ j. take (long j) (bytes_in (drop 4 x.words)) ++ drop ((long ∙ both.1) j) before) ∙ ap (λ (ys : List ℕ). ys ++ drop (length (payload_of (frame_in x))) before) both.0
+    by kinds.Pad e = copied ∙ ap (λ (k : FrameKind). take (part_of k n (length before)) (bytes_in (drop 4 x.words)) ++ drop (part_of k n (length before)) before) e ∙ empty (frame_in x) (sym (ap (λ (h : FrameHead). h.kind) shown) ∙ e)
+
+-- bytes that took the place of as many
+pub whole_again : (xs ys : List ℕ) → length xs ≡ length ys → take (length ys) (xs ++ drop (length xs) ys) ≡ xs
+whole_again [] [] e = refl
+whole_again [] (y ∷ ys) e = absurd (omega (arith, e))
+whole_again (x ∷ xs) [] e = absurd (omega (arith, e))
+whole_again (x ∷ xs) (y ∷ ys) e = ap (λ (zs : List ℕ). x ∷ zs) (whole_again xs ys (omega (arith, e)))
+
+pub not_data : {P : Type 0} (head : FrameHead) → head.kind ≡ kinds.Pad → head.kind ≡ kinds.Data → P
+not_data head pad is = absurd (kinds_apart (sym is ∙ pad))
+
+-- one that doesn't leaves them as they were
+pub unfit : (head : FrameHead) (x : FrameWords) (before after : List ℕ) → head.kind ≡ kinds.Data → 32 + length before < head.frame_length → Copies x (part_bytes head (length before)) before after → after ≡ before
+unfit head x before after kind long copied = copied ∙ ap (λ (m : ℕ). take m (bytes_in (drop 4 x.words)) ++ drop m before) (ap (λ (k : FrameKind). part_of k n (length before)) kind ∙ none n (length before) (more head.frame_length (length before) long))
+  where
+    n : ℕ
+    n = head.frame_length - 32
+
+    none : (count room : ℕ) → room < count → fitting count room ≡ 0
+    none count room lt = ap (λ (b : Bool). if b then count else 0) (not_le count room lt)
+
+    more : (a m : ℕ) → 32 + m < a → m < a - 32
+    more a m lt = omega arith
+
+pub read_part : (l : LogValue) (r : ReaderValue) (head : FrameHead) (before : List ℕ) (q : ReaderValue) (after : List ℕ) → (f : FindsPart l r head before q after) → (head.kind ≡ kinds.Data → head.frame_length - 32 ≤ length before) → ReadsFrame l r head before q after
+read_part l r head before q after f fits = record { finds = f.finds; copied = whole head r.position f.finds.frame before after f.finds.shown fits f.copied }
+
+-- a block that holds a datagram's longest frame holds its payload
+pub fits_block : (g : Geometry) (head : FrameHead) (room : ℕ) → IsStreamFrame g head → g.mtu ≤ room → head.kind ≡ kinds.Data → head.frame_length - 32 ≤ room
+fits_block g head room legal le e = let short = legal.short e in omega arith
 
 -- ---- read again
 
-pub reread_low : (l : LogValue) (v r : ReaderValue) (p : ℕ) → v ≡ r → IsGeometry l.identity.geometry → IsReaderOf l r → IsReading v.held.pass v.place v.number v.position v.read_to → MayReread l r p → p < 2 ^ 56
-reread_low l v r p same g of is may =
-    let t = g.term.greatest in let up : r.position ≤ max_position l.identity.geometry = subst (λ (i : Identity). r.position ≤ max_position i.geometry) of.of.identity (subst (λ (x : ReaderValue). x.position ≤ max_position x.held.pass.identity.geometry) same is.low) in let le = may.below in go p r.position l.identity.geometry.term_length le up t
-  where
-    go : (p q t : ℕ) → p ≤ q → q ≤ t * 2147483648 → t ≤ 16777216 → p < 2 ^ 56
-    go p q t le up small = omega arith
-
--- what a frame's first word tells of it
-pub record Shows (l : LogValue) (r : ReaderValue) (position : ℕ) (head : FrameHead) : Type 0 where
-  pub near : r.position ≤ position + term_of r.held.pass
-  pub legal : IsStreamFrame l.identity.geometry head
-  pub shown : (f : FrameWords) → Has r f → f.start ≡ position → head ≡ head_of position (frame_in f)
-  pub here : (f : FrameWords) → Has r f → f.start ≡ position → IsFrameAt l.identity position f
-  pub only : (f g : FrameWords) → Has r f → f.start ≡ position → Has r g → g.start ≡ position → g ≡ f
-
-pub shows : (l : LogValue) (r : ReaderValue) (position n : ℕ) (head : FrameHead) → IsGeometry l.identity.geometry → IsReaderOf l r → MayReread l r position → LoadsWord l r position 0 n → head ≡ head_by position (to_le_bytes w64 n) → Shows l r position head
-shows l r position n head g of may told shown =
-    let size : term_of r.held.pass ≡ l.identity.geometry.term_length = ap (λ (i : Identity). i.geometry.term_length) of.of.identity in let close = may.near in
-    let near : r.position ≤ position + term_of r.held.pass = within r.position position l.identity.geometry.term_length (term_of r.held.pass) close size in
-    let said : (f : FrameWords) → Has r f → f.start ≡ position → head ≡ head_of position (frame_in f) = λ f has at. (let is = told f has at in
-    shown ∙ (λ j. head_by (sym is.here.at j) (to_le_bytes w64 (is.word (done_long l.identity f is.here.done) near j))) ∙ head_is l.identity f g is.here.done ∙ ap (λ (y : ℕ). head_of y (frame_in f)) is.here.at) in
-    let mine = told may.frame may.has may.here in
-    record {
-      near = near;
-      legal = subst (IsStreamFrame l.identity.geometry) (ap (head_of position) (sym (content_is l.identity may.frame g mine.here.done)) ∙ sym (said may.frame may.has may.here)) mine.here.head;
-      shown = said;
-      here = λ f has at. (told f has at).here;
-      only = λ f g has at. (told f has at).only g;
-    }
+pub may_reread : (l : LogValue) (r : ReaderValue) (p : ℕ) → IsReaderOf l r → IsReading r.held.pass r.place r.number r.position r.read_to → MayReread l r p → MayRereadAt r.held.pass (consumer_of r) p
+may_reread l r p of is may = record {
+  at = record { reading = is.consumer; is = is.is; number_is = is.number_is; position_is = is.position_is; low = of.number };
+  frame = may.frame;
+  has = had_by r is.consumer is.is may.frame may.has;
+  here = may.here;
+  near = (let size : term_of r.held.pass ≡ l.identity.geometry.term_length = ap (λ (i : Identity). i.geometry.term_length) of.of.identity in let close = may.near in within r.position p l.identity.geometry.term_length (term_of r.held.pass) close size);
+}
   where
     within : (q p t u : ℕ) → q ≤ p + 3 * t / 4 → u ≡ t → q ≤ p + u
     within q p t u le e = omega arith
 
-pub reread_data : (l : LogValue) (r q s : ReaderValue) (position : ℕ) (head : FrameHead) (before after : List ℕ) → IsGeometry l.identity.geometry → MayReread l r position → (is : Shows l r position head) → head.kind ≡ kinds.Data → Rests r q → Rests q s → Copies q position (head.frame_length - 32) before after → Rereads l r position head before s after
-reread_data l r q s position head before after g may is kind a c copies =
-    let f : FrameWords = may.frame in let at = may.here in let said = is.shown f may.has at in let here = is.here f may.has at in
-    let both = taken (nat_eq (slice_index (to_le_bytes w64 (slice_index f.words 0)) 6) 0) position _ _ _ (bytes_in (drop 4 f.words)) (sym (ap (λ (h : FrameHead). h.kind) said) ∙ kind) in
-    let long : head.frame_length - 32 ≡ (head_of position (frame_in f)).frame_length - 32 = ap (λ (h : FrameHead). h.frame_length - 32) said in
-    let whole : aligned head.frame_length ≡ 8 * length f.words = ap (λ (h : FrameHead). aligned h.frame_length) said ∙ ap (λ (k : ℕ). aligned (head_of k (frame_in f)).frame_length) (sym here.at) ∙ covers_is l.identity f g here.done in
-    let near : q.position ≤ position + term_of q.held.pass = subst (λ (x : ℕ × Pass). x.0 ≤ position + term_of x.1) (λ j. (sym (ap (λ (x : ReaderValue). x.position) a.same) j, sym a.pass j)) is.near in
-    record {
+pub rereads_by : (l : LogValue) (r q : ReaderValue) (position n : ℕ) (head : FrameHead) (before after : List ℕ) → IsGeometry l.identity.geometry → IsReaderOf l r → IsReading r.held.pass r.place r.number r.position r.read_to → MayReread l r position → l.identity.geometry.mtu ≤ length before
+    → Rests r q → ReadsAgain r.held.pass (consumer_of r) position n → head ≡ head_by position (to_le_bytes w64 n) → CopiesHad r.held.pass (consumer_of r) position (part_bytes head (length before)) before after → Rereads l r position head before q after
+rereads_by l r q position n head before after g of is may room rests told shown copied =
+    let f : FrameWords = may.frame in let has = had_by r is.consumer is.is f may.has in let it : IsRead r.held.pass is.consumer f position n = told is.consumer f is.is has may.here in
+    let here : IsFrameAt l.identity position f = subst (λ (i : Identity). IsFrameAt i position f) of.of.identity it.here in
+    let said : head ≡ head_of position (frame_in f) = shown ∙ (λ j. head_by (sym here.at j) (to_le_bytes w64 (it.word j))) ∙ head_is l.identity f g here.done ∙ ap (λ (y : ℕ). head_of y (frame_in f)) here.at in
+    let legal : IsStreamFrame l.identity.geometry head = subst (IsStreamFrame l.identity.geometry) (ap (head_of position) (sym (content_is l.identity f g here.done)) ∙ sym said) here.head in record {
       frame = f;
       has = may.has;
-      at = at;
-      only = λ y has at_y. is.only f y may.has at has at_y;
+      at = may.here;
+      only = λ y has' at'. it.only y (had_by r is.consumer is.is y has') at';
       shown = said;
-      legal = is.legal;
-      copied = copies f (has_on r q a f may.has) at (inside head.frame_length (length f.words) is.legal.long whole) near ∙ (λ j. take (long j) (bytes_in (drop 4 f.words)) ++ drop ((long ∙ both.1) j) before) ∙ ap (λ (ys : List ℕ). ys ++ drop (length (payload_of (frame_in f))) before) both.0;
-      rests = rests_on r q s a c;
+      legal = legal;
+      copied = whole head position f before after said (fits_block l.identity.geometry head (length before) legal room) (copied is.consumer f is.is has may.here);
+      rests = rests;
     }
-  where
-    inside : (n w : ℕ) → 32 ≤ n → aligned n ≡ 8 * w → 32 + (n - 32) ≤ 8 * w
-    inside n w long e = omega arith
 
-pub reread_pad : (l : LogValue) (r q : ReaderValue) (position : ℕ) (head : FrameHead) (before : List ℕ) → MayReread l r position → Shows l r position head → head.kind ≡ kinds.Pad → Rests r q → Rereads l r position head before q before
-reread_pad l r q position head before may is kind a = record {
-  frame = may.frame;
-  has = may.has;
-  at = may.here;
-  only = λ y has at_y. is.only may.frame y may.has may.here has at_y;
-  shown = is.shown may.frame may.has may.here;
-  legal = is.legal;
-  copied = empty (frame_in may.frame) (sym (ap (λ (h : FrameHead). h.kind) (is.shown may.frame may.has may.here)) ∙ kind);
-  rests = a;
+-- ---- a look that found one
+
+pub finds_part : (l : LogValue) (r q : ReaderValue) (head : FrameHead) (count end : ℕ) (before after : List ℕ) → (f : Finds l r head (record q { read_to = end })) → (is : IsReading q.held.pass q.place q.number q.position q.read_to) → count ≡ part_bytes head (length before) → q.place ≡ r.place → CopiesKnown q.held.pass (consumer_of r) count before after → FindsPart l r head before (record q { read_to = end }) after
+finds_part l r q head count end before after f is e place copied = record {
+  finds = f;
+  copied = subst (λ (n : ℕ). Copies f.frame n before after) e
+      (copied is.consumer f.frame (subst (λ (k : ℕ). IsConsumer q.held.pass k is.consumer) place is.is) (subst (Among f.frame) (known_is q.held.pass.reading q.place is.consumer is.is) (subst (Among f.frame) (sym f.known) (among_right f.frame (known_of r) (f.frame ∷ []) (inl refl)))) f.here.at);
 }
-  where
-    empty : (x : Frame) → (head_of position x).kind ≡ kinds.Pad → before ≡ payload_of x ++ drop (length (payload_of x)) before
-    empty (Data flags payload) e = absurd (kinds_apart e)
-    empty (Pad n) e = refl

@@ -19,7 +19,7 @@ use Rattle.log_rule.specs.Keepings.{Joins, Leaves, MayJoin, MayLeave, joined, ke
 use Rattle.log_rule.specs.Table.{LogRuled, other_readings, reader_alone}
 use Rattle.log_rule.proofs.Growing.{there_low}
 use Rattle.log_rule.proofs.Joining.{join, leave}
-use Rattle.shared_log.specs.Handles.{LogValue}
+use Rattle.log_passes.specs.Handles.{LogValue}
 use Rattle.shared_log.specs.Joining.{Becomes, Begins, Ends, HasConsumer, HasOther, IsFirstFree, IsJoined, Joins as ReaderJoins, KnowsControls, Leaves as ReaderLeaves, begun, with_newcomer}
 use Rattle.shared_log.specs.Keepers.{IsKeeping, KeeperValue, KnowsWho, ReadsConsumer, Sweeps, TookSteps, flag_of, keeping_of, reads_of, seen_positions, there_of, those_there}
 use Rattle.shared_log.specs.Readers.{IsAlone, IsReading, OnlyReads, ReaderValue, numbers_of}
@@ -117,6 +117,7 @@ begins_by l k p q number place position s low free b control once =
         seat = b.seat ∙ s.keeps.seat;
         pass_is = b.pass_is ∙ ap (λ (v : Pass). joined v number place position) s.keeps.pass ∙ (λ i. begun k number place position (sym positions i) (sym reads i));
         sure = b.sure ∙ s.keeps.sure;
+        freed = b.freed ∙ s.freed;
         limit = b.limit ∙ s.keeps.limit ∙ s.is.limit_is;
         cleaned = b.cleaned ∙ s.keeps.cleaned ∙ s.is.cleaned_is;
       };
@@ -151,6 +152,7 @@ joins_by l k p q r number position b is first g control none j =
         limit = g.limit ∙ b.becomes.limit ∙ sym is.limit_is;
         cleaned = g.cleaned ∙ b.becomes.cleaned ∙ sym is.cleaned_is;
       };
+      freed = g.freed ∙ b.becomes.freed;
       steps = (let x = b.steps in same q.held.steps p.held.steps (k.held.steps + (length (those_there k) + 1)) x none);
     }
   where
@@ -165,6 +167,7 @@ leaves_by l k p q r number a g control none e =
         seat = e.becomes.seat ∙ g.seat;
         pass_is = e.becomes.pass_is ∙ ap (λ (v : Pass). left v 0 number) given;
         sure = e.becomes.sure ∙ g.sure;
+        freed = e.becomes.freed ∙ g.freed;
         limit = e.becomes.limit ∙ g.limit;
         cleaned = e.becomes.cleaned ∙ g.cleaned;
       };

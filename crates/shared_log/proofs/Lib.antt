@@ -1,4 +1,3 @@
-mod Behind
 pub mod Looking
 pub mod Finding
 pub mod Sourced
@@ -12,5 +11,6 @@ mod Dealt
 mod Shares
 mod Owned
 mod Gathered
-mod Together
-mod Storing
+mod Holding
+mod Cleaning
+mod Filling

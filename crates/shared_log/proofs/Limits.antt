@@ -1,5 +1,5 @@
 -- What may be cleaned, and how far the limit may be raised.
-use Rattle.std.proofs.Common.{◌≡◌, ℕ, Bool, List, ◌+◌, ◌-◌, ◌*◌, ◌/◌, ◌%◌, ◌<◌, ◌≤◌, max, [], sym, refl, ap, ◌∙◌, subst, arith}
+use Rattle.std.proofs.Common.{◌≡◌, ℕ, ◌+◌, ◌-◌, ◌*◌, ◌/◌, ◌%◌, ◌<◌, ◌≤◌, max, [], sym, refl, ap, ◌∙◌, subst, arith}
 use Rattle.atomic_table.specs.Table.{Allows}
 use Rattle.theory.specs.Position.{Geometry, IsGeometry, greatest_claim}
 use Rattle.theory.specs.Refusal.{limit_in}
@@ -15,10 +15,8 @@ use Rattle.log_rule.specs.declared.rule.Key.{Key}
 use Rattle.log_rule.specs.Table.{LogRuled}
 use Rattle.log_rule.proofs.Cleaning.{clean}
 use Rattle.log_rule.specs.Keepings.{CleansWord, MayClean, keeping, MayRaise, least_there, with_keeping}
-use Rattle.shared_log.specs.Keepers.{IsKeeping, KeepsAs, KeeperValue, KnowsLimit, KnowsWho, MayCleanTo, MayRaiseFrom, seen_positions, there_of, with_cleaned}
-use Rattle.shared_log.specs.contracts.keeper.Keeper.{the_invariant, the_view}
-use Rattle.shared_log.specs.declared.keeper.Keeper.TheInside.{Inside}
-use Rattle.shared_log.proofs.Steps.{keeping_is, keeps_knowing, keeps_then}
+use Rattle.shared_log.specs.Keepers.{IsKeeping, KeepsAs, KeeperValue, KnowsLimit, MayCleanTo, MayRaiseFrom, seen_positions, there_of, with_cleaned}
+use Rattle.shared_log.proofs.Steps.{keeping_is, keeps_then}
 
 may_clean : (k : KeeperValue) (end : ℕ) → k.held.pass.keeping.right ≡ 1 → k.held.pass.keeping.cleaned ≡ k.cleaned → MayCleanTo k end → k.cleaned < end → MayClean k.held.pass
 may_clean k end keeper e may lt =
@@ -92,60 +90,3 @@ cleans_none k is knows = record {
 
 pub cleans_on : (k p q : KeeperValue) (c : ℕ) → KeepsAs k (with_cleaned p.cleaned k) p → KeepsAs p (with_cleaned c p) q → KeepsAs k (with_cleaned q.cleaned k) q
 cleans_on k p q c x y = subst (λ (z : Keeping). KeepsAs k z q) (ap (λ (z : Keeping). record z { cleaned = c }) (keeping_is x) ∙ ap (λ (n : ℕ). with_cleaned n k) (sym y.cleaned)) (keeps_then x y)
-
--- ---- a keeper in the course of a cleaning, which hasn't written down yet how far it is
-
-abbrev pub cleaned_at : Inside → ℕ → Inside
-cleaned_at i at = record i { cleaned = at }
-
-abbrev pub keeper_at : Inside → ℕ → KeeperValue
-keeper_at i at = the_view (cleaned_at i at)
-
--- what a step of its seat makes of it
-abbrev pub Cleans : Inside → Inside → Type 0
-Cleans i j = (j.seat.table_id ≡ i.seat.table_id) × (j.seat.id ≡ i.seat.id) × keeping (λ v w. LearnsControls [] v w) CleansWord i.seat.me j.seat.me × (j ≡ record i { seat = j.seat })
-
-cleaned_word : (i j : Inside) (at : ℕ) → IsKeeping i.seat.me.0.pass i.limit at → KnowsLimit (keeper_at i at) → Cleans i j → KeepsAs (keeper_at i at) (with_cleaned (at + 8) (keeper_at i at)) (keeper_at j (at + 8))
-cleaned_word i j at is knows (of, seat, (list, steps, learns, told), rest) = record {
-  of = of;
-  seat = seat;
-  pass = told ∙ ap (λ (n : ℕ). with_keeping i.seat.me.0.pass (record i.seat.me.0.pass.keeping { cleaned = n + 8 })) is.cleaned_is;
-  sure = learns.sure;
-  controls = λ one. learns.leads one ∙ ap (λ (n : ℕ). record i.seat.me.0.controls { limit = n }) (knows one ∙ sym is.limit_is);
-  limit = ap (λ (k : Inside). k.limit) rest ∙ sym is.limit_is;
-  cleaned = refl;
-}
-
-cleaned_keeping : (i j : Inside) (at : ℕ) → the_invariant (cleaned_at i at) → Cleans i j → the_invariant (cleaned_at j (at + 8))
-cleaned_keeping i j at (none, is, who, identity, start) (of, seat, (list, steps, learns, told), rest) = (
-  list ∙ none,
-  subst (λ (v : Pass). IsKeeping v j.limit (at + 8)) (sym told) record { some = is.some; keeper = is.keeper; limit_is = is.limit_is ∙ sym (ap (λ (k : Inside). k.limit) rest); cleaned_is = ap (λ (n : ℕ). n + 8) is.cleaned_is },
-  subst (λ (v : Pass). KnowsWho v j.there) (sym told) (subst (λ (x : List Bool). KnowsWho (with_keeping i.seat.me.0.pass (record i.seat.me.0.pass.keeping { cleaned = i.seat.me.0.pass.keeping.cleaned + 8 })) x) (sym (ap (λ (k : Inside). k.there) rest)) record { many = who.many; flags = who.flags; eight = who.eight; one = who.one; low = who.low; any = who.any }),
-  ap (λ (k : Inside). k.identity) rest ∙ identity ∙ ap (λ (v : Pass). v.identity) (sym told),
-  ap (λ (k : Inside). k.start) rest ∙ start ∙ ap (λ (v : Pass). v.start) (sym told),
-)
-
--- up to there it has cleaned what it was to clean, word for word
-pub record IsCleaning (k : KeeperValue) (end : ℕ) (i : Inside) (at : ℕ) : Type 0 where
-  pub may : MayCleanTo (keeper_at i at) end
-  pub keeps : KeepsAs k (with_cleaned at k) (keeper_at i at)
-  pub steps : 8 * i.seat.me.0.steps + k.cleaned ≡ 8 * k.held.steps + at
-  pub holds : the_invariant (cleaned_at i at)
-
-pub begins_cleaning : (k : KeeperValue) (end : ℕ) (i : Inside) → the_view i ≡ k → the_invariant i → MayCleanTo k end → KnowsLimit k → IsCleaning k end i i.cleaned
-begins_cleaning k end i e all may knows =
-    let is = subst (λ (x : KeeperValue). IsKeeping x.held.pass x.limit x.cleaned) e all.1 in record {
-      may = subst (λ (x : KeeperValue). MayCleanTo x end) (sym e) may;
-      keeps = subst (λ (x : KeeperValue). KeepsAs k (with_cleaned x.cleaned k) x) (sym e) (cleans_none k is knows);
-      steps = ap (λ (x : KeeperValue). 8 * x.held.steps + k.cleaned) e ∙ ap (λ (x : KeeperValue). 8 * k.held.steps + x.cleaned) (sym e);
-      holds = all;
-    }
-
-pub goes_on_cleaning : (k : KeeperValue) (end : ℕ) (i j : Inside) (at : ℕ) → IsCleaning k end i at → at < end → Cleans i j → IsCleaning k end j (at + 8)
-goes_on_cleaning k end i j at x lt cleans =
-    let y = cleaned_word i j at x.holds.1 (keeps_knowing x.keeps) cleans in let count = cleans.2.1 in let before = x.steps in record {
-      may = clean_on (keeper_at i at) (keeper_at j (at + 8)) (at + 8) end x.may y refl lt;
-      keeps = cleans_on k (keeper_at i at) (keeper_at j (at + 8)) (at + 8) x.keeps y;
-      steps = omega (arith, count, before);
-      holds = cleaned_keeping i j at x.holds cleans;
-    }

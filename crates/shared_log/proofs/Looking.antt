@@ -1,50 +1,19 @@
 -- A reader's steps, by what it is: its seat is the consumer that stands where it says.
-use Rattle.std.proofs.Common.{◌≡◌, ℕ, ◌+◌, ◌*◌, ◌<◌, ◌≤◌, zero, suc, List, [], ◌∷◌, map, set, inl, inr, sym, refl, ap, ◌∙◌, subst, lt_of_not-le, arith}
+use Rattle.std.proofs.Common.{◌≡◌, ℕ, ◌<◌, zero, suc, List, [], ◌∷◌, map, set, inl, inr, sym, refl, ap, ◌∙◌, subst, lt_of_not-le, arith}
 use mathlib.Core.Logic.{dite}
 use native.Mathlib.Decide.{dec_le}
 use mathlib.Core.Option.{some, some-injective, some-ne-none}
 use lib.ListN.{get_elem?}
-use Rattle.atomic_table.specs.Table.{Allows}
 use Rattle.log_rule.proofs.Claimed.Whole.{set_at}
-use Rattle.theory.specs.Bytes.{Identity}
 use Rattle.theory.specs.Placed.{Among}
 use Rattle.theory.proofs.Lists.{among_left}
 use Rattle.publication.specs.declared.pass.FrameWords.{FrameWords}
 use Rattle.publication.specs.declared.pass.Pass.{Pass}
 use Rattle.publication.specs.declared.pass.Reading.{Reading}
-use Rattle.log_rule.specs.Claims.Packs.{consumer_place, slot}
-use Rattle.log_rule.specs.Claims.Plays.{Mine}
-use Rattle.log_rule.specs.declared.rule.Key.{Key}
-use Rattle.log_rule.specs.Table.{LogRuled}
-use Rattle.publication.specs.Steps.{term_of}
-use Rattle.log_rule.specs.Claims.Handles.{PublisherValue}
-use Rattle.shared_log.specs.Handles.{LogValue}
-use Rattle.shared_log.specs.Readers.{Has, IsReaderOf, IsReading, LoadsWord, Misses, OnlyReads, ReaderValue, Rests, SameSeat, known_at, known_of, misses_at, misses_of, missing_at, positions_of}
-use Rattle.log_rule.specs.Readings as Frames
-use Rattle.log_rule.specs.Readings.{Consumes, FindsFrame, IsConsumer, IsFrameAt, Looks, MayPass, Rereads, end_of, knows_more, missed, moved_to, reading, with_consumer}
-use Rattle.log_rule.proofs.Consumers.{look, pass, word}
-
--- ---- the steps are allowed
-
-pub look_here : (key : Key) (slots id chosen : ℕ) (m : Mine) (i place number position read_to : ℕ) → IsReading m.0.pass place number position read_to → number < 8 → chosen ≡ place → i ≡ slot key.identity.geometry position
-    → Allows (LogRuled key) slots id m i (λ n. n) (λ n m'. reading (λ v k w. Looks v chosen k w) m n m')
-look_here key slots id chosen m i place number position read_to is low front at =
-    let right : i ≡ slot key.identity.geometry is.consumer.position = at ∙ ap (slot key.identity.geometry) (sym is.position_is) in
-    subst (λ (x : ℕ × ℕ). Allows (LogRuled key) slots id m x.0 (λ n. n) (λ n m'. reading (λ v k w. Looks v x.1 k w) m n m')) (λ j. (sym right j, sym front j))
-    (look key slots id m place is.consumer is.is (subst (λ (x : ℕ). x < 8) (sym is.number_is) low))
-
-pub word_here : (key : Key) (slots id chosen start index : ℕ) (m : Mine) (i place number position read_to : ℕ) → IsReading m.0.pass place number position read_to → number < 8 → chosen ≡ place → i ≡ slot key.identity.geometry (start + 8 * index)
-    → Allows (LogRuled key) slots id m i (λ n. n) (λ n m'. reading (λ v k w. Rereads v chosen start index k w) m n m')
-word_here key slots id chosen start index m i place number position read_to is low front at =
-    subst (λ (x : ℕ × ℕ). Allows (LogRuled key) slots id m x.0 (λ n. n) (λ n m'. reading (λ v k w. Rereads v x.1 start index k w) m n m')) (λ j. (sym at j, sym front j))
-    (word key slots id m place is.consumer is.is start index (subst (λ (x : ℕ). x < 8) (sym is.number_is) low))
-
-pub pass_here : (key : Key) (slots id chosen end : ℕ) (m : Mine) (i place number position read_to : ℕ) → IsReading m.0.pass place number position read_to → number < 8 → chosen ≡ place → MayPass m.0.pass place end → i ≡ consumer_place number
-    → Allows (LogRuled key) slots id m i (λ _. end) (λ _ m'. reading (λ v k w. Consumes v chosen end w) m 0 m')
-pass_here key slots id chosen end m i place number position read_to is low front may at =
-    let right : i ≡ consumer_place is.consumer.number = at ∙ ap consumer_place (sym is.number_is) in
-    subst (λ (x : ℕ × ℕ). Allows (LogRuled key) slots id m x.0 (λ _. end) (λ _ m'. reading (λ v k w. Consumes v x.1 end w) m 0 m')) (λ j. (sym right j, sym front j))
-    (pass key slots id m place is.consumer is.is end may (subst (λ (x : ℕ). x < 8) (sym is.number_is) low))
+use Rattle.log_passes.specs.Readers.{SameSeat}
+use Rattle.log_passes.specs.Handles.{LogValue, PublisherValue}
+use Rattle.shared_log.specs.Readers.{Has, IsReaderOf, IsReading, Misses, OnlyReads, ReaderValue, Rests, known_at, known_of, misses_at, misses_of, missing_at, positions_of}
+use Rattle.log_rule.specs.Readings.{Consumes, IsConsumer, Looks, MayPass, knows_more, missed, moved_to, with_consumer}
 
 -- ---- it stays the consumer that it is
 
@@ -163,27 +132,13 @@ misses_stand r q a = ap positions_of a.pass ∙ missing_same (λ (x : Reading). 
 pub known_missing : (r q : ReaderValue) → Misses r q → known_of q ≡ known_of r
 known_missing r q a = (λ j. known_at (a.pass j).reading (ap (λ (x : ReaderValue). x.place) a.same j)) ∙ missing_known r.held.pass.reading r.place
 
--- ---- what a loaded word is
-
-pub has_word : (l : LogValue) (r : ReaderValue) (w : Pass) (start index n : ℕ) → IsReaderOf l r → IsReading r.held.pass r.place r.number r.position r.read_to → Rereads r.held.pass r.place start index n w → LoadsWord l r start index n
-has_word l r w start index n of is told f has at =
-    let h : Frames.Has r.held.pass is.consumer f = had f has in record {
-      here = subst (λ (i : Identity). IsFrameAt i start f) of.of.identity (told.here is.consumer f is.is h at);
-      word = λ inside near. told.word is.consumer f is.is h at inside (subst (λ (p : ℕ). p ≤ start + term_of r.held.pass) (sym is.position_is) near);
-      only = λ g has' at'. told.only is.consumer f g is.is h at (had g has') at';
-    }
-  where
-    had : (f : FrameWords) → Has r f → Frames.Has r.held.pass is.consumer f
-    had f (inl k) = inl (subst (Among f) (known_is r.held.pass.reading r.place is.consumer is.is) k)
-    had f (inr a) = inr a
-
 -- ---- it rests
 
 pub same_seat : (p : PublisherValue) → SameSeat p p
-same_seat p = record { of = refl; seat = refl; sure = refl; controls = λ one. refl }
+same_seat p = record { of = refl; seat = refl; sure = refl; controls = λ one. refl; freed = refl }
 
 pub same_on : (p q s : PublisherValue) → SameSeat p q → SameSeat q s → SameSeat p s
-same_on p q s a c = record { of = c.of ∙ a.of; seat = c.seat ∙ a.seat; sure = c.sure ∙ a.sure; controls = λ one. c.controls (a.sure ∙ one) ∙ a.controls one }
+same_on p q s a c = record { of = c.of ∙ a.of; seat = c.seat ∙ a.seat; sure = c.sure ∙ a.sure; controls = λ one. c.controls (a.sure ∙ one) ∙ a.controls one; freed = c.freed ∙ a.freed }
 
 pub rests_same : (r : ReaderValue) → Rests r r
 rests_same r = record { seat = same_seat r.held; pass = refl; same = refl }

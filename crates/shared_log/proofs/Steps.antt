@@ -6,7 +6,7 @@ use Rattle.publication.specs.declared.pass.Keeping.{Keeping}
 use Rattle.publication.specs.declared.pass.Pass.{Pass}
 use Rattle.log_rule.specs.Claims.Packs.{consumer_place}
 use Rattle.log_rule.specs.Claims.Plays.{Mine}
-use Rattle.shared_log.specs.Handles.{IsOf, LogValue}
+use Rattle.log_passes.specs.Handles.{IsOf, LogValue}
 use Rattle.log_rule.specs.declared.rule.Key.{Key}
 use Rattle.log_rule.specs.Table.{LogRuled}
 use Rattle.log_rule.specs.Kept.{IsThere}

@@ -10,12 +10,12 @@ use Rattle.theory.specs.Placed.{Among}
 use Rattle.theory.specs.Position.{max_position}
 use Rattle.publication.specs.declared.pass.Keeping.{Keeping}
 use Rattle.publication.specs.declared.pass.Pass.{Pass}
-use Rattle.shared_log.specs.Handles.{IsOf, LogValue}
+use Rattle.log_passes.specs.Handles.{IsOf, LogValue}
 use Rattle.log_rule.specs.Kept.{IsThere}
 use Rattle.log_rule.specs.Keepings.{MayStand, SeesConsumer, least_of, least_there, numbered, with_keeping}
 use Rattle.log_rule.proofs.Growing.{there_low}
 use Rattle.log_rule.proofs.Keeping.{among_numbered}
-use Rattle.shared_log.specs.Keepers.{IsKeeping, KeepsAs, KeeperValue, ReadsConsumer, Sweeps, TookSteps, reads_of, seen_positions, there_of, those_there, with_reads}
+use Rattle.shared_log.specs.Keepers.{IsKeeping, KeepsAs, KeeperValue, ReadsConsumer, SameFreed, Sweeps, TookSteps, reads_of, seen_positions, there_of, those_there, with_reads}
 use Rattle.shared_log.proofs.Steps.{keeping_is, keeps_then}
 
 -- ---- the numbers of those who are there
@@ -136,6 +136,7 @@ pub record SweepsSome (l : LogValue) (k : KeeperValue) (below least : ℕ) (q : 
   pub least_is : least ≡ fold min (max_position l.identity.geometry) (map (slice_index (seen_positions q)) (numbered 0 (take below (there_of k))))
   -- nothing has changed while none was seen
   pub keeps : (q ≡ k) ⊎ KeepsAs k (with_reads (seen_positions q) (reads_of q) k) q
+  pub freed : SameFreed k q
   pub steps : TookSteps k (length (numbered 0 (take below (there_of k)))) q
 
 -- it may stand there whatever the keeper has seen
@@ -168,6 +169,7 @@ none l k all = record {
   later = λ j le. refl;
   least_is = refl;
   keeps = inl refl;
+  freed = refl;
   steps = (let z : k.held.steps ≡ k.held.steps + 0 = omega arith in z);
 }
 
@@ -181,6 +183,7 @@ passes l k q j least w lt isnt = let same = numbered_none (there_of k) j lt isnt
   later = λ i le. w.later i (omega arith);
   least_is = w.least_is ∙ ap (λ (xs : List ℕ). fold min (max_position l.identity.geometry) (map (slice_index (seen_positions q)) xs)) (sym same);
   keeps = w.keeps;
+  freed = w.freed;
   steps = w.steps ∙ ap (λ (xs : List ℕ). k.held.steps + length xs) (sym same);
 }
   where
@@ -191,8 +194,8 @@ passes l k q j least w lt isnt = let same = numbered_none (there_of k) j lt isnt
     clash x y e one z = omega arith
 
 -- who has the next number was seen
-pub next : (l : LogValue) (k q r : KeeperValue) (j least n : ℕ) → IsOf l k.held → IsKeeping k.held.pass k.limit k.cleaned → SweepsSome l k j least q → j < length (there_of k) → IsThere (there_of k) j → SeesConsumer q.held.pass j n r.held.pass → KeepsAs q (with_reads (seen_positions r) (reads_of r) q) r → TookSteps q 1 r → SweepsSome l k (j + 1) (min least n) r
-next l k q r j least n of is w low there s keeps once =
+pub next : (l : LogValue) (k q r : KeeperValue) (j least n : ℕ) → IsOf l k.held → IsKeeping k.held.pass k.limit k.cleaned → SweepsSome l k j least q → j < length (there_of k) → IsThere (there_of k) j → SeesConsumer q.held.pass j n r.held.pass → KeepsAs q (with_reads (seen_positions r) (reads_of r) q) r → TookSteps q 1 r → SameFreed q r → SweepsSome l k (j + 1) (min least n) r
+next l k q r j least n of is w low there s keeps once freed =
     let put : seen_positions r ≡ set (seen_positions q) j n = ap (λ (v : Pass). v.keeping.positions) s.after in let below = s.inside in let all = s.all in let pass = pass_of k q w.keeps in
     let here_is : slice_index (seen_positions r) j ≡ n = ap (λ (ps : List ℕ). slice_index ps j) put ∙ get_or-set_same (seen_positions q) j n 0 (omega (arith, below, all)) in
     let other : (i : ℕ) → i ≢ j → slice_index (seen_positions r) i ≡ slice_index (seen_positions q) i = λ i ne. ap (λ (ps : List ℕ). slice_index ps i) put ∙ get_or-set_other (seen_positions q) j i n 0 ne in
@@ -220,6 +223,7 @@ next l k q r j least n of is w low there s keeps once =
           ∙ ap (fold min (max_position l.identity.geometry)) (sym (map-append (slice_index (seen_positions r)) before (j ∷ [])))
           ∙ ap (λ (xs : List ℕ). fold min (max_position l.identity.geometry) (map (slice_index (seen_positions r)) xs)) (sym same);
       keeps = inr (keeps_on k q r w.keeps keeps);
+      freed = freed ∙ w.freed;
       steps = (let before_is = w.steps in let more' = ap length same ∙ length-append before (j ∷ []) in counts r.held.steps q.held.steps k.held.steps (length before) (length (numbered 0 (take (j + 1) (there_of k)))) before_is once more');
     }
   where
@@ -256,6 +260,7 @@ last l k q least one of is eight flags low there w =
           (λ (same : q ≡ k). absurd (let e = ap length (sym (ap reads_of same) ∙ w.once) in some_more (reads_of k) (numbered 0 (take 8 (there_of k))) (0 + one) (subst (Among (0 + one)) (sym those) (among_numbered 0 (there_of k) one (let z = there in omega arith))) e))
           (λ (keeps : KeepsAs k (with_reads (seen_positions q) (reads_of q) k) q). keeps)
           w.keeps;
+      freed = w.freed;
       steps = w.steps ∙ ap (λ (xs : List ℕ). k.held.steps + length xs) those;
     }
   where

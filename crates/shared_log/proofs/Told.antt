@@ -7,9 +7,10 @@ use Rattle.theory.proofs.Lists.{among_left}
 use Rattle.publication.specs.declared.pass.FrameWords.{FrameWords}
 use Rattle.publication.specs.declared.pass.Pass.{Pass}
 use Rattle.publication.specs.declared.pass.Reading.{Reading}
-use Rattle.log_rule.specs.Claims.Handles.{PublisherValue}
+use Rattle.log_passes.specs.Readers.{SameSeat}
+use Rattle.log_passes.specs.Handles.{PublisherValue}
 use Rattle.log_rule.specs.Table.{knows_all}
-use Rattle.shared_log.specs.Readers.{IsReading, Learns, OnlyReads, ReaderValue, SameSeat, known_at, misses_at, positions_of}
+use Rattle.shared_log.specs.Readers.{IsReading, Learns, OnlyReads, ReaderValue, known_at, misses_at, positions_of}
 
 same_of : (h : Reading → ℕ) (fs : List FrameWords) (rs : List Reading) → ((r : Reading) → h (knows_all fs r) ≡ h r) → map h (map (knows_all fs) rs) ≡ map h rs
 same_of h fs [] same = refl

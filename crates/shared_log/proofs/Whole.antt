@@ -1,5 +1,5 @@
 -- A reader that has found a frame and not read it stays the reader that it was.
-use Rattle.std.proofs.Common.{◌≡◌, ℕ, ◌+◌, ◌*◌, ◌<◌, ◌≤◌, List, [], ◌∷◌, length, refl, sym, ap, ◌∙◌, subst}
+use Rattle.std.proofs.Common.{◌≡◌, ℕ, ◌+◌, ◌*◌, ◌<◌, ◌≤◌, List, [], ◌∷◌, length, sym, ap, ◌∙◌, subst}
 use Rattle.theory.specs.Placed.{Among}
 use Rattle.theory.specs.Position.{IsGeometry, aligned, max_position}
 use Rattle.theory.proofs.Lists.{among_left}
@@ -9,10 +9,10 @@ use Rattle.position.specs.Heads.{head_of}
 use Rattle.publication.specs.Contents.{frame_in}
 use Rattle.publication.specs.declared.pass.Pass.{Pass}
 use Rattle.publication.specs.declared.pass.Reading.{Reading}
-use Rattle.shared_log.specs.Handles.{LogValue}
-use Rattle.shared_log.specs.Readers.{Finds, IsReading, ReaderValue, known_of}
+use Rattle.log_passes.specs.Handles.{LogValue}
+use Rattle.shared_log.specs.Readers.{Finds, FindsPart, IsReading, ReaderValue, known_of}
 use Rattle.shared_log.specs.Whole.{FindsLonger}
-use Rattle.shared_log.proofs.Finding.{covers_is}
+use Rattle.shared_log.proofs.Finding.{covers_is, unfit}
 use Rattle.shared_log.proofs.Looking.{known_is}
 use mathlib.Core.Option.{some-injective}
 
@@ -38,17 +38,16 @@ unread_reading l r q head f was is =
     }
 
 -- where the frame ends
-found_end : (l : LogValue) (r : ReaderValue) (head : FrameHead) (q : ReaderValue) → IsGeometry l.identity.geometry → Finds l r head q → q.read_to ≡ r.position + aligned head.frame_length
+pub found_end : (l : LogValue) (r : ReaderValue) (head : FrameHead) (q : ReaderValue) → IsGeometry l.identity.geometry → Finds l r head q → q.read_to ≡ r.position + aligned head.frame_length
 found_end l r head q g f =
     let whole : aligned head.frame_length ≡ 8 * length f.frame.words = ap (λ (h : FrameHead). aligned h.frame_length) f.shown ∙ ap (λ (k : ℕ). aligned (head_of k (frame_in f.frame)).frame_length) (sym f.here.at) ∙ covers_is l.identity f.frame g f.here.done in
     f.read ∙ (λ j. f.here.at j + sym whole j)
 
-pub finds_longer : (l : LogValue) (r : ReaderValue) (head : FrameHead) (before : List ℕ) (q s : ReaderValue) → IsGeometry l.identity.geometry → Finds l r head q → head.kind ≡ kinds.Data → 32 + length before < head.frame_length → s ≡ record q { read_to = r.read_to } → FindsLonger l r head before s before
-finds_longer l r head before q s g f kind long same =
-    let end : q.read_to ≡ r.position + aligned head.frame_length = found_end l r head q g f in record {
-      finds = subst (Finds l r head) (ap (λ (n : ℕ). record q { read_to = n }) end ∙ ap (λ (x : ReaderValue). record x { read_to = r.position + aligned head.frame_length }) (sym same)) f;
-      kind = kind;
-      longer = long;
-      read_to = ap (λ (x : ReaderValue). x.read_to) same;
-      untouched = refl;
-    }
+pub finds_longer : (l : LogValue) (r : ReaderValue) (head : FrameHead) (before : List ℕ) (q s : ReaderValue) (after : List ℕ) → (f : FindsPart l r head before q after) → head.kind ≡ kinds.Data → 32 + length before < head.frame_length → s ≡ record q { read_to = r.read_to } → q.read_to ≡ r.position + aligned head.frame_length → FindsLonger l r head before s after
+finds_longer l r head before q s after f kind long same end = record {
+  finds = subst (Finds l r head) (ap (λ (n : ℕ). record q { read_to = n }) end ∙ ap (λ (x : ReaderValue). record x { read_to = r.position + aligned head.frame_length }) (sym same)) f.finds;
+  kind = kind;
+  longer = long;
+  read_to = ap (λ (x : ReaderValue). x.read_to) same;
+  untouched = unfit head f.finds.frame before after kind long f.copied;
+}

@@ -13,11 +13,11 @@ use Rattle.log_rule.specs.Claims.Events.{committed_weight}
 use Rattle.log_rule.specs.Edges.{in_entry}
 use Rattle.log_rule.specs.Numbers.{numbers_as}
 use Rattle.publication.specs.Steps.{Extent, extent_of}
-use Rattle.log_rule.specs.Claims.Handles.{PublisherValue, parts_in}
+use Rattle.log_passes.specs.Handles.{IsOf, LogValue, PublisherValue, parts_in}
 use Rattle.log_rule.specs.Claims.Closing.{both, handed_over}
 use Rattle.log_rule.specs.Shares.{IsTiled, Weighs, claimed_bytes}
 use Rattle.log_rule.specs.Table.{knowledge_of}
-use Rattle.shared_log.specs.Handles.{IsOf, LogValue, OwnsClaims}
+use Rattle.shared_log.specs.Handles.{OwnsClaims}
 use Rattle.shared_log.specs.Keepers.{KeeperValue}
 use Rattle.shared_log.specs.declared.book.Book.{Book}
 
@@ -32,6 +32,7 @@ pub record Retires (p other q : PublisherValue) : Type 0 where
   pub seat : q.seat ≡ p.seat
   pub pass : q.pass ≡ handed_over p.pass other.pass
   pub sure : q.sure ≡ 0
+  pub freed : q.freed ≡ p.freed
 
 -- ---- closing
 

@@ -1,43 +1,15 @@
 -- What contracts see of a log that threads share, and of its passes.
-use Rattle.std.specs.Prelude.{◌≡◌, ℕ, suc, ◌<◌, ◌≤◌, List, [], ◌∷◌, nat_eq, if◌then◌else◌}
+use Rattle.std.specs.Prelude.{◌≡◌, ℕ, suc, ◌<◌, ◌≤◌, List, [], ◌∷◌, Option, None, Some, nat_eq, if◌then◌else◌}
 use Rattle.std.specs.List.{AllByRecursion}
-use Rattle.atomic_table.specs.Seated.{TableId}
-use Rattle.theory.specs.Position.{IsGeometry}
 use Rattle.theory.specs.Bytes.{Identity}
+use Rattle.region.specs.Identity as regions
+use Rattle.shared_log.specs.declared.home.Home.{Home}
 use Rattle.theory.specs.Placed.{Among}
-use Rattle.log_rule.specs.Claims.Packs.{table_length}
-use Rattle.log_rule.specs.Claims.Handles.{PublisherValue}
-use Rattle.log_rule.specs.Claims.Sure.{fresh_controls}
+use Rattle.log_passes.specs.Handles.{IsOf, LogValue, PublisherValue}
 use Rattle.log_rule.specs.Claims.Plays.{newcomer}
 use Rattle.publication.specs.declared.pass.ClaimRange.{ClaimRange}
 use Rattle.publication.specs.declared.pass.Pass.{Pass}
-use Rattle.log_rule.specs.declared.rule.Key.{Key}
 use Rattle.log_rule.specs.Shares.{claimed_bytes}
-use Rattle.log_rule.specs.Table.{whole_pass}
-
--- which table it is, the stream that it carries, where that begins, and how many consumers it has
-pub record LogValue : Type 0 where
-  pub table : TableId
-  pub identity : Identity
-  pub start : ℕ
-  pub consumers : ℕ
-
--- the table has the words of this stream's log
-pub record IsTable (table : TableId) (key : Key) (identity : Identity) (start consumers : ℕ) : Type 0 where
-  pub words : table.words ≡ table_length identity.geometry
-  pub slots : table.slots ≡ 0
-  pub identity_is : key.identity ≡ identity
-  pub start_is : key.start ≡ start
-  pub consumers_is : key.consumers ≡ consumers
-  pub geometry : IsGeometry identity.geometry
-  pub few : consumers ≤ 8
-  pub any : 0 < consumers
-
--- the pass is one of this log
-pub record IsOf (l : LogValue) (p : PublisherValue) : Type 0 where
-  pub table : p.of ≡ l.table
-  pub identity : p.pass.identity ≡ l.identity
-  pub start : p.pass.start ≡ l.start
 
 -- these claims of a pass with this number and so many parts are its own, and the number is one of its own, where it isn't
 -- the one that has all: that one may act for any number
@@ -66,16 +38,15 @@ abbrev pub AreNew : LogValue → ℕ → List PublisherValue → Type 0
 AreNew l number [] = number ≡ 8
 AreNew l number (p ∷ ps) = IsNew l number p × AreNew l (suc number) ps
 
--- a log of this stream
-pub record IsLogOf (identity : Identity) (start consumers : ℕ) (l : LogValue) : Type 0 where
-  pub identity_is : l.identity ≡ identity
-  pub start_is : l.start ≡ start
-  pub consumers_is : l.consumers ≡ consumers
+-- the handle of this region is there
+abbrev pub HasHome : regions.Identity → Option Home → Type 0
+HasHome region (Some h) = h.region.value.identity ≡ region
+HasHome region None = ⊥
 
--- the one pass of a log that was just opened: it has all, and is sure of the control words
-pub record IsWholeNew (l : LogValue) (p : PublisherValue) : Type 0 where
-  pub of : IsOf l p
-  pub pass : p.pass ≡ whole_pass record { identity = l.identity; start = l.start; consumers = l.consumers }
-  pub steps : p.steps ≡ 0
-  pub sure : p.sure ≡ 1
-  pub controls : p.controls ≡ record (fresh_controls l.identity l.start) { limit = l.start }
+-- what a publisher holds beside its pass: the region of its log, how far memory was taken back, and what its pass says
+pub record IsPublisher (p : PublisherValue) (home : Option Home) (freed number share : ℕ) (identity : Identity) (start : ℕ) : Type 0 where
+  pub publishing : IsPublishing p.pass number share
+  pub home_is : HasHome p.of.region home
+  pub freed_is : freed ≡ p.freed
+  pub identity_is : identity ≡ p.pass.identity
+  pub start_is : start ≡ p.pass.start

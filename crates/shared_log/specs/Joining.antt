@@ -8,8 +8,8 @@ use Rattle.log_rule.specs.Kept.{IsThere}
 use Rattle.log_rule.specs.Keepings.{least_there, left, newly, with_keeping}
 use Rattle.log_rule.specs.Readings.{IsConsumer}
 use Rattle.log_rule.specs.Table.{reader_alone}
-use Rattle.shared_log.specs.Handles.{LogValue}
-use Rattle.shared_log.specs.Keepers.{KeeperValue, KeepsAs, ReadsConsumer, TookSteps, keeping_of, reads_of, seen_positions, there_of, those_there}
+use Rattle.log_passes.specs.Handles.{LogValue}
+use Rattle.shared_log.specs.Keepers.{KeeperValue, KeepsAs, ReadsConsumer, SameFreed, TookSteps, keeping_of, reads_of, seen_positions, there_of, those_there}
 use Rattle.shared_log.specs.Parts.{IsFresh}
 use Rattle.shared_log.specs.Readers.{ReaderValue}
 
@@ -42,6 +42,7 @@ pub record Becomes (k : KeeperValue) (pass : Pass) (q : KeeperValue) : Type 0 wh
   pub seat : q.held.seat ≡ k.held.seat
   pub pass_is : q.held.pass ≡ pass
   pub sure : q.held.sure ≡ k.held.sure
+  pub freed : SameFreed k q
   pub limit : q.limit ≡ k.limit
   pub cleaned : q.cleaned ≡ k.cleaned
 
@@ -106,6 +107,7 @@ pub record Joins (l : LogValue) (k : KeeperValue) (r : ReaderValue) (q : KeeperV
   pub number : IsFirstFree (there_of k) r.number
   pub reader : IsJoined l r.number r.position r
   pub keeps : KeepsAs k (with_newcomer r.number (seen_positions q) (reads_of q) k) q
+  pub freed : SameFreed k q
   -- one load for each consumer that was there, and one store
   pub steps : TookSteps k (length (those_there k) + 1) q
 

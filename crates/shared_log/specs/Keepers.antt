@@ -1,15 +1,20 @@
 -- What contracts see of the keeper of a log that threads share.
-use Rattle.std.specs.Prelude.{◌≡◌, ℕ, zero, suc, ◌+◌, ◌-◌, ◌*◌, ◌/◌, ◌%◌, ◌<◌, ◌≤◌, ◌&&◌, not, Bool, if◌then◌else◌, List, [], ◌∷◌, ◌++◌, length, map, max, nat_eq, slice_index}
+use Rattle.std.specs.Prelude.{◌≡◌, ℕ, zero, suc, ◌+◌, ◌-◌, ◌*◌, ◌/◌, ◌%◌, ◌<◌, ◌≤◌, ◌&&◌, not, Bool, if◌then◌else◌, List, [], ◌∷◌, ◌++◌, length, map, max, nat_eq, Option, slice_index}
 use Rattle.theory.specs.Placed.{Among}
 use Rattle.theory.specs.Refusal.{is_closed, is_connected, limit_in}
 use Rattle.publication.specs.declared.pass.Keeping.{Keeping}
 use Rattle.publication.specs.declared.pass.Pass.{Pass}
 use Rattle.publication.specs.declared.pass.Reading.{Reading}
 use Rattle.publication.specs.Steps.{term_of}
-use Rattle.log_rule.specs.Claims.Handles.{PublisherValue}
+use Rattle.std.specs.List.{AllByRecursion}
+use Rattle.theory.specs.Bytes.{Identity}
+use Rattle.publication.specs.declared.pass.FrameWords.{FrameWords}
+use Rattle.log_memory.specs.Frames.{Follow}
+use Rattle.shared_log.specs.declared.home.Home.{Home}
+use Rattle.shared_log.specs.Handles.{HasHome}
+use Rattle.log_passes.specs.Handles.{LogValue, PublisherValue}
 use Rattle.log_rule.specs.Kept.{IsThere}
 use Rattle.log_rule.specs.Keepings.{MayStand, least_there, numbered, with_keeping}
-use Rattle.shared_log.specs.Handles.{LogValue}
 
 -- its seat, the limit word, and the position below which nothing is readable any more
 pub record KeeperValue : Type 0 where
@@ -36,6 +41,15 @@ pub record KnowsWho (v : Pass) (there : List Bool) : Type 0 where
   pub one : ℕ
   pub low : one < 8
   pub any : IsThere v.keeping.there one
+
+-- what the keeper holds beside its pass
+pub record IsKeeper (p : PublisherValue) (home : Option Home) (freed limit cleaned : ℕ) (there : List Bool) (identity : Identity) (start : ℕ) : Type 0 where
+  pub keeping : IsKeeping p.pass limit cleaned
+  pub knows : KnowsWho p.pass there
+  pub home_is : HasHome p.of.region home
+  pub freed_is : freed ≡ p.freed
+  pub identity_is : identity ≡ p.pass.identity
+  pub start_is : start ≡ p.pass.start
 
 abbrev pub keeping_of : KeeperValue → Keeping
 keeping_of k = k.held.pass.keeping
@@ -73,6 +87,10 @@ pub record KeepsAs (k : KeeperValue) (kept : Keeping) (q : KeeperValue) : Type 0
   pub controls : k.held.sure ≡ 1 → q.held.controls ≡ record k.held.controls { limit = kept.limit }
   pub limit : q.limit ≡ kept.limit
   pub cleaned : q.cleaned ≡ kept.cleaned
+
+-- memory was taken back as far as before
+abbrev pub SameFreed : KeeperValue → KeeperValue → Type 0
+SameFreed k q = q.held.freed ≡ k.held.freed
 
 -- a seat that is sure of the control words knows the limit word
 abbrev pub KnowsLimit : KeeperValue → Type 0
@@ -121,13 +139,31 @@ pub record Sweeps (l : LogValue) (k : KeeperValue) (least : ℕ) (q : KeeperValu
   pub stands : MayStand k.held.pass least
   pub words : (l.start % 32 ≡ 0) × (k.cleaned % 8 ≡ 0)
   pub keeps : KeepsAs k (with_reads (seen_positions q) (reads_of q) k) q
+  pub freed : SameFreed k q
   pub steps : TookSteps k (length (those_there k)) q
 
--- words may be cleaned up to there: all lies a term or more below the least consumer that was seen
+-- all may be cleaned up to there: it lies a term or more below the least consumer that was seen
 pub record MayCleanTo (k : KeeperValue) (end : ℕ) : Type 0 where
   pub further : k.cleaned ≤ end
   pub words : (k.cleaned % 8 ≡ 0) × (end % 8 ≡ 0)
   pub below : end ≤ max k.held.pass.start (least_there (there_of k) (seen_positions k) - term_of k.held.pass)
+
+-- the memory of these frames, which lie behind what was taken back, is room again: by two steps each and three more, if any was cleaned
+pub record FreesBehind (i : Identity) (k q : KeeperValue) : Type 0 where
+  pub frames : List FrameWords
+  pub follow : Follow i k.held.freed frames q.held.freed
+  pub low : AllByRecursion (λ f. f.start < q.cleaned) frames
+  pub reached : k.cleaned < q.cleaned → q.cleaned ≤ q.held.freed
+  pub same : q.cleaned ≡ k.cleaned → frames ≡ []
+
+abbrev pub freeing_steps : ℕ → ℕ → ℕ → ℕ
+freeing_steps before after frames = if nat_eq before after then 0 else 2 * frames + 3
+
+-- all is clean up to there
+pub record CleansTo (i : Identity) (end : ℕ) (k q : KeeperValue) : Type 0 where
+  pub keeps : KeepsAs k (with_cleaned end k) q
+  pub frees : FreesBehind i k q
+  pub steps : TookSteps k (freeing_steps k.cleaned end (length frees.frames)) q
 
 -- the limit may be raised to half a term above there: what lies a term below is clean
 pub record MayRaiseFrom (k : KeeperValue) (least : ℕ) : Type 0 where
@@ -142,5 +178,7 @@ pub record CleansAndLimits (l : LogValue) (k q : KeeperValue) : Type 0 where
   pub not_back : k.cleaned ≤ q.cleaned
   pub keeps : let least = least_there (there_of k) (seen_positions q) in let length_of = l.identity.geometry.term_length in
       KeepsAs k (record (keeping_of k) { limit = raised k.limit least length_of; cleaned = max l.start (least - length_of); positions = seen_positions q; reads = reads_of q }) q
-  -- one load for each consumer that is there, one store for each word that was cleaned, and one of the limit word where that changed
-  pub steps : TookSteps k (length (those_there k) + (q.cleaned - k.cleaned) / 8 + stored_once k.limit q.limit) q
+  pub frees : FreesBehind l.identity k q
+  -- one load for each consumer that is there, two steps for each frame whose memory is room again and three more where there is something
+  -- to clean, and one store of the limit word where that changed
+  pub steps : TookSteps k (length (those_there k) + freeing_steps k.cleaned q.cleaned (length frees.frames) + stored_once k.limit q.limit) q

@@ -5,7 +5,5 @@ pub mod Sourced
 pub mod Keepers
 pub mod Parts
 pub mod Books
-pub mod Meets
 pub mod Faults
 pub mod Whole
-pub mod Rows

@@ -3,10 +3,10 @@ use Rattle.std.specs.Prelude.{◌≡◌, ℕ, suc, ◌-◌, ◌≤◌, ◌*◌, 
 use Rattle.std.specs.List.{AllByRecursion}
 use Rattle.publication.specs.declared.pass.Keeping.{Keeping}
 use Rattle.publication.specs.declared.pass.Pass.{Pass}
-use Rattle.log_rule.specs.Claims.Handles.{PublisherValue}
+use Rattle.log_passes.specs.Handles.{IsOf, LogValue, PublisherValue}
 use Rattle.log_rule.specs.Claims.Plays.{newcomer}
 use Rattle.log_rule.specs.Table.{consumers_at, first_there}
-use Rattle.shared_log.specs.Handles.{AreNew, IsOf, LogValue}
+use Rattle.shared_log.specs.Handles.{AreNew}
 use Rattle.shared_log.specs.Readers.{IsAlone, IsReaderOf, ReaderValue}
 use Rattle.shared_log.specs.Keepers.{KeeperValue}
 
@@ -26,6 +26,7 @@ pub record IsNewKeeper (l : LogValue) (k : KeeperValue) : Type 0 where
   pub held : IsFresh l (record (newcomer l.identity l.start 0 8) { keeping = first_keeping l }) k.held
   pub limit : k.limit ≡ l.start
   pub cleaned : k.cleaned ≡ l.start
+  pub freed : k.held.freed ≡ l.start
 
 pub record IsNewReader (l : LogValue) (number : ℕ) (r : ReaderValue) : Type 0 where
   pub held : IsFresh l (record (newcomer l.identity l.start 0 0) { reading = consumers_at l.start number 1 }) r.held

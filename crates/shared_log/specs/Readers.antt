@@ -1,5 +1,5 @@
 -- What contracts see of a reader of a log that threads share.
-use Rattle.std.specs.Prelude.{◌≡◌, ℕ, ◌+◌, ◌*◌, ◌/◌, ◌<◌, ◌≤◌, ◌⊎◌, zero, suc, List, [], ◌∷◌, ◌++◌, drop, length, map, slice_index, slice_set, take}
+use Rattle.std.specs.Prelude.{◌≡◌, ℕ, ◌+◌, ◌*◌, ◌/◌, ◌<◌, ◌≤◌, ◌⊎◌, zero, suc, List, [], ◌∷◌, ◌++◌, Option, drop, length, map, slice_set}
 use Rattle.theory.specs.Position.{max_position}
 use Rattle.theory.specs.Placed.{Among, payload_of}
 use Rattle.position.specs.declared.head.FrameHead.{FrameHead}
@@ -7,14 +7,16 @@ use Rattle.position.specs.Heads.{IsStreamFrame, head_of}
 use Rattle.publication.specs.declared.pass.FrameWords.{FrameWords}
 use Rattle.publication.specs.declared.pass.Pass.{Pass}
 use Rattle.publication.specs.declared.pass.Reading.{Reading}
-use Rattle.publication.specs.Steps.{term_of}
-use Rattle.frame_words.specs.Contents.{bytes_in}
 use Rattle.publication.specs.Contents.{frame_in}
-use Rattle.log_rule.specs.Claims.Handles.{PublisherValue}
+use Rattle.log_passes.specs.Handles.{IsOf, LogValue, PublisherValue}
 use Rattle.log_rule.specs.Readings.{IsConsumer, IsFrameAt, MayPass, end_of, missed}
 use Rattle.log_rule.specs.Says.{IsCommittedFor}
 use Rattle.log_rule.specs.Table.{reader_alone}
-use Rattle.shared_log.specs.Handles.{IsOf, LogValue}
+use Rattle.theory.specs.Bytes.{Identity}
+use Rattle.log_passes.specs.Readers.{Copies, SameSeat, part_bytes}
+use Rattle.log_passes.specs.declared.reader.Consumer.{Consumer}
+use Rattle.shared_log.specs.declared.home.Home.{Home}
+use Rattle.shared_log.specs.Handles.{HasHome}
 
 pub record ReaderValue : Type 0 where
   -- the seat that it has
@@ -35,6 +37,18 @@ pub record IsReading (v : Pass) (place number position read_to : ℕ) : Type 0 w
   pub read : position < read_to → MayPass v place read_to
   pub low : position ≤ max_position v.identity.geometry
   pub low_end : read_to ≤ max_position v.identity.geometry
+
+-- which of its pass's consumers it is, and where that stands
+abbrev pub consumer_of : ReaderValue → Consumer
+consumer_of r = record { place = r.place; number = r.number; position = r.position }
+
+-- what a reader holds beside its pass: the handle of its log's region, where its pass may commit or clean
+pub record IsReader (p : PublisherValue) (home : Option Home) (freed place number position read_to : ℕ) (identity : Identity) (start : ℕ) : Type 0 where
+  pub reading : IsReading p.pass place number position read_to
+  pub home_is : 0 < p.pass.right.parts → HasHome p.of.region home
+  pub freed_is : freed ≡ p.freed
+  pub identity_is : identity ≡ p.pass.identity
+  pub start_is : start ≡ p.pass.start
 
 -- the reader is one of this log
 pub record IsReaderOf (l : LogValue) (r : ReaderValue) : Type 0 where
@@ -82,13 +96,6 @@ abbrev pub HasNone : ReaderValue → ℕ → Type 0
 HasNone r position = (f : FrameWords) → Has r f → f.start ≡ position → ⊥
 
 -- ---- what a call leaves
-
--- the same seat, which knows the control words that it was sure of
-pub record SameSeat (p q : PublisherValue) : Type 0 where
-  pub of : q.of ≡ p.of
-  pub seat : q.seat ≡ p.seat
-  pub sure : q.sure ≡ p.sure
-  pub controls : p.sure ≡ 1 → q.controls ≡ p.controls
 
 -- it made steps that told it nothing
 pub record Rests (r q : ReaderValue) : Type 0 where
@@ -163,6 +170,11 @@ pub record ReadsFrame (l : LogValue) (r : ReaderValue) (head : FrameHead) (befor
   pub finds : Finds l r head q
   pub copied : after ≡ payload_of (frame_in finds.frame) ++ drop (length (payload_of (frame_in finds.frame))) before
 
+-- it has found it, and its payload stands in front of the bytes, if it fits
+pub record FindsPart (l : LogValue) (r : ReaderValue) (head : FrameHead) (before : List ℕ) (q : ReaderValue) (after : List ℕ) : Type 0 where
+  pub finds : Finds l r head q
+  pub copied : Copies finds.frame (part_bytes head (length before)) before after
+
 -- the word there was loaded once, and it was zero: no frame is committed there that the reader has, and it has learnt
 -- nothing
 pub record FindsNone (r q : ReaderValue) : Type 0 where
@@ -195,18 +207,3 @@ pub record Rereads (l : LogValue) (r : ReaderValue) (position : ℕ) (head : Fra
   pub legal : IsStreamFrame l.identity.geometry head
   pub copied : after ≡ payload_of (frame_in frame) ++ drop (length (payload_of (frame_in frame))) before
   pub rests : Rests r q
-
--- ---- words
-
--- what was loaded is a word of the frame that the reader has there, which is one of the stream
-pub record IsWord (l : LogValue) (r : ReaderValue) (f : FrameWords) (start index n : ℕ) : Type 0 where
-  pub here : IsFrameAt l.identity start f
-  pub word : index < length f.words → r.position ≤ start + term_of r.held.pass → n ≡ slice_index f.words index
-  pub only : (g : FrameWords) → Has r g → g.start ≡ start → g ≡ f
-
-abbrev pub LoadsWord : LogValue → ReaderValue → ℕ → ℕ → ℕ → Type 0
-LoadsWord l r start index n = (f : FrameWords) → Has r f → f.start ≡ start → IsWord l r f start index n
-
--- the first bytes behind the header of the frame that the reader has there stand in the block's front
-abbrev pub Copies : ReaderValue → ℕ → ℕ → List ℕ → List ℕ → Type 0
-Copies r start count before after = (f : FrameWords) → Has r f → f.start ≡ start → 32 + count ≤ 8 * length f.words → r.position ≤ start + term_of r.held.pass → after ≡ take count (bytes_in (drop 4 f.words)) ++ drop count before

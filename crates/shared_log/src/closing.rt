@@ -5,15 +5,14 @@ ghost use Rattle.log_rule.specs.Shares.{Weighs, claimed_bytes};
 ghost use Rattle.std.specs.List.{AllByRecursion};
 ghost use Rattle.theory.specs.Position.{IsGeometry};
 ghost use Rattle.log_rule.specs.Table.{all_known};
-ghost use Rattle.shared_log.specs.Books.{AreAll, Gathers, HasEntries, IsCommitted, IsCommittedBy, IsIdle, Remembers, ShowsBook};
+ghost use Rattle.shared_log.specs.Books.{AreAll, Gathers, HasEntries, IsCommitted, IsCommittedBy, IsDone, IsIdle, Remembers, ShowsBook};
 ghost use Rattle.shared_log.specs.Readers.{IsReaderOf, known_of};
 
 use crate::book::Book;
 use crate::keeper::Keeper;
-use crate::log::{Log, Publisher};
+use crate::publisher::Publisher;
 use crate::reader::LogReader;
-use log_rule::{Carried, Gather, Knowledge, Return, Weigh};
-use std::marker::Brand;
+use log_passes::Log;
 
 /// The keeper is told how much it has claimed.
 fn weigh(log: &Log, keeper: &mut Keeper)
@@ -22,32 +21,31 @@ fn weigh(log: &Log, keeper: &mut Keeper)
     ensures weighs { Weighs keeper.old.held.pass keeper.new.held.pass }
     ensures idle { IsIdle log.now keeper.new.held }
 {
-    let words = &log.table.shared;
-    words.load::<Weigh>(&mut keeper.seat, 0);
+    log.weigh(&mut keeper.pass);
 }
 
 /// What a publisher has goes to the keeper. The answer is its number and its share.
-fn gather_as<N: Carried>(log: &Log, keeper: &mut Keeper, publisher: Publisher) -> (usize, u64)
+fn gather(log: &Log, keeper: &mut Keeper, publisher: Publisher) -> (usize, u64)
     requires keeper { IsIdle log.now keeper.old.held }
-    requires publisher { IsIdle log.now publisher }
-    requires carried { (N.identity ≡ log.now.identity) × (N.start ≡ log.now.start) }
+    requires publisher { IsDone log.now publisher }
     ensures idle { IsIdle log.now keeper.new.held }
     ensures gathers { Gathers keeper.old.held.pass publisher keeper.new.held.pass result }
     ensures entries { HasEntries publisher }
-    ensures committed { publisher.pass.work.drafts ≡ [] → IsCommitted publisher }
+    ensures committed { IsCommitted publisher }
     ensures low { keeper.new.held.pass.start + claimed_bytes keeper.new.held.pass ≤ 2 ^ 55 }
 {
-    let words = &log.table.shared;
     let Publisher {
-        mut seat,
+        mut pass,
+        home: _,
+        freed: _,
         number,
         share,
         identity: _,
         start: _,
     } = publisher;
-    words.load::<Weigh>(&mut seat, 0);
-    words.join_seat::<Gather<N>>(&mut keeper.seat, seat);
-    words.load::<Weigh>(&mut keeper.seat, 0);
+    log.weigh(&mut pass);
+    log.gather(&mut keeper.pass, pass);
+    log.weigh(&mut keeper.pass);
     (number as usize, share)
 }
 
@@ -55,14 +53,15 @@ fn gather_as<N: Carried>(log: &Log, keeper: &mut Keeper, publisher: Publisher) -
 fn gathered(log: Log, mut publishers: Vec<Publisher>, mut keeper: Keeper) -> Book
     requires { AreAll log publishers.items keeper }
     ensures shows { ShowsBook log publishers.items result }
-    ensures known { AllByRecursion (IsCommittedBy publishers.items) (all_known keeper.held.pass.reading) }
+    ensures known { AllByRecursion (IsCommittedBy publishers.items) (all_known
+        keeper.held.pass.reading) }
 {
     weigh(&log, &mut keeper);
     let start = log.start();
     let mut tail = start;
     let mut shares = [0; 8];
     while let Some(publisher) = publishers.pop() {
-        let (number, share) = gather_as::<Brand>(&log, &mut keeper, publisher);
+        let (number, share) = gather(&log, &mut keeper, publisher);
         shares[number] += share;
         tail += share;
     }
@@ -82,19 +81,17 @@ pub fn close(log: Log, publishers: Vec<Publisher>, _readers: Vec<LogReader>, kee
 }
 
 /// The keeper is told each frame that a reader knows.
-fn remember_as<N: Carried>(log: &Log, keeper: &mut Keeper, reader: &mut LogReader)
+fn remember(log: &Log, keeper: &mut Keeper, reader: &mut LogReader)
     requires keeper { IsIdle log.now keeper.old.held }
     requires reader { IsReaderOf log.now reader.old }
-    requires carried { (N.identity ≡ log.now.identity) × (N.start ≡ log.now.start) }
     ensures idle { IsIdle log.now keeper.new.held }
     ensures remembers { Remembers keeper.old.held.pass reader.old.held.pass keeper.new.held.pass }
 {
-    let words = &log.table.shared;
-    let knowledge = words.split_seat::<Knowledge>(&mut reader.seat);
-    words.join_seat::<Return<N>>(&mut keeper.seat, knowledge);
+    log.remember(&mut keeper.pass, &mut reader.pass);
 }
 
-/// Ends a log as `close` does, with one of its readers: the frames that this knows are such as the publishers committed.
+/// Ends a log as `close` does, with one of its readers: the frames that this knows are such as the
+/// publishers committed.
 pub fn close_read(
     log: Log,
     publishers: Vec<Publisher>,
@@ -106,6 +103,6 @@ pub fn close_read(
     ensures shows { ShowsBook log publishers.items result }
     ensures known { AllByRecursion (IsCommittedBy publishers.items) (known_of reader) }
 {
-    remember_as::<Brand>(&log, &mut keeper, &mut reader);
+    remember(&log, &mut keeper, &mut reader);
     gathered(log, publishers, keeper)
 }

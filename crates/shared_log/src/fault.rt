@@ -6,7 +6,8 @@ use std::alloc::{AllocError, AllocFailed};
 use std::fmt;
 use thiserror::Error;
 
-/// Why a log can't be opened, or why a consumer can't join or leave. Nothing was made or changed then.
+/// Why a log can't be opened, or why a consumer can't join or leave. Nothing was made or changed
+/// then.
 #[derive(Clone, Copy, Debug, PartialEq, Eq, Error)]
 pub enum LogError {
     /// The start isn't a multiple of 32, or not below the greatest position.

@@ -1,25 +1,28 @@
 //! A keeper of a log, and its steps.
 
-ghost use Rattle.std.specs.Prelude.{◌≡◌, ◌+◌, ◌-◌, ◌*◌, ◌/◌, ◌%◌, ◌<◌, ◌≤◌, ◌&&◌, not, slice_index};
+ghost use Rattle.std.specs.Prelude.{◌≡◌, ◌+◌, ◌-◌, ◌*◌, ◌/◌, ◌%◌, ◌^◌, ◌<◌, ◌≤◌, ◌&&◌, not, slice_index};
 ghost use Rattle.theory.specs.Refusal.{is_closed, is_connected, limit_in};
 ghost use Rattle.log_rule.specs.Claims.Packs.{slot, table_length};
-ghost use Rattle.shared_log.specs.Handles.{IsOf};
+ghost use Rattle.log_passes.specs.Handles.{IsOf};
 ghost use Rattle.log_rule.specs.Kept.{IsThere};
 ghost use Rattle.log_rule.specs.Keepings.{MayRaise, SeesConsumer};
-ghost use Rattle.shared_log.specs.Keepers.{CleansAndLimits, IsKeeping, KeepsAs, KnowsLimit, MayCleanTo, MayRaiseFrom, Sweeps, TookSteps, closed_word, connected_word, flag_of, raised, reads_of, seen_positions, stored_once, there_of, with_cleaned, with_limit, with_reads};
+ghost use Rattle.shared_log.specs.Keepers.{CleansAndLimits, CleansTo, IsKeeping, KeepsAs, KnowsLimit, MayCleanTo, MayRaiseFrom, SameFreed, Sweeps, TookSteps, closed_word, connected_word, flag_of, raised, reads_of, seen_positions, stored_once, there_of, with_cleaned, with_limit, with_reads};
 
 pub(crate) mod joining;
 
-use crate::log::Log;
-use atomic_table::Seat;
-use log_rule::{CONSUMERS, Chosen, Clean, LINE, Raise, Sweep, View};
+use crate::home::Home;
+use log_passes::{Log, LogPass};
 use position::Identity;
-use std::marker::{Brand, Model};
+use std::marker::Model;
 
 /// The keeper of a log.
 #[derive(Drop)]
 pub struct Keeper {
-    pub(crate) seat: Seat<(), View>,
+    pub(crate) pass: LogPass,
+    /// Shows that the log's region is there.
+    pub(crate) home: Option<Home>,
+    /// The position below which memory was taken back.
+    pub(crate) freed: u64,
     /// The limit word: the limit with its two flags.
     pub(crate) limit: u64,
     /// The position below which nothing is readable any more.
@@ -32,14 +35,13 @@ pub struct Keeper {
 }
 
 impl Model for Keeper {
-    ghost use Rattle.std.specs.Prelude.{◌≡◌, []};
-    ghost use Rattle.shared_log.specs.Keepers.{IsKeeping, KeeperValue, KnowsWho};
+    ghost use Rattle.shared_log.specs.Keepers.{IsKeeper, KeeperValue};
 
     ghost Value = { KeeperValue };
 
-    ghost view = { λ k. record { held = record { of = k.seat.table_id; seat = k.seat.id; pass = k.seat.me.0.pass; steps = k.seat.me.0.steps; controls = k.seat.me.0.controls; sure = k.seat.me.0.sure }; limit = k.limit; cleaned = k.cleaned } };
+    ghost view = { λ k. record { held = k.pass; limit = k.limit; cleaned = k.cleaned } };
 
-    ghost invariant = { λ k. (k.seat.me.1 ≡ []) × IsKeeping k.seat.me.0.pass k.limit k.cleaned × KnowsWho k.seat.me.0.pass k.there × (k.identity ≡ k.seat.me.0.pass.identity) × (k.start ≡ k.seat.me.0.pass.start) };
+    ghost invariant = { λ k. IsKeeper k.pass k.home k.freed k.limit k.cleaned k.there k.identity k.start };
 }
 
 impl Keeper {
@@ -81,18 +83,18 @@ impl Keeper {
 }
 
 /// Loads the position of a consumer.
-fn see_as<N: Chosen>(log: &Log, keeper: &mut Keeper, number: u64) -> u64
+fn see(log: &Log, keeper: &mut Keeper, number: u64) -> u64
     requires fits { IsOf log.now keeper.old.held }
     requires low { number < 8 }
     requires there { IsThere (there_of keeper.old) number }
-    requires chosen { N.number ≡ number }
     ensures is { IsKeeping keeper.old.held.pass keeper.old.limit keeper.old.cleaned }
     ensures sees { SeesConsumer keeper.old.held.pass number result keeper.new.held.pass }
-    ensures keeps { KeepsAs keeper.old (with_reads (seen_positions keeper.new) (reads_of keeper.new) keeper.old) keeper.new }
+    ensures keeps { KeepsAs keeper.old (with_reads (seen_positions keeper.new) (reads_of keeper.new)
+        keeper.old) keeper.new }
+    ensures freed { SameFreed keeper.old keeper.new }
     ensures once { TookSteps keeper.old 1 keeper.new }
 {
-    let words = &log.table.shared;
-    words.load::<Sweep<N>>(&mut keeper.seat, CONSUMERS + LINE * number as usize)
+    log.see_consumer(&mut keeper.pass, number)
 }
 
 /// The least position of the consumers that are there, each loaded once.
@@ -100,53 +102,35 @@ pub(crate) fn sweep(log: &Log, keeper: &mut Keeper) -> u64
     requires fits { IsOf log.now keeper.old.held }
     ensures { Sweeps log.now keeper.old result keeper.new }
 {
-    let _ = &keeper.seat;
+    let _ = &keeper.pass;
     let mut least = log.identity().geometry().max_position();
     for number in 0..8 {
         if keeper.has_consumer(number) {
-            least = least.min(see_as::<Brand>(log, keeper, number));
+            least = least.min(see(log, keeper, number));
         }
     }
     least
 }
 
-/// Cleans word after word up to a position, the first of which has this place. The ring doesn't end among them.
-fn clean_stretch(log: &Log, keeper: &mut Keeper, place: usize, end: u64)
-    requires fits { IsOf log.now keeper.old.held }
-    requires there { place ≡ slot log.now.identity.geometry keeper.old.cleaned }
-    requires near { place + (end - keeper.old.cleaned) / 8 ≤ table_length log.now.identity.geometry }
-    requires may { MayCleanTo keeper.old end }
-    requires knows { KnowsLimit keeper.old }
-    ensures keeps { KeepsAs keeper.old (with_cleaned end keeper.old) keeper.new }
-    ensures steps { TookSteps keeper.old ((end - keeper.old.cleaned) / 8) keeper.new }
-{
-    let words = &log.table.shared;
-    let mut at = keeper.cleaned;
-    let mut here = place;
-    while at < end {
-        words.store::<Clean>(&mut keeper.seat, here, 0);
-        at += 8;
-        here += 1;
-    }
-    keeper.cleaned = at;
-}
-
-/// Cleans word after word up to a position, in stretches between which the ring ends.
+/// Makes the memory of all frames zero and room that begin below a position, and their control
+/// words zero.
 fn clean_to(log: &Log, keeper: &mut Keeper, end: u64)
     requires fits { IsOf log.now keeper.old.held }
     requires may { MayCleanTo keeper.old end }
+    requires low { end ≤ 2 ^ 56 }
     requires knows { KnowsLimit keeper.old }
-    ensures keeps { KeepsAs keeper.old (with_cleaned end keeper.old) keeper.new }
-    ensures steps { TookSteps keeper.old ((end - keeper.old.cleaned) / 8) keeper.new }
+    ensures { CleansTo log.now.identity end keeper.old keeper.new }
 {
-    let _ = &keeper.seat;
-    let mut ring = log.ring();
-    while keeper.cleaned < end {
-        let place = log.slot_of(&mut ring, keeper.cleaned);
-        let room = 8 * (log.word_end() - place) as u64;
-        let stop = keeper.cleaned + room.min(end - keeper.cleaned);
-        clean_stretch(log, keeper, place, stop);
+    if end <= keeper.cleaned {
+        return;
     }
+    let Some(home) = keeper.home.take() else {
+        unreachable!();
+    };
+    let (region, freed) = log.clean(&mut keeper.pass, home.region, keeper.freed, end);
+    keeper.home = Some(Home { region });
+    keeper.freed = freed;
+    keeper.cleaned = end;
 }
 
 /// Stores the limit word.
@@ -154,10 +138,10 @@ fn store_limit(log: &Log, keeper: &mut Keeper, word: u64)
     requires fits { IsOf log.now keeper.old.held }
     requires may { MayRaise keeper.old.held.pass word }
     ensures keeps { KeepsAs keeper.old (with_limit word keeper.old) keeper.new }
+    ensures freed { SameFreed keeper.old keeper.new }
     ensures once { TookSteps keeper.old 1 keeper.new }
 {
-    let words = &log.table.shared;
-    words.store::<Raise>(&mut keeper.seat, 0, word);
+    log.raise(&mut keeper.pass, word);
     keeper.limit = word;
 }
 
@@ -166,7 +150,9 @@ fn raise(log: &Log, keeper: &mut Keeper, least: u64)
     requires fits { IsOf log.now keeper.old.held }
     requires may { MayRaiseFrom keeper.old least }
     requires knows { KnowsLimit keeper.old }
-    ensures keeps { KeepsAs keeper.old (with_limit (raised keeper.old.limit least log.now.identity.geometry.term_length) keeper.old) keeper.new }
+    ensures keeps { KeepsAs keeper.old (with_limit (raised keeper.old.limit least
+        log.now.identity.geometry.term_length) keeper.old) keeper.new }
+    ensures freed { SameFreed keeper.old keeper.new }
     ensures steps { TookSteps keeper.old (stored_once keeper.old.limit keeper.new.limit) keeper.new }
 {
     let half = u64::from(log.identity().geometry().term_length()) / 2;
@@ -176,8 +162,9 @@ fn raise(log: &Log, keeper: &mut Keeper, least: u64)
     }
 }
 
-/// Cleans all that is a term or more below the least consumer that is there. Then, if the log is connected and not
-/// closed, raises the limit to half a term above that consumer. The answer is the limit.
+/// Cleans all that is a term or more below the least consumer that is there. Then, if the log is
+/// connected and not closed, raises the limit to half a term above that consumer. The answer is the
+/// limit.
 pub fn clean_and_limit(log: &Log, keeper: &mut Keeper) -> u64
     requires { IsOf log.now keeper.old.held }
     ensures done { CleansAndLimits log.now keeper.old keeper.new }
@@ -193,7 +180,9 @@ pub fn clean_and_limit(log: &Log, keeper: &mut Keeper) -> u64
 /// Says whether somebody receives the stream, by one store.
 pub fn set_connected(log: &Log, keeper: &mut Keeper, connected: bool)
     requires { IsOf log.now keeper.old.held }
-    ensures keeps { KeepsAs keeper.old (with_limit (connected_word connected keeper.old.limit) keeper.old) keeper.new }
+    ensures keeps { KeepsAs keeper.old (with_limit (connected_word connected keeper.old.limit)
+        keeper.old) keeper.new }
+    ensures freed { SameFreed keeper.old keeper.new }
     ensures once { TookSteps keeper.old 1 keeper.new }
 {
     let word = keeper.limit / 2 * 2 + u64::from(connected);
@@ -203,7 +192,9 @@ pub fn set_connected(log: &Log, keeper: &mut Keeper, connected: bool)
 /// Closes the log by one store, for good.
 pub fn set_closed(log: &Log, keeper: &mut Keeper)
     requires { IsOf log.now keeper.old.held }
-    ensures keeps { KeepsAs keeper.old (with_limit (closed_word keeper.old.limit) keeper.old) keeper.new }
+    ensures keeps { KeepsAs keeper.old (with_limit (closed_word keeper.old.limit) keeper.old)
+        keeper.new }
+    ensures freed { SameFreed keeper.old keeper.new }
     ensures once { TookSteps keeper.old 1 keeper.new }
 {
     let word = keeper.limit / 4 * 4 + 2 + keeper.limit % 2;

@@ -3,63 +3,62 @@
 ghost use Rattle.std.specs.Prelude.{◌↔◌, IfErr, IfOk, IsErrOf};
 ghost use Rattle.position.specs.Openings.{IsConsumerCount, IsStart};
 ghost use Rattle.shared_log.specs.Faults.{OfOpening};
-ghost use Rattle.shared_log.specs.Handles.{IsLogOf, IsWholeNew};
+ghost use Rattle.log_passes.specs.Handles.{IsLogOf, IsWholeNew};
 
 use crate::fault::LogError;
-use crate::log::{Log, Publisher};
-use atomic_table::Table;
-use log_rule::{Key, opening_words};
+use crate::home::Home;
+use crate::publisher::Publisher;
+use log_passes::Log;
+use log_rule::Key;
 use position::{Geometry, Identity};
 use std::alloc::Global;
 
-impl Log {
-    /// A log that opens at a position, unconnected, with its limit at the start and so many consumers there, and its one
-    /// pass, which has all: the publishers, as the last of them, the consumers, and the keeper. The start is judged first,
-    /// then the number of consumers; then memory is asked for.
-    pub fn open_whole(
-        alloc: Global,
-        geometry: Geometry,
-        session: i32,
-        stream: i32,
-        start: u64,
-        consumers: usize,
-    ) -> Result<(Log, Publisher), LogError>
-        ensures log { IfOk result (λ r. IsLogOf (record { geometry = geometry; session = session; stream = stream }) start consumers r.0) }
-        ensures pass { IfOk result (λ r. IsWholeNew r.0 r.1) }
-        ensures start { IsErrOf result LogError.Start ↔ (¬ IsStart geometry start) }
-        ensures consumers { IsErrOf result LogError.Consumers ↔ (IsStart geometry start × (¬ IsConsumerCount consumers)) }
-        ensures in_range { IfOk result (λ _. IsStart geometry start × IsConsumerCount consumers) }
-        ensures memory { IsErrOf result LogError.Memory → IsStart geometry start × IsConsumerCount consumers }
-        ensures opens { IfErr result OfOpening }
-    {
-        if !start.is_multiple_of(32) || start >= geometry.max_position() {
-            return Err(LogError::Start);
-        }
-        if consumers == 0 || consumers > 8 {
-            return Err(LogError::Consumers);
-        }
-        let identity = Identity::new(geometry, session, stream);
-        let consumers = consumers as u64;
-        let key = Key {
-            identity,
-            start,
-            consumers,
-        };
-        let words = opening_words(alloc, &key)?;
-        let (table, seat) = Table::of_words(alloc, &words, &key)?;
-        let log = Log {
-            table,
-            identity,
-            start,
-            consumers,
-        };
-        let pass = Publisher {
-            seat,
-            number: 7,
-            share: 0,
-            identity,
-            start,
-        };
-        Ok((log, pass))
+/// A log that opens at a position, unconnected, with its limit at the start and so many consumers
+/// there, and its one pass, which has all: the publishers, as the last of them, the consumers, and
+/// the keeper. The start is judged first, then the number of consumers; then memory is asked for.
+pub fn open_whole(
+    alloc: Global,
+    geometry: Geometry,
+    session: i32,
+    stream: i32,
+    start: u64,
+    consumers: usize,
+) -> Result<(Log, Publisher), LogError>
+    ensures log { IfOk result (λ r. IsLogOf (record {
+      geometry = geometry;
+      session = session;
+      stream = stream;
+    }) start consumers r.0) }
+    ensures pass { IfOk result (λ r. IsWholeNew r.0 r.1) }
+    ensures start { IsErrOf result LogError.Start ↔ (¬ IsStart geometry start) }
+    ensures consumers { IsErrOf result LogError.Consumers
+        ↔ (IsStart geometry start × (¬ IsConsumerCount consumers)) }
+    ensures in_range { IfOk result (λ _. IsStart geometry start × IsConsumerCount consumers) }
+    ensures memory { IsErrOf result LogError.Memory
+        → IsStart geometry start × IsConsumerCount consumers }
+    ensures opens { IfErr result OfOpening }
+{
+    if !start.is_multiple_of(32) || start >= geometry.max_position() {
+        return Err(LogError::Start);
     }
+    if consumers == 0 || consumers > 8 {
+        return Err(LogError::Consumers);
+    }
+    let identity = Identity::new(geometry, session, stream);
+    let key = Key {
+        identity,
+        start,
+        consumers: consumers as u64,
+    };
+    let (log, pass, region) = Log::open(alloc, &key)?;
+    let whole = Publisher {
+        pass,
+        home: Some(Home { region }),
+        freed: start,
+        number: 7,
+        share: 0,
+        identity,
+        start,
+    };
+    Ok((log, whole))
 }

@@ -5,17 +5,22 @@ ghost use Rattle.theory.specs.Position.{max_position};
 ghost use Rattle.position.specs.Openings.{IsConsumerCount, IsStart};
 ghost use Rattle.log_rule.specs.Table.{first_there as first_flags};
 ghost use Rattle.shared_log.specs.Faults.{OfOpening};
-ghost use Rattle.shared_log.specs.Handles.{AreNew, IsLogOf, IsWholeNew};
+ghost use Rattle.shared_log.specs.Handles.{AreNew};
+ghost use Rattle.log_passes.specs.Handles.{IsLogOf, IsWholeNew};
 ghost use Rattle.shared_log.specs.Keepers.{flag_of};
 ghost use Rattle.shared_log.specs.Parts.{AreDealt, AreReaders, IsDealing, IsDealer, IsNewKeeper, IsNewReader, IsNewPublisher};
 
 use crate::fault::LogError;
+use crate::home::Home;
 use crate::keeper::Keeper;
-use crate::log::{Log, Publisher};
+use crate::opening::open_whole;
+use crate::publisher::Publisher;
 use crate::reader::LogReader;
-use log_rule::{DealKeeper, DealPublisher, DealReader};
+use log_passes::Log;
 use position::Geometry;
-use std::alloc::{AllocFailed, Global};
+use region::Region;
+use std::alloc::{AllocError, AllocFailed, Global};
+use std::sync::Arc;
 
 /// All passes of a log that was just opened.
 #[derive(Drop)]
@@ -41,16 +46,18 @@ pub fn first_there(consumers: u64) -> [bool; 8]
 }
 
 /// The keeper goes to a seat of its own.
-fn deal_keeper(log: &Log, pass: &mut Publisher) -> Keeper
-    requires { IsWholeNew log.now pass.old }
+fn deal_keeper(log: &Log, region: Arc<Region>, pass: &mut Publisher) -> Keeper
+    requires pass { IsWholeNew log.now pass.old }
+    requires region { region.value.identity ≡ log.now.table.region }
     ensures dealing { IsDealing log.now 0 pass.new }
     ensures keeper { IsNewKeeper log.now result }
 {
     let start = log.start();
-    let words = &log.table.shared;
     let there = first_there(log.consumers());
     Keeper {
-        seat: words.split_seat::<DealKeeper>(&mut pass.seat),
+        pass: log.deal_keeper(&mut pass.pass),
+        home: Some(Home { region }),
+        freed: pass.freed,
         limit: start,
         cleaned: start,
         there,
@@ -68,9 +75,10 @@ fn deal_reader(log: &Log, pass: &mut Publisher, number: u64) -> LogReader
     ensures reader { IsNewReader log.now number result }
 {
     let start = log.start();
-    let words = &log.table.shared;
     LogReader {
-        seat: words.split_seat::<DealReader>(&mut pass.seat),
+        pass: log.deal_reader(&mut pass.pass),
+        home: None,
+        freed: pass.freed,
         place: 0,
         number,
         position: start,
@@ -97,19 +105,21 @@ fn deal_readers(log: &Log, pass: &mut Publisher, mut readers: Vec<LogReader>) ->
 }
 
 /// The last of the publishers that are left goes to a seat of its own.
-fn deal_publisher(log: &Log, pass: &mut Publisher) -> Publisher
+fn deal_publisher(log: &Log, region: Arc<Region>, pass: &mut Publisher) -> Publisher
     requires dealer { IsDealer log.now pass.old }
+    requires region { region.value.identity ≡ log.now.table.region }
     requires number { 0 < pass.old.pass.number }
     ensures dealer { IsDealer log.now pass.new }
     ensures fewer { pass.new.pass.number + 1 ≡ pass.old.pass.number }
     ensures dealt { IsNewPublisher log.now pass.old.pass.number result }
 {
     let number = pass.number;
-    let words = &log.table.shared;
-    let seat = words.split_seat::<DealPublisher>(&mut pass.seat);
+    let dealt = log.deal_publisher(&mut pass.pass);
     pass.number = number - 1;
     Publisher {
-        seat,
+        pass: dealt,
+        home: Some(Home { region }),
+        freed: pass.freed,
         number,
         share: 0,
         identity: pass.identity,
@@ -118,22 +128,23 @@ fn deal_publisher(log: &Log, pass: &mut Publisher) -> Publisher
 }
 
 /// All publishers do, by their numbers.
-fn deal_publishers(log: &Log, mut last: Publisher) -> [Publisher; 8]
+fn deal_publishers(log: &Log, mut last: Publisher) -> Result<[Publisher; 8], AllocError>
     requires { IsDealing log.now log.now.consumers last }
-    ensures { AreNew log.now 0 result }
+    ensures { IfOk result (AreNew log.now 0) }
 {
-    let seven = deal_publisher(log, &mut last);
-    let six = deal_publisher(log, &mut last);
-    let five = deal_publisher(log, &mut last);
-    let four = deal_publisher(log, &mut last);
-    let three = deal_publisher(log, &mut last);
-    let two = deal_publisher(log, &mut last);
-    let one = deal_publisher(log, &mut last);
-    [last, one, two, three, four, five, six, seven]
+    let seven = deal_publisher(log, log.home()?, &mut last);
+    let six = deal_publisher(log, log.home()?, &mut last);
+    let five = deal_publisher(log, log.home()?, &mut last);
+    let four = deal_publisher(log, log.home()?, &mut last);
+    let three = deal_publisher(log, log.home()?, &mut last);
+    let two = deal_publisher(log, log.home()?, &mut last);
+    let one = deal_publisher(log, log.home()?, &mut last);
+    Ok([last, one, two, three, four, five, six, seven])
 }
 
-/// A log that opens at a position, unconnected, with its limit and so many consumers at the start, and all its passes.
-/// The start is judged first, then the number of consumers; then memory is asked for.
+/// A log that opens at a position, unconnected, with its limit and so many consumers at the start,
+/// and all its passes. The start is judged first, then the number of consumers; then memory is
+/// asked for.
 pub fn open(
     alloc: Global,
     geometry: Geometry,
@@ -142,19 +153,27 @@ pub fn open(
     start: u64,
     consumers: usize,
 ) -> Result<(Log, Parts), LogError>
-    ensures log { IfOk result (λ r. IsLogOf (record { geometry = geometry; session = session; stream = stream }) start consumers r.0) }
+    ensures log { IfOk result (λ r. IsLogOf (record {
+      geometry = geometry;
+      session = session;
+      stream
+          = stream;
+    }) start consumers r.0) }
     ensures parts { IfOk result (λ r. AreDealt r.0 r.1.publishers r.1.readers.items r.1.keeper) }
     ensures start { IsErrOf result LogError.Start ↔ (¬ IsStart geometry start) }
-    ensures consumers { IsErrOf result LogError.Consumers ↔ (IsStart geometry start × (¬ IsConsumerCount consumers)) }
+    ensures consumers { IsErrOf result LogError.Consumers ↔ (IsStart geometry start × (¬
+        IsConsumerCount consumers)) }
     ensures in_range { IfOk result (λ _. IsStart geometry start × IsConsumerCount consumers) }
-    ensures memory { IsErrOf result LogError.Memory → IsStart geometry start × IsConsumerCount consumers }
+    ensures memory { IsErrOf result LogError.Memory → IsStart geometry start × IsConsumerCount
+        consumers }
     ensures opens { IfErr result OfOpening }
 {
-    let (log, mut pass) = Log::open_whole(alloc, geometry, session, stream, start, consumers)?;
+    let (log, mut pass) = open_whole(alloc, geometry, session, stream, start, consumers)?;
     let readers = Vec::with_capacity(alloc, consumers)?;
-    let keeper = deal_keeper(&log, &mut pass);
+    let region = log.home()?;
+    let keeper = deal_keeper(&log, region, &mut pass);
     let readers = deal_readers(&log, &mut pass, readers);
-    let publishers = deal_publishers(&log, pass);
+    let publishers = deal_publishers(&log, pass)?;
     let parts = Parts {
         publishers,
         readers,

@@ -1,7 +1,76 @@
-//! Publisher.
+//! A publisher of a log.
+
+ghost use Rattle.std.specs.Prelude.{◌≡◌};
+ghost use Rattle.log_rule.specs.Shares.{claimed_bytes};
+ghost use Rattle.shared_log.specs.Handles.{OwnsClaims};
 
 pub(crate) mod calls;
+pub(crate) mod filling;
 pub(crate) mod meeting;
 pub(crate) mod numbering;
 pub(crate) mod retiring;
-pub(crate) mod storing;
+pub(crate) mod steps;
+
+use crate::home::Home;
+use log_passes::LogPass;
+use position::Identity;
+use std::marker::Model;
+
+/// A publisher of a log.
+#[derive(Drop)]
+pub struct Publisher {
+    pub(crate) pass: LogPass,
+    /// Shows that the log's region is there.
+    pub(crate) home: Option<Home>,
+    /// The position below which memory was taken back, where it is the keeper.
+    pub(crate) freed: u64,
+    pub(crate) number: u64,
+    /// How many bytes its claims cover.
+    pub(crate) share: u64,
+    /// Which stream its log carries, and where that begins.
+    pub(crate) identity: Identity,
+    pub(crate) start: u64,
+}
+
+impl Model for Publisher {
+    ghost use Rattle.std.specs.Prelude.{◌≡◌};
+    ghost use Rattle.log_passes.specs.Handles.{PublisherValue};
+    ghost use Rattle.shared_log.specs.Handles.{IsPublisher};
+
+    ghost Value = { PublisherValue };
+
+    ghost view = { λ p. p.pass };
+
+    ghost invariant = { λ p. IsPublisher p.pass p.home p.freed p.number p.share p.identity p.start };
+}
+
+impl Publisher {
+    /// Its number, 0 to 7.
+    pub fn number(&self) -> u64
+        ensures is { result ≡ self.now.pass.number }
+        ensures owns { OwnsClaims self.now.pass }
+    {
+        self.number
+    }
+
+    /// How many bytes its claims cover.
+    pub fn share(&self) -> u64
+        ensures { result ≡ claimed_bytes self.now.pass }
+    {
+        self.share
+    }
+
+    /// Which stream its log carries.
+    pub fn identity(&self) -> Identity
+        ensures { result ≡ self.now.pass.identity }
+    {
+        self.identity
+    }
+
+    /// The position at which that begins.
+    pub fn start(&self) -> u64
+        ensures { result ≡ self.now.pass.start }
+    {
+        self.start
+    }
+}

@@ -1,5 +1,5 @@
-//! A pass in another role: a publisher's as a reader or as the keeper, and back. Whoever has more than one role in one pass,
-//! as the one that has all, acts in one after the other.
+//! A pass in another role: a publisher's as a reader or as the keeper, and back. Whoever has more
+//! than one role in one pass, as the one that has all, acts in one after the other.
 
 ghost use Rattle.std.specs.Prelude.{◌≡◌};
 ghost use Rattle.shared_log.specs.Handles.{IsPublishing};
@@ -7,25 +7,36 @@ ghost use Rattle.shared_log.specs.Keepers.{IsKeeping, KnowsWho};
 ghost use Rattle.shared_log.specs.Readers.{IsReading};
 
 use crate::keeper::Keeper;
-use crate::log::Publisher;
+use crate::publisher::Publisher;
 use crate::reader::LogReader;
 
 impl Publisher {
-    /// Its pass as one of its consumers, by the place among them: the reader with this number, which stands at a position
-    /// and has read nothing there.
+    /// Its pass as one of its consumers, by the place among them: the reader with this number,
+    /// which stands at a position and has read nothing there.
     pub fn into_reader(self, place: u64, number: u64, position: u64) -> LogReader
         requires { IsReading self.pass place number position position }
-        ensures { result ≡ record { held = self; place = place; number = number; position = position; read_to = position } }
+        ensures { result ≡ record {
+          held = self;
+          place = place;
+          number = number;
+          position =
+              position;
+          read_to = position;
+        } }
     {
         let Publisher {
-            seat,
+            pass,
+            home,
+            freed,
             number: _,
             share: _,
             identity,
             start,
         } = self;
         LogReader {
-            seat,
+            pass,
+            home,
+            freed,
             place,
             number,
             position,
@@ -35,21 +46,26 @@ impl Publisher {
         }
     }
 
-    /// Its pass as the keeper, with the limit word that it knows, how far it has cleaned, and which consumers are there.
+    /// Its pass as the keeper, with the limit word that it knows, how far it has cleaned, and which
+    /// consumers are there.
     pub fn into_keeper(self, limit: u64, cleaned: u64, there: [bool; 8]) -> Keeper
         requires keeps { IsKeeping self.pass limit cleaned }
         requires knows { KnowsWho self.pass there }
         ensures { result ≡ record { held = self; limit = limit; cleaned = cleaned } }
     {
         let Publisher {
-            seat,
+            pass,
+            home,
+            freed,
             number: _,
             share: _,
             identity,
             start,
         } = self;
         Keeper {
-            seat,
+            pass,
+            home,
+            freed,
             limit,
             cleaned,
             there,
@@ -66,7 +82,9 @@ impl LogReader {
         ensures { result ≡ self.held }
     {
         let LogReader {
-            seat,
+            pass,
+            home,
+            freed,
             place: _,
             number: _,
             position: _,
@@ -75,7 +93,9 @@ impl LogReader {
             start,
         } = self;
         Publisher {
-            seat,
+            pass,
+            home,
+            freed,
             number,
             share,
             identity,
@@ -91,7 +111,9 @@ impl Keeper {
         ensures { result ≡ self.held }
     {
         let Keeper {
-            seat,
+            pass,
+            home,
+            freed,
             limit: _,
             cleaned: _,
             there: _,
@@ -99,7 +121,9 @@ impl Keeper {
             start,
         } = self;
         Publisher {
-            seat,
+            pass,
+            home,
+            freed,
             number,
             share,
             identity,

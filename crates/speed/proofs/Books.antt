@@ -5,14 +5,13 @@ use Rattle.theory.specs.Entry.{Entry, entry_end, length_of}
 use Rattle.theory.specs.Position.{span}
 use Rattle.theory.specs.Tiling.{Tiles}
 use Rattle.publication.specs.declared.pass.ClaimRange.{ClaimRange}
-use Rattle.log_rule.specs.Claims.Handles.{PublisherValue}
+use Rattle.log_passes.specs.Handles.{LogValue, PublisherValue}
 use Rattle.log_rule.specs.Claims.Rule.{entry_of}
 use Rattle.log_rule.specs.Claims.Sums.{total}
 use Rattle.log_rule.proofs.Claimed.Totals.{extent_of}
 use Rattle.log_rule.specs.Shares.{range_bytes}
 use Rattle.shared_log.specs.Books.{ShowsBook, share_as, weight_in}
 use Rattle.shared_log.specs.declared.book.Book.{Book}
-use Rattle.shared_log.specs.Handles.{LogValue}
 use Rattle.speed.specs.declared.rounds.lane.Lane.{Lane}
 use Rattle.speed.specs.Rounds.{IsFilled, IsLane, IsPiece, IsSent, accepted_in, bytes_by, message_in, padding_in, publisher_in}
 

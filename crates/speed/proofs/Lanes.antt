@@ -7,10 +7,10 @@ use Rattle.std.proofs.lemmas.Bool.Decides.{nat_tests}
 use Rattle.std.specs.List.{AllByRecursion}
 use Rattle.theory.proofs.Lists.{all_append, all_behind, all_front}
 use Rattle.publication.specs.declared.pass.Pass.{Pass}
-use Rattle.log_rule.specs.Claims.Handles.{PublisherValue, parts_in}
+use Rattle.log_passes.specs.Handles.{IsOf, LogValue, PublisherValue, parts_in}
 use Rattle.log_rule.specs.Claims.Sums.{total}
 use Rattle.log_rule.proofs.Claimed.Totals.{total_append, total_map}
-use Rattle.shared_log.specs.Handles.{AreNew, IsOf, LogValue}
+use Rattle.shared_log.specs.Handles.{AreNew}
 use Rattle.shared_log.specs.Keepers.{KeeperValue}
 use Rattle.shared_log.specs.Books.{AreAll, IsDone}
 use Rattle.speed.specs.declared.rounds.claiming.Job.{Job}

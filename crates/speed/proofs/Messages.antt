@@ -18,12 +18,11 @@ use Rattle.publication.specs.Steps.{Keeps, count_in, geometry_of, message_at, pa
 use Rattle.publication.specs.Claims.{Justified, Leaves, LeavesPadding}
 use Rattle.publication.specs.Offers.{Offered, Opened}
 use Rattle.theory.specs.Bytes.{Identity}
-use Rattle.log_rule.specs.Claims.Handles.{PublisherValue}
+use Rattle.log_passes.specs.Handles.{IsOf, LogValue, PublisherValue}
 use Rattle.log_rule.specs.Claims.Rule.{entry_of}
 use Rattle.log_rule.specs.Claims.Sums.{total}
 use Rattle.log_rule.proofs.Claimed.Memories.{maps_append}
 use Rattle.log_rule.proofs.Claimed.Totals.{total_append}
-use Rattle.shared_log.specs.Handles.{IsOf, LogValue}
 use Rattle.speed.specs.Rounds.{Claims, IsSender, IsSent, message_in, messages_of}
 
 -- it has claimed so many messages more, and nothing else but paddings

@@ -1,7 +1,7 @@
 -- The readers of a log that was just opened have read nothing.
 use Rattle.std.proofs.Common.{◌≡◌, ℕ, suc, List, [], ◌∷◌}
 use Rattle.std.specs.List.{AllByRecursion}
-use Rattle.shared_log.specs.Handles.{LogValue}
+use Rattle.log_passes.specs.Handles.{LogValue}
 use Rattle.shared_log.specs.Parts.{AreReaders}
 use Rattle.shared_log.specs.Readers.{IsReaderOf, ReaderValue, known_at}
 use Rattle.stream_tests.specs.Parties.{IsUnread}

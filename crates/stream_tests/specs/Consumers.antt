@@ -1,5 +1,5 @@
 -- Consumers that join and leave.
-use Rattle.shared_log.specs.Handles.{LogValue}
+use Rattle.log_passes.specs.Handles.{LogValue}
 use Rattle.shared_log.specs.Readers.{IsAlone, IsReaderOf, ReaderValue}
 
 -- a reader of this log that is one consumer, and nothing else

@@ -4,7 +4,7 @@ ghost use Rattle.std.specs.Prelude.{◌≡◌, ◌+◌, ◌≤◌, ◌∷◌, []
 ghost use Rattle.std.specs.Arc.{arc_value};
 ghost use Rattle.theory.specs.Placed.{Data, Pad};
 ghost use Rattle.publication.specs.Frames.{stored_words};
-ghost use Rattle.shared_log.specs.Handles.{IsOf};
+ghost use Rattle.log_passes.specs.Handles.{IsOf};
 ghost use Rattle.claims.specs.Holdings.{end_of, size_of};
 ghost use Rattle.claims.specs.Passes.Parts.{with_part};
 

@@ -4,50 +4,44 @@ ghost use Rattle.std.specs.Prelude.{◌≡◌, ◌↔◌, ◌<◌, ◌≤◌, �
 ghost use Rattle.theory.specs.Position.{max_position};
 ghost use Rattle.log_rule.specs.Keepings.{MayJoin, joined, newly};
 ghost use Rattle.log_rule.specs.Table.{other_readings};
-ghost use Rattle.shared_log.specs.Handles.{IsOf};
+ghost use Rattle.log_passes.specs.Handles.{IsOf};
 ghost use Rattle.shared_log.specs.Joining.{AreEight, Becomes, Begins, Ends, HasConsumer, HasOther, IsFirstFree, IsJoined, IsLast, Joins, KnowsControls, Leaves};
 ghost use Rattle.shared_log.specs.Keepers.{TookSteps, there_of};
 ghost use Rattle.shared_log.specs.Readers.{IsAlone, IsReaderOf};
 
 use crate::fault::LogError;
 use crate::keeper::{Keeper, sweep};
-use crate::log::Log;
 use crate::reader::LogReader;
-use log_rule::{CONSUMERS, Carried, DealReader, LINE, Place, Return, Seated, Vacate};
-use std::marker::Brand;
+use log_passes::Log;
 
-/// Stores where a consumer begins whose number nobody has: the keeper's own pass is that consumer then, at a place among
-/// those that it is.
-fn place_as<N: Seated>(log: &Log, keeper: &mut Keeper, number: u64, place: u64, position: u64)
+/// Stores where a consumer begins whose number nobody has: the keeper's own pass is that consumer
+/// then, at a place among those that it is.
+fn begin_there(log: &Log, keeper: &mut Keeper, number: u64, place: u64, position: u64)
     requires fits { IsOf log.now keeper.old.held }
     requires may { MayJoin keeper.old.held.pass number position }
-    requires chosen { (N.number ≡ number) × (N.place ≡ place) }
-    ensures becomes { Becomes keeper.old (joined keeper.old.held.pass number place position) keeper.new }
+    ensures becomes { Becomes keeper.old (joined keeper.old.held.pass number place position)
+        keeper.new }
     ensures controls { KnowsControls keeper.old keeper.new }
     ensures once { TookSteps keeper.old 1 keeper.new }
 {
-    let words = &log.table.shared;
-    let word = CONSUMERS + LINE * number as usize;
-    words.store::<Place<N>>(&mut keeper.seat, word, position);
+    log.begin_consumer(&mut keeper.pass, number, place, position);
     keeper.there[number as usize] = true;
 }
 
 /// Stores zero for a consumer of the keeper's own pass, which is none any more.
-fn vacate_as<N: Seated>(log: &Log, keeper: &mut Keeper, number: u64, place: u64)
+fn end_there(log: &Log, keeper: &mut Keeper, number: u64, place: u64)
     requires fits { IsOf log.now keeper.old.held }
     requires consumer { HasConsumer keeper.old.held.pass place number }
     requires other { HasOther (there_of keeper.old) number }
-    requires chosen { (N.number ≡ number) × (N.place ≡ place) }
     ensures { Ends keeper.old place number keeper.new }
 {
-    let words = &log.table.shared;
-    let word = CONSUMERS + LINE * number as usize;
-    words.store::<Vacate<N>>(&mut keeper.seat, word, 0);
+    log.end_consumer(&mut keeper.pass, number, place);
     keeper.there[number as usize] = false;
 }
 
-/// A consumer with a number that nobody has begins in the keeper's own pass, at this place of those that it is or behind
-/// the last of them, where the least of those that are there stands. The answer is its position.
+/// A consumer with a number that nobody has begins in the keeper's own pass, at this place of those
+/// that it is or behind the last of them, where the least of those that are there stands. The
+/// answer is its position.
 pub fn begin_consumer(log: &Log, keeper: &mut Keeper, number: u64, place: u64) -> u64
     requires fits { IsOf log.now keeper.old.held }
     requires low { number < 8 }
@@ -55,9 +49,9 @@ pub fn begin_consumer(log: &Log, keeper: &mut Keeper, number: u64, place: u64) -
     ensures begins { Begins log.now keeper.old number place result keeper.new }
     ensures low { result ≤ max_position log.now.identity.geometry }
 {
-    let _ = &keeper.seat;
+    let _ = &keeper.pass;
     let position = sweep(log, keeper);
-    place_as::<Brand>(log, keeper, number, place, position);
+    begin_there(log, keeper, number, place, position);
     position
 }
 
@@ -68,23 +62,28 @@ pub fn end_consumer(log: &Log, keeper: &mut Keeper, number: u64, place: u64)
     requires other { HasOther (there_of keeper.old) number }
     ensures { Ends keeper.old place number keeper.new }
 {
-    vacate_as::<Brand>(log, keeper, number, place);
+    end_there(log, keeper, number, place);
 }
 
 /// The first consumer of the keeper's own pass goes to a seat of its own.
 fn deal_consumer(log: &Log, keeper: &mut Keeper, number: u64, position: u64) -> LogReader
     requires fits { IsOf log.now keeper.old.held }
-    requires first { keeper.old.held.pass.reading ≡ newly number position ∷ other_readings keeper.old.held.pass.reading }
+    requires first { keeper.old.held.pass.reading ≡ newly number position ∷ other_readings
+        keeper.old.held.pass.reading }
     requires low { position ≤ max_position log.now.identity.geometry }
-    ensures becomes { Becomes keeper.old (record keeper.old.held.pass { reading = other_readings keeper.old.held.pass.reading }) keeper.new }
+    ensures becomes { Becomes keeper.old (record keeper.old.held.pass {
+      reading = other_readings
+          keeper.old.held.pass.reading;
+    }) keeper.new }
     ensures controls { KnowsControls keeper.old keeper.new }
     ensures steps { TookSteps keeper.old 0 keeper.new }
     ensures reader { IsJoined log.now number position result }
 {
-    let words = &log.table.shared;
-    let seat = words.split_seat::<DealReader>(&mut keeper.seat);
+    let pass = log.deal_reader(&mut keeper.pass);
     LogReader {
-        seat,
+        pass,
+        home: None,
+        freed: keeper.freed,
         place: 0,
         number,
         position,
@@ -95,27 +94,19 @@ fn deal_consumer(log: &Log, keeper: &mut Keeper, number: u64, position: u64) -> 
 }
 
 /// A reader's consumer goes back to the keeper's own pass, as the first of those that it is.
-fn take_back_as<N: Carried>(log: &Log, keeper: &mut Keeper, reader: LogReader)
+fn take_back(log: &Log, keeper: &mut Keeper, reader: LogReader)
     requires fits { IsOf log.now keeper.old.held }
     requires reader { IsReaderOf log.now reader }
     requires alone { IsAlone log.now reader }
-    requires carried { (N.identity ≡ log.now.identity) × (N.start ≡ log.now.start) }
-    ensures becomes { Becomes keeper.old (record keeper.old.held.pass { reading = reader.held.pass.reading ++ keeper.old.held.pass.reading }) keeper.new }
+    ensures becomes { Becomes keeper.old (record keeper.old.held.pass {
+      reading =
+          reader.held.pass.reading ++ keeper.old.held.pass.reading;
+    }) keeper.new }
     ensures controls { KnowsControls keeper.old keeper.new }
     ensures steps { TookSteps keeper.old 0 keeper.new }
     ensures consumer { HasConsumer keeper.new.held.pass 0 reader.number }
 {
-    let words = &log.table.shared;
-    let LogReader {
-        seat,
-        place: _,
-        number: _,
-        position: _,
-        read_to: _,
-        identity: _,
-        start: _,
-    } = reader;
-    words.join_seat::<Return<N>>(&mut keeper.seat, seat);
+    log.take_consumer(&mut keeper.pass, reader.pass);
 }
 
 impl Keeper {
@@ -137,7 +128,7 @@ impl Keeper {
         ensures some { IsTrue result → HasOther (there_of self.now) number }
         ensures none { result ≡ false → IsLast (there_of self.now) number }
     {
-        let _ = &self.seat;
+        let _ = &self.pass;
         for other in 0..8 {
             if other != number && self.has_consumer(other) {
                 return true;
@@ -146,9 +137,9 @@ impl Keeper {
         false
     }
 
-    /// Opens a consumer, with the least number that nobody has, at the least position of those that are there, each of
-    /// which is loaded once. It reads every frame from there on. The one refusal is `LogError::Full`, where eight are
-    /// there; nothing has changed then.
+    /// Opens a consumer, with the least number that nobody has, at the least position of those that
+    /// are there, each of which is loaded once. It reads every frame from there on. The one refusal
+    /// is `LogError::Full`, where eight are there; nothing has changed then.
     pub fn join(&mut self, log: &Log) -> Result<LogReader, LogError>
         requires { IsOf log.now self.old.held }
         ensures joins { IfOk result (λ reader. Joins log.now self.old reader self.new) }
@@ -158,7 +149,7 @@ impl Keeper {
         ensures error { IfErr result (λ error. error ≡ LogError.Full) }
         ensures refused { OnErr result (self.new ≡ self.old) }
     {
-        let _ = &self.seat;
+        let _ = &self.pass;
         let Some(number) = self.free_number() else {
             return Err(LogError::Full);
         };
@@ -166,8 +157,9 @@ impl Keeper {
         Ok(deal_consumer(log, self, number, position))
     }
 
-    /// Spends the pass of a reader, whose number is free again. The one refusal is `LogError::Last`, where no other consumer
-    /// is there; the reader comes back, and nothing has changed then.
+    /// Spends the pass of a reader, whose number is free again. The one refusal is
+    /// `LogError::Last`, where no other consumer is there; the reader comes back, and nothing has
+    /// changed then.
     pub fn leave(&mut self, log: &Log, reader: LogReader) -> Result<(), (LogReader, LogError)>
         requires fits { IsOf log.now self.old.held }
         requires reader { IsReaderOf log.now reader }
@@ -181,7 +173,7 @@ impl Keeper {
         if !self.has_other(number) {
             return Err((reader, LogError::Last));
         }
-        take_back_as::<Brand>(log, self, reader);
+        take_back(log, self, reader);
         end_consumer(log, self, number, 0);
         Ok(())
     }

@@ -4,13 +4,14 @@ ghost use Rattle.std.specs.Prelude.{◌≡◌, ◌<◌, refl, suc};
 ghost use Rattle.shared_log.specs.Readers.{IsReaderOf, misses_of};
 ghost use Rattle.shared_log.specs.Sourced.{Grows, StaysOn, frames_stay, grows_on, source_of, stays_on};
 
-use crate::log::Log;
 use crate::reader::LogReader;
 use block::Block;
 use frame_source::FrameSource;
+use log_passes::Log;
 use position::FrameHead;
 
-/// The committed frames of a log that threads share, as one of its readers gets them. Nothing is lent to it at a call.
+/// The committed frames of a log that threads share, as one of its readers gets them. Nothing is
+/// lent to it at a call.
 #[derive(Drop)]
 pub struct LogFrames<'a> {
     pub log: &'a Log,
@@ -37,7 +38,7 @@ impl<'a, L> FrameSource<L> for LogFrames<'a> {
 
     fn advance(&mut self, log: &mut L) -> u64 {
         let log = self.log;
-        let _ = &log.table;
+        let _ = log.identity();
         crate::reader::advance(log, &mut self.reader)
     }
 

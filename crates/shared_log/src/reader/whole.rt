@@ -4,8 +4,8 @@ ghost use Rattle.std.specs.Prelude.{◌≡◌, ◌<◌, ◌↔◌, IfErr, IfOk, 
 ghost use Rattle.shared_log.specs.Readers.{IsAlone, IsReaderOf, ReadsFrame};
 ghost use Rattle.shared_log.specs.Whole.{LeavesUnread};
 
-use crate::log::Log;
-use crate::reader::{LogReader, copy_words, look};
+use crate::reader::{LogReader, look};
+use log_passes::Log;
 use position::{FrameHead, FrameKind};
 
 /// Why no frame was read.
@@ -26,31 +26,31 @@ impl LogReader {
     }
 }
 
-/// Reads the frame that is committed where the reader stands: a message's part is copied to the front of the bytes, and
-/// the reader stays. There is none where nothing is committed yet. A part that is longer than the bytes stays unread:
-/// nothing is copied, and the reader has read what it had read before.
+/// Reads the frame that is committed where the reader stands: a message's part is copied to the
+/// front of the bytes, and the reader stays. There is none where nothing is committed yet. A part
+/// that is longer than the bytes stays unread: nothing is copied, and the reader has read what it
+/// had read before.
 pub fn next_whole(log: &Log, reader: &mut LogReader, bytes: &mut [u8]) -> Result<FrameHead, Unread>
     requires fits { IsReaderOf log.now reader.old }
-    ensures found { IfOk result (λ head. ReadsFrame log.now reader.old head bytes.old reader.new bytes.new) }
+    ensures found { IfOk result (λ head. ReadsFrame log.now reader.old head bytes.old reader.new
+        bytes.new) }
     ensures read { IfOk result (λ _. reader.new.position < reader.new.read_to) }
-    ensures unread { IfErr result (λ why. LeavesUnread log.now reader.old why bytes.old reader.new bytes.new) }
+    ensures unread { IfErr result (λ why. LeavesUnread log.now reader.old why bytes.old reader.new
+        bytes.new) }
     ensures fits { IsReaderOf log.now reader.new }
     ensures alone { IsAlone log.now reader.old → IsAlone log.now reader.new }
     ensures same_length { length bytes.new ≡ length bytes.old }
 {
-    let _ = &log.table;
     let before = reader.read_to;
-    let Some(head) = look(log, reader) else {
+    let Some(head) = look(log, reader, bytes) else {
         return Err(Unread::None);
     };
     match head.kind {
         FrameKind::Data => {
-            let count = head.frame_length as usize - 32;
-            if count > bytes.len() {
+            if head.frame_length as usize - 32 > bytes.len() {
                 reader.read_to = before;
                 return Err(Unread::Longer(head));
             }
-            copy_words(log, reader, head.start, count, bytes);
         }
         FrameKind::Pad => {}
     }

@@ -1,7 +1,6 @@
 use Rattle.std.proofs.Common.{subst, sym, ◌∙◌}
 use Rattle.publication.specs.declared.refusal.Refusal.{Refusal}
-use Rattle.log_rule.specs.Claims.Handles.{PublisherValue}
-use Rattle.shared_log.specs.Handles.{IsOf, LogValue}
+use Rattle.log_passes.specs.Handles.{IsOf, LogValue, PublisherValue}
 use Rattle.claims.specs.Claimings.{DeniesMessage, GoesOn}
 use Rattle.claims.proofs.Halves.{refused_looking_at, refused_turning}
 use Rattle.claims.proofs.armed.arm.Goals as goal

@@ -1,7 +1,6 @@
 use Rattle.std.proofs.Common.{length, subst, ◌∙◌}
 use Rattle.std.specs.Prelude.{IfErr}
-use Rattle.log_rule.specs.Claims.Handles.{PublisherValue}
-use Rattle.shared_log.specs.Handles.{IsOf, LogValue}
+use Rattle.log_passes.specs.Handles.{IsOf, LogValue, PublisherValue}
 use Rattle.claims.specs.Claimings.{DeniesMessage}
 use Rattle.claims.proofs.Halves.{offer_refused}
 use Rattle.claims.proofs.claimant.offer.Goals as goal

@@ -5,7 +5,7 @@ use Rattle.theory.specs.Words.{offset_in}
 use Rattle.publication.specs.declared.pass.FrameWords.{FrameWords}
 use Rattle.publication.specs.declared.pass.Pass.{Pass}
 use Rattle.publication.specs.Steps.{addition, count_in, geometry_of, message_at, noted, opened, start_in}
-use Rattle.publication.specs.Claims.{Takes, TurnsFrom, exactly, padding_words}
+use Rattle.publication.specs.Claims.{Takes, TurnsFrom, exactly, padding_stores}
 use Rattle.publication.specs.Looks.{EndsTerm}
 use Rattle.publication.proofs.Steppings.{frames_kept, goes_as, goes_by, goes_further}
 use Rattle.publication.proofs.Adding.{full_then, granted, to_pad, tripped_call, tripped_frames, tripping}
@@ -21,9 +21,9 @@ returns-then-offset-covered-clause-part g c =
     let inside : offset_in c.add-word.result + framed_length (geometry_of (g.W.WordCalls.pass_of c.args.words.now c.args.pass.now)) c.args.size ≤ (geometry_of (g.W.WordCalls.pass_of c.args.words.now c.args.pass.now)).term_length = omega (arith, covered, offset, term, c.if-offset-covered.true) in
     let e : (g.W.WordCalls.pass_of c.add-word.new.self c.add-word.new.pass) ≡ noted (addition (g.W.WordCalls.pass_of c.args.words.now c.args.pass.now) c.args.size c.add-word.result) (opened (g.W.WordCalls.pass_of c.args.words.now c.args.pass.now) (message_at (g.W.WordCalls.pass_of c.args.words.now c.args.pass.now) c.add-word.result c.args.size)) = c.add-word.ensures.told.fits inside in
     let frames : length (g.W.WordCalls.pass_of c.add-word.new.self c.add-word.new.pass).work.frames ≡ length (g.W.WordCalls.pass_of c.args.words.now c.args.pass.now).work.frames = ap (λ (u : Pass). length u.work.frames) e in
-    goes_as g.W.WordCalls.fits g.W.WordCalls.pass_of g.W.WordCalls.name g.W.WordCalls.id g.W.WordCalls.took _ _ _ _ (exactly 0) padding_words
+    goes_as g.W.WordCalls.fits g.W.WordCalls.pass_of g.W.WordCalls.name g.W.WordCalls.id g.W.WordCalls.took _ _ _ _ (exactly 0) padding_stores
     (goes_by g.W.WordCalls.fits g.W.WordCalls.pass_of g.W.WordCalls.name g.W.WordCalls.id g.W.WordCalls.took _ _ _ _ _ c.add-word.ensures.moved c.add-word.ensures.took (ap (λ (u : Pass). u.call) e))
-    (let z : 0 ≡ padding_words (g.W.WordCalls.pass_of c.args.words.now c.args.pass.now) (g.W.WordCalls.pass_of c.add-word.new.self c.add-word.new.pass) = omega (arith, frames) in z)
+    (let z : 0 ≡ padding_stores (g.W.WordCalls.pass_of c.args.words.now c.args.pass.now) (g.W.WordCalls.pass_of c.add-word.new.self c.add-word.new.pass) = omega (arith, frames) in z)
 
 pub returns-then-offset-covered-clause-accepted : goal.returns-then-offset-covered-clause-accepted
 returns-then-offset-covered-clause-accepted g c =
@@ -57,8 +57,8 @@ returns-clause-part g c =
     let over : (geometry_of (g.W.WordCalls.pass_of c.args.words.now c.args.pass.now)).term_length < offset_in c.add-word.result + framed_length (geometry_of (g.W.WordCalls.pass_of c.args.words.now c.args.pass.now)) c.args.size = omega (arith, covered, offset, term, c.if-offset-covered.false) in
     let before : length (g.W.WordCalls.pass_of c.add-word.new.self c.add-word.new.pass).work.frames ≡ length (g.W.WordCalls.pass_of c.args.words.now c.args.pass.now).work.frames = ap (λ (fs : List FrameWords). length fs) (tripped_frames (g.W.WordCalls.pass_of c.args.words.now c.args.pass.now) (g.W.WordCalls.pass_of c.add-word.new.self c.add-word.new.pass) c.args.size c.add-word.result c.add-word.ensures.told over) in
     let after : length (g.W.WordCalls.pass_of c.turn_from.new.words c.turn_from.new.pass).work.frames ≡ length (g.W.WordCalls.pass_of c.pad.new.words c.pad.new.pass).work.frames = frames_kept (g.W.WordCalls.pass_of c.pad.new.words c.pad.new.pass) (g.W.WordCalls.pass_of c.turn_from.new.words c.turn_from.new.pass) c.turn_from.ensures.turns.after in
-    goes_further g.W.WordCalls.fits g.W.WordCalls.pass_of g.W.WordCalls.name g.W.WordCalls.id g.W.WordCalls.took g.met.W.WordCalls.more _ _ _ _ _ _ padding_words (exactly 0) padding_words
-    (goes_further g.W.WordCalls.fits g.W.WordCalls.pass_of g.W.WordCalls.name g.W.WordCalls.id g.W.WordCalls.took g.met.W.WordCalls.more _ _ _ _ _ _ (exactly 0) padding_words padding_words
+    goes_further g.W.WordCalls.fits g.W.WordCalls.pass_of g.W.WordCalls.name g.W.WordCalls.id g.W.WordCalls.took g.met.W.WordCalls.more _ _ _ _ _ _ padding_stores (exactly 0) padding_stores
+    (goes_further g.W.WordCalls.fits g.W.WordCalls.pass_of g.W.WordCalls.name g.W.WordCalls.id g.W.WordCalls.took g.met.W.WordCalls.more _ _ _ _ _ _ (exactly 0) padding_stores padding_stores
     (goes_by g.W.WordCalls.fits g.W.WordCalls.pass_of g.W.WordCalls.name g.W.WordCalls.id g.W.WordCalls.took _ _ _ _ _ c.add-word.ensures.moved c.add-word.ensures.took (tripped_call (g.W.WordCalls.pass_of c.args.words.now c.args.pass.now) (g.W.WordCalls.pass_of c.add-word.new.self c.add-word.new.pass) c.args.size c.add-word.result c.add-word.ensures.told over))
     c.pad.ensures.part (omega (arith, before)))
     c.turn_from.ensures.part

@@ -5,7 +5,7 @@ use Rattle.publication.specs.declared.looking.Look.TheVariants as looks
 use Rattle.publication.specs.declared.pass.Pass.{Pass}
 use Rattle.publication.specs.declared.step.WordStep.{WordStep}
 use Rattle.publication.specs.declared.refusal.Refusal.{Refusal}
-use Rattle.publication.specs.Claims.{Claimed, Justified, exactly, padding_words}
+use Rattle.publication.specs.Claims.{Claimed, Justified, exactly, padding_stores}
 use Rattle.publication.specs.Looks.{Granted, Looked, Tripping}
 use Rattle.publication.proofs.Steppings.{calls_as, calls_further, frames_kept, none_padded, padded_behind}
 use Rattle.publication.proofs.Refusing.{claimed, looked_keeps, refused_at_end, refused_looking, refused_tripping}
@@ -19,18 +19,18 @@ few_added p x q size count (Err why) look granted tripped = few p q size why (re
 
 pub returns-in-Refused-clause-called : goal.returns-in-Refused-clause-called
 returns-in-Refused-clause-called g c =
-    calls_as g.W.WordCalls.fits g.W.WordCalls.pass_of g.W.WordCalls.name g.W.WordCalls.id g.W.WordCalls.took _ _ _ _ (exactly 0) padding_words c.in-Refused.ensures.called
-    (let e = frames_kept (g.W.WordCalls.pass_of c.args.words.now c.args.pass.now) (g.W.WordCalls.pass_of c.look_at.new.words c.look_at.new.pass) (looked_keeps (g.W.WordCalls.pass_of c.args.words.now c.args.pass.now) (looks.Refused c.in-Refused.refusal) (g.W.WordCalls.pass_of c.look_at.new.words c.look_at.new.pass) c.in-Refused.ensures.looked) in let z : 0 ≡ padding_words (g.W.WordCalls.pass_of c.args.words.now c.args.pass.now) (g.W.WordCalls.pass_of c.look_at.new.words c.look_at.new.pass) = omega (arith, e) in z)
+    calls_as g.W.WordCalls.fits g.W.WordCalls.pass_of g.W.WordCalls.name g.W.WordCalls.id g.W.WordCalls.took _ _ _ _ (exactly 0) padding_stores c.in-Refused.ensures.called
+    (let e = frames_kept (g.W.WordCalls.pass_of c.args.words.now c.args.pass.now) (g.W.WordCalls.pass_of c.look_at.new.words c.look_at.new.pass) (looked_keeps (g.W.WordCalls.pass_of c.args.words.now c.args.pass.now) (looks.Refused c.in-Refused.refusal) (g.W.WordCalls.pass_of c.look_at.new.words c.look_at.new.pass) c.in-Refused.ensures.looked) in let z : 0 ≡ padding_stores (g.W.WordCalls.pass_of c.args.words.now c.args.pass.now) (g.W.WordCalls.pass_of c.look_at.new.words c.look_at.new.pass) = omega (arith, e) in z)
 
 pub returns-in-UsedUp-clause-called : goal.returns-in-UsedUp-clause-called
 returns-in-UsedUp-clause-called g c =
-    calls_further g.W.WordCalls.fits g.W.WordCalls.pass_of g.W.WordCalls.name g.W.WordCalls.id g.W.WordCalls.took g.met.W.WordCalls.more _ _ _ _ _ _ (exactly 0) (exactly 0) padding_words c.in-UsedUp.ensures.called c.turn_from.ensures.part
+    calls_further g.W.WordCalls.fits g.W.WordCalls.pass_of g.W.WordCalls.name g.W.WordCalls.id g.W.WordCalls.took g.met.W.WordCalls.more _ _ _ _ _ _ (exactly 0) (exactly 0) padding_stores c.in-UsedUp.ensures.called c.turn_from.ensures.part
     (few (g.W.WordCalls.pass_of c.args.words.now c.args.pass.now) (g.W.WordCalls.pass_of c.turn_from.new.words c.turn_from.new.pass) c.args.size c.turn_from.result (refused_at_end (g.W.WordCalls.pass_of c.args.words.now c.args.pass.now) c.args.size (g.W.WordCalls.pass_of c.look_at.new.words c.look_at.new.pass) (g.W.WordCalls.pass_of c.turn_from.new.words c.turn_from.new.pass) c.turn_from.result c.in-UsedUp.count c.in-UsedUp.ensures.looked c.turn_from.ensures.turns c.turn_from.ensures.why))
     (none_padded (g.W.WordCalls.pass_of c.args.words.now c.args.pass.now) (g.W.WordCalls.pass_of c.look_at.new.words c.look_at.new.pass) (g.W.WordCalls.pass_of c.turn_from.new.words c.turn_from.new.pass) c.in-UsedUp.ensures.looked.after c.turn_from.ensures.turns.after)
 
 pub returns-in-Open-clause-called : goal.returns-in-Open-clause-called
 returns-in-Open-clause-called g c =
-    calls_further g.W.WordCalls.fits g.W.WordCalls.pass_of g.W.WordCalls.name g.W.WordCalls.id g.W.WordCalls.took g.met.W.WordCalls.more _ _ _ _ _ _ (exactly 0) padding_words padding_words c.in-Open.ensures.called c.add_frames.ensures.part
+    calls_further g.W.WordCalls.fits g.W.WordCalls.pass_of g.W.WordCalls.name g.W.WordCalls.id g.W.WordCalls.took g.met.W.WordCalls.more _ _ _ _ _ _ (exactly 0) padding_stores padding_stores c.in-Open.ensures.called c.add_frames.ensures.part
     (few_added (g.W.WordCalls.pass_of c.args.words.now c.args.pass.now) (g.W.WordCalls.pass_of c.look_at.new.words c.look_at.new.pass) (g.W.WordCalls.pass_of c.add_frames.new.words c.add_frames.new.pass) c.args.size c.in-Open.count c.add_frames.result c.in-Open.ensures.looked c.add_frames.ensures.accepted c.add_frames.ensures.refused)
     (padded_behind (g.W.WordCalls.pass_of c.args.words.now c.args.pass.now) (g.W.WordCalls.pass_of c.look_at.new.words c.look_at.new.pass) (g.W.WordCalls.pass_of c.add_frames.new.words c.add_frames.new.pass) c.in-Open.ensures.looked.after)
 

@@ -4,7 +4,7 @@ use Rattle.theory.specs.Position.{Geometry}
 use Rattle.theory.specs.Words.{offset_in}
 use Rattle.publication.specs.declared.pass.Pass.{Pass}
 use Rattle.publication.specs.Steps.{count_in, geometry_of, start_in, term_of}
-use Rattle.publication.specs.Claims.{HasBlank, exactly, padding_words}
+use Rattle.publication.specs.Claims.{HasBlank, exactly, padding_stores}
 use Rattle.publication.proofs.Padded.{blank_here, none_more, one_more, pad_in_stream, pad_long, pad_short, pads_below, pads_over}
 use Rattle.publication.proofs.Steppings.{goes_as, moves_none, took_none}
 use Rattle.publication.proofs.claiming.pad.Goals as goal
@@ -60,7 +60,7 @@ returns-then-offset-term_length-clause-part g c =
     let below : offset_in c.args.word < term_of v =
     (let term : c.term_length.result ≡ term_of v = c.term_length.ensures.value ∙ ap (λ (h : Geometry). h.term_length) geometry in subst (λ (x : ℕ × ℕ). x.0 < x.1) (λ j. (offset j, term j)) c.if-offset-term_length.true) in
     let blank : HasBlank v c.position_at-start.result (c.term_length-then-offset-term_length.result - c.term_offset-offset.result) = blank_here v c.args.word c.position_at-start.result (c.term_length-then-offset-term_length.result - c.term_offset-offset.result) at long (c.requires.draft.draft below) in
-    goes_as g.W.WordCalls.fits g.W.WordCalls.pass_of g.W.WordCalls.name g.W.WordCalls.id g.W.WordCalls.took _ _ _ _ (exactly 4) padding_words c.fill_padding.ensures.part (one_more v (g.W.WordCalls.pass_of c.fill_padding.new.self c.fill_padding.new.pass) c.position_at-start.result (c.term_length-then-offset-term_length.result - c.term_offset-offset.result) blank c.fill_padding.ensures.fills)
+    goes_as g.W.WordCalls.fits g.W.WordCalls.pass_of g.W.WordCalls.name g.W.WordCalls.id g.W.WordCalls.took _ _ _ _ (exactly 1) padding_stores c.fill_padding.ensures.part (one_more v (g.W.WordCalls.pass_of c.fill_padding.new.self c.fill_padding.new.pass) c.position_at-start.result (c.term_length-then-offset-term_length.result - c.term_offset-offset.result) blank c.fill_padding.ensures.fills)
 
 pub returns-then-offset-term_length-clause-pads : goal.returns-then-offset-term_length-clause-pads
 returns-then-offset-term_length-clause-pads g c =
@@ -78,7 +78,7 @@ returns-then-offset-term_length-clause-pads g c =
 
 pub returns-else-offset-term_length-clause-part : goal.returns-else-offset-term_length-clause-part
 returns-else-offset-term_length-clause-part g c =
-    goes_as g.W.WordCalls.fits g.W.WordCalls.pass_of g.W.WordCalls.name g.W.WordCalls.id g.W.WordCalls.took _ _ _ _ (exactly 0) padding_words
+    goes_as g.W.WordCalls.fits g.W.WordCalls.pass_of g.W.WordCalls.name g.W.WordCalls.id g.W.WordCalls.took _ _ _ _ (exactly 0) padding_stores
     (record { moved = moves_none g.W.WordCalls.fits g.W.WordCalls.pass_of g.W.WordCalls.name g.W.WordCalls.id _ _ c.requires.fits; took = took_none g.W.WordCalls.took g.W.WordCalls.pass_of _ _ (g.met.W.WordCalls.none _ _) })
     (none_more (g.W.WordCalls.pass_of c.args.words.now c.args.pass.now))
 

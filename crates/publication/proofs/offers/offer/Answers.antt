@@ -6,9 +6,8 @@ use Rattle.theory.specs.Refusal.{IsJustified}
 use Rattle.publication.specs.declared.refusal.Refusal.{Refusal}
 use Rattle.publication.specs.declared.step.WordStep.{WordStep}
 use Rattle.publication.specs.Steps.{geometry_of}
-use Rattle.publication.specs.Frames.{stored_words}
 use Rattle.publication.specs.Refusals.{sights, why_of}
-use Rattle.publication.specs.Claims.{Justified, message_words, padding_words}
+use Rattle.publication.specs.Claims.{Justified, message_stores, padding_stores}
 use Rattle.publication.proofs.Steppings.{calls_further}
 use Rattle.publication.proofs.Justifying.{justified}
 use Rattle.publication.proofs.Offering.{claimed_blanks, claimed_identity, claimed_nothing, filled_call, offered}
@@ -34,7 +33,7 @@ pub returns-clause-called : goal.returns-clause-called
 returns-clause-called g c =
     let claimed = c.in_ok-start.ensures.accepted in
     let few : length (g.W.WordCalls.pass_of c.write_message.new.words c.write_message.new.pass).call ≤ 7 = (let same : length (g.W.WordCalls.pass_of c.write_message.new.words c.write_message.new.pass).call ≡ length (g.W.WordCalls.pass_of c.claim.new.words c.claim.new.pass).call = ap (λ (l : List WordStep). length l) (filled_call (g.W.WordCalls.pass_of c.claim.new.words c.claim.new.pass) (g.W.WordCalls.pass_of c.write_message.new.words c.write_message.new.pass) c.in_ok-start.start c.args.message.now (claimed_blanks (g.W.WordCalls.pass_of c.args.words.now c.args.pass.now) (g.W.WordCalls.pass_of c.claim.new.words c.claim.new.pass) (length c.args.message.now) c.in_ok-start.start c.in_ok-start.ensures.accepted) c.write_message.ensures.fills) in omega (arith, same, c.in_ok-start.ensures.called.few)) in
-    calls_further g.W.WordCalls.fits g.W.WordCalls.pass_of g.W.WordCalls.name g.W.WordCalls.id g.W.WordCalls.took g.met.W.WordCalls.more _ _ _ _ _ _ padding_words (message_words (length c.args.message.now)) (message_words (length c.args.message.now)) c.in_ok-start.ensures.called c.write_message.ensures.part few
-    (ap (λ (n : ℕ). n + stored_words (cuts_of (geometry_of (g.W.WordCalls.pass_of c.claim.new.words c.claim.new.pass)) (length c.args.message.now))) (claimed_nothing (g.W.WordCalls.pass_of c.args.words.now c.args.pass.now) (g.W.WordCalls.pass_of c.claim.new.words c.claim.new.pass) (length c.args.message.now) c.in_ok-start.start claimed)
-    ∙ (let e : 0 + stored_words (cuts_of (geometry_of (g.W.WordCalls.pass_of c.claim.new.words c.claim.new.pass)) (length c.args.message.now)) ≡ stored_words (cuts_of (geometry_of (g.W.WordCalls.pass_of c.claim.new.words c.claim.new.pass)) (length c.args.message.now)) = omega arith in e)
-    ∙ ap (λ (i : Identity). stored_words (cuts_of i.geometry (length c.args.message.now))) (claimed_identity (g.W.WordCalls.pass_of c.args.words.now c.args.pass.now) (g.W.WordCalls.pass_of c.claim.new.words c.claim.new.pass) (length c.args.message.now) c.in_ok-start.start claimed))
+    calls_further g.W.WordCalls.fits g.W.WordCalls.pass_of g.W.WordCalls.name g.W.WordCalls.id g.W.WordCalls.took g.met.W.WordCalls.more _ _ _ _ _ _ padding_stores (message_stores (length c.args.message.now)) (message_stores (length c.args.message.now)) c.in_ok-start.ensures.called c.write_message.ensures.part few
+    (ap (λ (n : ℕ). n + length (cuts_of (geometry_of (g.W.WordCalls.pass_of c.claim.new.words c.claim.new.pass)) (length c.args.message.now))) (claimed_nothing (g.W.WordCalls.pass_of c.args.words.now c.args.pass.now) (g.W.WordCalls.pass_of c.claim.new.words c.claim.new.pass) (length c.args.message.now) c.in_ok-start.start claimed)
+    ∙ (let e : 0 + length (cuts_of (geometry_of (g.W.WordCalls.pass_of c.claim.new.words c.claim.new.pass)) (length c.args.message.now)) ≡ length (cuts_of (geometry_of (g.W.WordCalls.pass_of c.claim.new.words c.claim.new.pass)) (length c.args.message.now)) = omega arith in e)
+    ∙ ap (λ (i : Identity). length (cuts_of i.geometry (length c.args.message.now))) (claimed_identity (g.W.WordCalls.pass_of c.args.words.now c.args.pass.now) (g.W.WordCalls.pass_of c.claim.new.words c.claim.new.pass) (length c.args.message.now) c.in_ok-start.start claimed))

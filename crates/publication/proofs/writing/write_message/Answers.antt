@@ -1,11 +1,11 @@
-use Rattle.std.proofs.Common.{◌≡◌, ℕ, ◌+◌, ◌-◌, ◌<◌, ◌≤◌, arith, refl, sym, ap, ◌∙◌, subst, length, take, drop, length-drop, List, [], ◌∷◌, false}
+use Rattle.std.proofs.Common.{◌≡◌, ℕ, ◌+◌, ◌-◌, ◌<◌, ◌≤◌, arith, refl, sym, ap, ◌∙◌, subst, length, take, drop, length-drop, List, false}
 use Rattle.std.proofs.lemmas.List.{length-take-le}
 use Rattle.theory.specs.Bytes.{Identity}
 use Rattle.theory.specs.Placed.{Data}
 use Rattle.theory.specs.Position.{Geometry, IsGeometry, cuts_of, framed_length, max_payload}
 use Rattle.publication.specs.Steps.{geometry_of}
-use Rattle.publication.specs.Frames.{frame_flags, stored_words}
-use Rattle.publication.specs.Claims.{Fills, HasBlank, exactly, message_words}
+use Rattle.publication.specs.Frames.{frame_flags}
+use Rattle.publication.specs.Claims.{Fills, HasBlank, exactly, message_stores}
 use Rattle.publication.specs.Offers.{FillsAll, HasBlanks}
 use Rattle.publication.proofs.Steppings.{goes_further, moves, moves_none, took_more, took_none}
 use Rattle.publication.proofs.Messages.{begins_in, fits_frame, full_blank, full_filled, full_framed, full_left, full_shape, full_stored, last_blank, last_filled, last_stored, part_fits}
@@ -46,15 +46,14 @@ loop-rest-preserved g c =
     let at : c.loop-rest.at + (geometry_of (g.W.WordCalls.pass_of c.args.words.now c.args.pass.now)).mtu ≡ c.loop-rest.at + c.from-at.result = ap (λ (n : ℕ). c.loop-rest.at + n) (sym mtu) in
     let part_long : length c.split_at.result.0.now ≡ max_payload (geometry_of (g.W.WordCalls.pass_of c.args.words.now c.args.pass.now)) = ap (λ (xs : List ℕ). length xs) front ∙ length-take-le (max_payload (geometry_of (g.W.WordCalls.pass_of c.args.words.now c.args.pass.now))) c.loop-rest.rest.now (omega (arith, high)) in
     let back_long : length c.split_at.result.1.now ≡ length c.loop-rest.rest.now - max_payload (geometry_of (g.W.WordCalls.pass_of c.args.words.now c.args.pass.now)) = ap (λ (xs : List ℕ). length xs) back ∙ length-drop (max_payload (geometry_of (g.W.WordCalls.pass_of c.args.words.now c.args.pass.now))) c.loop-rest.rest.now in
-    let part_stored : stored_words ((32 + length c.split_at.result.0.now) ∷ []) ≡ stored_words ((32 + max_payload (geometry_of (g.W.WordCalls.pass_of c.args.words.now c.args.pass.now))) ∷ []) = ap (λ (n : ℕ). stored_words ((32 + n) ∷ [])) part_long in
-    let back_stored : stored_words (cuts_of (geometry_of (g.W.WordCalls.pass_of c.args.words.now c.args.pass.now)) (length c.split_at.result.1.now)) ≡ stored_words (cuts_of (geometry_of (g.W.WordCalls.pass_of c.args.words.now c.args.pass.now)) (length c.loop-rest.rest.now - max_payload (geometry_of (g.W.WordCalls.pass_of c.args.words.now c.args.pass.now)))) = ap (λ (n : ℕ). stored_words (cuts_of (geometry_of (g.W.WordCalls.pass_of c.args.words.now c.args.pass.now)) n)) back_long in
+    let back_stored : length (cuts_of (geometry_of (g.W.WordCalls.pass_of c.args.words.now c.args.pass.now)) (length c.split_at.result.1.now)) ≡ length (cuts_of (geometry_of (g.W.WordCalls.pass_of c.args.words.now c.args.pass.now)) (length c.loop-rest.rest.now - max_payload (geometry_of (g.W.WordCalls.pass_of c.args.words.now c.args.pass.now)))) = ap (λ (n : ℕ). length (cuts_of (geometry_of (g.W.WordCalls.pass_of c.args.words.now c.args.pass.now)) n)) back_long in
     let back_framed : framed_length (geometry_of (g.W.WordCalls.pass_of c.args.words.now c.args.pass.now)) (length c.split_at.result.1.now) ≡ framed_length (geometry_of (g.W.WordCalls.pass_of c.args.words.now c.args.pass.now)) (length c.loop-rest.rest.now - max_payload (geometry_of (g.W.WordCalls.pass_of c.args.words.now c.args.pass.now))) = ap (λ (n : ℕ). framed_length (geometry_of (g.W.WordCalls.pass_of c.args.words.now c.args.pass.now)) n) back_long in
     record {
       moved = moves g.W.WordCalls.fits g.W.WordCalls.pass_of g.W.WordCalls.name g.W.WordCalls.id _ _ _ _ _ _ c.loop-rest.invariant.moved c.fill_data.ensures.part.moved;
       took = (
-        c.loop-rest.invariant.took.0 + stored_words ((32 + length c.split_at.result.0.now) ∷ []),
-        took_more g.W.WordCalls.took g.W.WordCalls.pass_of g.met.W.WordCalls.more _ _ _ _ _ _ c.loop-rest.invariant.took.0 (stored_words ((32 + length c.split_at.result.0.now) ∷ [])) _ c.loop-rest.invariant.took.1 c.fill_data.ensures.part.took refl,
-        omega (arith, part_stored, back_stored, full_stored (geometry_of (g.W.WordCalls.pass_of c.args.words.now c.args.pass.now)) legal (length c.loop-rest.rest.now) high, c.loop-rest.invariant.took.2),
+        c.loop-rest.invariant.took.0 + 1,
+        took_more g.W.WordCalls.took g.W.WordCalls.pass_of g.met.W.WordCalls.more _ _ _ _ _ _ c.loop-rest.invariant.took.0 1 _ c.loop-rest.invariant.took.1 c.fill_data.ensures.part.took refl,
+        omega (arith, back_stored, full_stored (geometry_of (g.W.WordCalls.pass_of c.args.words.now c.args.pass.now)) legal (length c.loop-rest.rest.now) high, c.loop-rest.invariant.took.2),
       );
       shape = full_shape (geometry_of (g.W.WordCalls.pass_of c.args.words.now c.args.pass.now)) legal c.loop-rest.rest.now high (g.W.WordCalls.pass_of c.loop-rest.words c.loop-rest.pass) c.loop-rest.invariant.shape c.loop-rest.first c.loop-rest.at (g.W.WordCalls.pass_of c.fill_data.new.self c.fill_data.new.pass) fills c.loop-rest.invariant.blanks;
       blanks = subst (λ (n : ℕ). HasBlanks (g.W.WordCalls.pass_of c.fill_data.new.self c.fill_data.new.pass) n (cuts_of (geometry_of (g.W.WordCalls.pass_of c.fill_data.new.self c.fill_data.new.pass)) (length c.split_at.result.1.now))) at (subst (λ (xs : List ℕ). HasBlanks (g.W.WordCalls.pass_of c.fill_data.new.self c.fill_data.new.pass) (c.loop-rest.at + (geometry_of (g.W.WordCalls.pass_of c.args.words.now c.args.pass.now)).mtu) (cuts_of (geometry_of (g.W.WordCalls.pass_of c.fill_data.new.self c.fill_data.new.pass)) (length xs))) (sym back) (full_left (geometry_of (g.W.WordCalls.pass_of c.args.words.now c.args.pass.now)) legal c.loop-rest.rest.now high (g.W.WordCalls.pass_of c.loop-rest.words c.loop-rest.pass) c.loop-rest.invariant.shape c.loop-rest.first c.loop-rest.at (g.W.WordCalls.pass_of c.fill_data.new.self c.fill_data.new.pass) fills c.loop-rest.invariant.blanks));
@@ -69,7 +68,7 @@ returns-clause-part g c =
     let legal : IsGeometry (geometry_of (g.W.WordCalls.pass_of c.args.words.now c.args.pass.now)) = subst IsGeometry geometry c.geometry-geometry.ensures.legal in
     let most : c.max_payload-most.result ≡ max_payload (geometry_of (g.W.WordCalls.pass_of c.args.words.now c.args.pass.now)) = c.max_payload-most.ensures.value ∙ ap max_payload geometry in
     let low : length c.loop-rest.rest.now ≤ max_payload (geometry_of (g.W.WordCalls.pass_of c.args.words.now c.args.pass.now)) = omega (arith, most, c.loop-rest-test.false) in
-    goes_further g.W.WordCalls.fits g.W.WordCalls.pass_of g.W.WordCalls.name g.W.WordCalls.id g.W.WordCalls.took g.met.W.WordCalls.more _ _ _ _ _ _ (exactly c.loop-rest.invariant.took.0) (exactly (stored_words ((32 + length c.loop-rest.rest.now) ∷ []))) (message_words (length c.args.message.now)) record { moved = c.loop-rest.invariant.moved; took = c.loop-rest.invariant.took.1 } c.fill_data-2.ensures.part
+    goes_further g.W.WordCalls.fits g.W.WordCalls.pass_of g.W.WordCalls.name g.W.WordCalls.id g.W.WordCalls.took g.met.W.WordCalls.more _ _ _ _ _ _ (exactly c.loop-rest.invariant.took.0) (exactly 1) (message_stores (length c.args.message.now)) record { moved = c.loop-rest.invariant.moved; took = c.loop-rest.invariant.took.1 } c.fill_data-2.ensures.part
     (omega (arith, last_stored (geometry_of (g.W.WordCalls.pass_of c.args.words.now c.args.pass.now)) (length c.loop-rest.rest.now) low, c.loop-rest.invariant.took.2))
 
 pub returns-clause-fills : goal.returns-clause-fills

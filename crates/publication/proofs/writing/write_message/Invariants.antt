@@ -2,7 +2,6 @@ use Rattle.std.proofs.Common.{◌≡◌, ℕ, ◌+◌, ◌≤◌, length, true}
 use Rattle.theory.specs.Position.{cuts_of, framed_length, max_message, max_position}
 use Rattle.publication.specs.declared.pass.Pass.{Pass}
 use Rattle.publication.specs.Steps.{Moved, geometry_of}
-use Rattle.publication.specs.Frames.{stored_words}
 use Rattle.publication.specs.Claims.{TookMore}
 use Rattle.publication.specs.Offers.{FillsAll, HasBlanks}
 use Rattle.publication.proofs.writing.write_message.Given as goal
@@ -14,7 +13,7 @@ invariant-loop-rest g l =
     let now : Pass = g.W.WordCalls.pass_of l.words l.pass in
     record {
       moved : Moved g.W.WordCalls.fits g.W.WordCalls.pass_of g.W.WordCalls.name g.W.WordCalls.id l.initial.words l.initial.pass l.words l.pass;
-      took : (done : ℕ) × TookMore g.W.WordCalls.took g.W.WordCalls.pass_of l.initial.words l.initial.pass l.words l.pass done × (done + stored_words (cuts_of (geometry_of old) (length l.rest)) ≡ stored_words (cuts_of (geometry_of old) (length l.message)));
+      took : (done : ℕ) × TookMore g.W.WordCalls.took g.W.WordCalls.pass_of l.initial.words l.initial.pass l.words l.pass done × (done + length (cuts_of (geometry_of old) (length l.rest)) ≡ length (cuts_of (geometry_of old) (length l.message)));
       shape : geometry_of now ≡ geometry_of old;
       blanks : HasBlanks now l.at (cuts_of (geometry_of now) (length l.rest));
       fills : (w : Pass) → FillsAll now l.first l.at l.rest w → FillsAll old true l.start l.message w;

@@ -2,7 +2,7 @@ use Rattle.std.proofs.Common.{◌≡◌, ◌∙◌, ℕ, IfSome, length, subst, 
 use Rattle.theory.specs.Bytes.{Identity}
 use Rattle.position.specs.Openings.{IsStart}
 use Rattle.options.specs.declared.ends.plans.PublishPlan.{PublishPlan}
-use Rattle.shared_log.specs.Handles.{LogValue}
+use Rattle.log_passes.specs.Handles.{LogValue}
 use Rattle.shared_log.specs.Keepers.{KeeperValue}
 use Rattle.shared_log.specs.Readers.{IsReaderOf, ReaderValue}
 use Rattle.sender_meaning.specs.StreamLives.{StreamLived}

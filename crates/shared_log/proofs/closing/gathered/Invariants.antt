@@ -2,9 +2,6 @@ use Rattle.std.proofs.Common.{◌≡◌, vec_len}
 use Rattle.shared_log.proofs.Gathered.{IsGathering}
 use Rattle.shared_log.proofs.closing.gathered.Given as goal
 
-abbrev pub ghosts-gather_as : goal.ghosts-gather_as
-ghosts-gather_as a = record { identity = a.log.now.identity; start = a.log.now.start }
-
 abbrev pub invariant-loop-publisher : goal.invariant-loop-publisher
 invariant-loop-publisher l = (l.log ≡ l.fn.log) × (l.start ≡ l.fn.log.start) × IsGathering l.fn.log l.fn.keeper.held.pass.reading l.fn.publishers.items l.publishers.items l.shares l.tail l.keeper.held
 

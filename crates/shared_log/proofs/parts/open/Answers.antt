@@ -1,4 +1,4 @@
-use Rattle.std.proofs.Common.{◌≡◌, ℕ, ◌+◌, ◌≤◌, length, rules, arith}
+use Rattle.std.proofs.Common.{◌≡◌, ℕ, ◌+◌, ◌≤◌, length, rules, ap, is_ok, true≢false, arith}
 use Rattle.shared_log.proofs.Dealt.{readers_alone, readers_of}
 use Rattle.shared_log.proofs.parts.open.Goals as goal
 
@@ -16,3 +16,9 @@ returns-clause-parts c =
       all = all;
       keeper_is = search rules;
     }
+
+pub returns-clause-start : goal.returns-clause-start
+returns-clause-start c = (λ e _. true≢false (ap is_ok e), λ no. absurd (no c.in_ok-log.ensures.in_range.0))
+
+pub returns-clause-consumers : goal.returns-clause-consumers
+returns-clause-consumers c = (λ e. absurd (true≢false (ap is_ok e)), λ h. absurd (h.1 c.in_ok-log.ensures.in_range.1))

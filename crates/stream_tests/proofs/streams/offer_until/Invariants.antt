@@ -1,4 +1,4 @@
-use Rattle.shared_log.specs.Handles.{IsOf}
+use Rattle.log_passes.specs.Handles.{IsOf}
 use Rattle.stream_tests.proofs.streams.offer_until.Given as goal
 
 abbrev pub invariant-loop : goal.invariant-loop

@@ -5,4 +5,4 @@ use Rattle.shared_log.proofs.Joined.{flag_is}
 use Rattle.shared_log.proofs.keeper.Keeper.has_consumer.Goals as goal
 
 pub returns : goal.returns
-returns c = ap (λ (k : KeeperValue). slice_index (there_of k) c.args.number) (sym c.self.view_is) ∙ ap (λ l. slice_index l c.args.number) c.self.invariant.2.flags ∙ flag_is c.self.inside.there c.args.number
+returns c = ap (λ (k : KeeperValue). slice_index (there_of k) c.args.number) (sym c.self.view_is) ∙ ap (λ l. slice_index l c.args.number) c.self.invariant.knows.flags ∙ flag_is c.self.inside.there c.args.number

@@ -1,5 +1,0 @@
-use Rattle.memory_log.proofs.Sweeping.{SweepsSome}
-use Rattle.memory_log.proofs.keeper.sweep.Given as goal
-
-abbrev pub invariant-loop-number : goal.invariant-loop-number
-invariant-loop-number l = SweepsSome l.log l.fn.keeper l.number l.least l.keeper

@@ -1,4 +1,0 @@
-use Rattle.shared_log.proofs.log.Log.renumber.Given as goal
-
-abbrev pub ghosts-renumber_as : goal.ghosts-renumber_as
-ghosts-renumber_as a = record { number = a.number }

@@ -1,5 +1,0 @@
-use Rattle.shared_log.proofs.Together.{never_falls}
-use Rattle.shared_log.proofs.publisher.meeting.meets_never_fall.Goals as goal
-
-pub returns : goal.returns
-returns c = never_falls
