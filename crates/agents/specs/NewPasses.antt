@@ -4,7 +4,7 @@ use Rattle.theory.specs.Bytes.{Identity}
 use Rattle.shared_log.specs.Handles.{AreNew}
 use Rattle.log_passes.specs.Handles.{IsLogOf}
 use Rattle.shared_log.specs.Parts.{IsNewKeeper, IsNewReader}
-use Rattle.agents.specs.declared.log_passes.LogPasses.{LogPasses}
+use Rattle.agents.specs.declared.passes.LogPasses.{LogPasses}
 
 -- a log of this stream that begins there, its eight publishers by their numbers, its one reader, and its keeper
 pub record AreNewPasses (identity : Identity) (start : ℕ) (p : LogPasses) : Type 0 where

@@ -8,6 +8,7 @@ ghost use Rattle.log_memory.specs.Rule.{ring};
 use crate::rule::LogMemoryRule;
 use crate::view::{LogView, Site};
 use atomic_table::Table;
+use log_rule::{DATA, LINE};
 use position::Geometry;
 use region::{Access, Region, RegionStart};
 use std::alloc::Global;
@@ -87,5 +88,21 @@ impl LogMemory {
     {
         let _ = &self.table;
         32 * self.place(position)
+    }
+
+    /// A word of the table, for tests, which have the log to themselves then: the words of the
+    /// units, the limit, the active count, the three raw tails, the eight consumer positions.
+    /// Nothing is promised of its value.
+    pub fn peek(&mut self, index: usize) -> u64
+        requires { index < ring self.old.table.shared.key + 13 }
+        ensures { self.new ≡ self.old }
+    {
+        let words = self.units as usize;
+        let place = if index < words {
+            index + DATA
+        } else {
+            (index - words) * LINE
+        };
+        self.table.shared.peek(place)
     }
 }

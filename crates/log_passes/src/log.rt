@@ -1,6 +1,6 @@
 //! A log that threads share.
 
-ghost use Rattle.std.specs.Prelude.{◌≡◌, ◌<◌, ◌≤◌};
+ghost use Rattle.std.specs.Prelude.{◌≡◌, ◌+◌, ◌*◌, ◌/◌, ◌<◌, ◌≤◌};
 ghost use Rattle.theory.specs.Position.{IsGeometry, max_position};
 
 use log_memory::LogMemory;
@@ -60,5 +60,16 @@ impl Log {
         ensures some { (0 < self.now.consumers) × (self.now.consumers ≤ 8) }
     {
         self.consumers
+    }
+
+    /// A word of the log, for tests, which have it to themselves then: the first words of the frames
+    /// in three terms, one for each unit of 32 bytes, which is zero where none begins; the limit with
+    /// its flags, the active count, the three raw tails, the eight consumer positions. Nothing is
+    /// promised of its value. No step is counted.
+    pub fn peek(&mut self, index: usize) -> u64
+        requires { index < 3 * (self.old.identity.geometry.term_length / 32) + 13 }
+        ensures { self.new ≡ self.old }
+    {
+        self.memory.peek(index)
     }
 }

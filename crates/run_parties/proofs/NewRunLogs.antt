@@ -15,7 +15,7 @@ use Rattle.shared_log.specs.Books.{IsDone}
 use Rattle.shared_log.specs.Parts.{IsNewKeeper, IsNewReader}
 use Rattle.agents.proofs.NewPublishers.{are_done}
 use Rattle.agents.specs.NewPasses.{AreNewPasses}
-use Rattle.agents.specs.declared.log_passes.LogPasses.{LogPasses}
+use Rattle.agents.specs.declared.passes.LogPasses.{LogPasses}
 use Rattle.run_parties.specs.Passes.{HasNone, IsKept}
 use Rattle.run_parties.specs.RunLogs.{IsNewRunLog, IsRunLog}
 use Rattle.run_parties.specs.declared.run_log.RunLog.{RunLog}

@@ -2,7 +2,7 @@ use Rattle.std.proofs.Common.{rules, ◌≡◌, slice_index_or, length, List, []
 use Rattle.log_passes.specs.Handles.{LogValue}
 use Rattle.shared_log.specs.Parts.{AreReaders, IsNewReader}
 use Rattle.shared_log.specs.Readers.{ReaderValue}
-use Rattle.agents.proofs.log_passes.open_log.Goals as goal
+use Rattle.agents.proofs.passes.open_log.Goals as goal
 
 first_new : (l : LogValue) (rs : List ReaderValue) (r : ReaderValue) → AreReaders l 0 rs → length rs ≡ 1 → r ≡ slice_index_or rs 0 r → IsNewReader l 0 r
 first_new l [] r are one is = absurd (omega (arith, one))
