@@ -38,7 +38,7 @@ use Rattle.publisher.specs.Farewells.{are_told_alone}
 use Rattle.publisher.specs.Judging.{end_in}
 use Rattle.publisher.specs.Seeing.{ChannelDestination}
 use Rattle.publisher.specs.declared.sender_thread.SenderPasses.{SenderPasses}
-use Rattle.channel_meaning.proofs.WorldRows.{book, ends_input, first, input, is_of_other, last, log, other, planned, reading, shows, table, taken}
+use Rattle.channel_meaning.proofs.WorldRows.{book, ends_input, first, input, is_of_other, last, log, other, planned, reading, place, shows, taken}
 
 -- ---- what its reader knows: the first frame, or both
 
@@ -67,7 +67,7 @@ abbrev pub reads : ℕ → List FrameWords → ℕ → LogFrames
 reads at known misses = record {
   log = record { ref_ptr = (0, 0); now = log };
   reader = record {
-    held = record { of = table; seat = 2; pass = reader_alone identity 0 (record { number = 0; position = at; known = known; misses = misses }); steps = 0; controls = no_controls; sure = 0 };
+    held = record { of = place; seat = 2; pass = reader_alone identity 0 (record { number = 0; position = at; known = known; misses = misses }); steps = 0; controls = no_controls; sure = 0; freed = 0 };
     place = 0;
     number = 0;
     position = at;

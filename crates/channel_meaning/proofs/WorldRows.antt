@@ -11,7 +11,7 @@ use Rattle.theory.proofs.Rows.{abc, identity, the_geometry}
 use Rattle.theory.proofs.UnitRows.{legal}
 use Rattle.frame_words.specs.Words.{frame_words}
 use Rattle.publication.specs.Steps.{Extent, works}
-use Rattle.log_passes.specs.Handles.{IsOf, LogValue, PublisherValue}
+use Rattle.log_passes.specs.Handles.{LogId, IsOf, LogValue, PublisherValue}
 use Rattle.log_rule.specs.Claims.Plays.{newcomer}
 use Rattle.log_rule.specs.Claims.Rule.{IsClaimEntry, entries_of}
 use Rattle.log_rule.specs.Claims.Sure.{no_controls}
@@ -35,11 +35,14 @@ use Rattle.channel_meaning.specs.Streams.{IsItsStream}
 abbrev pub table : TableId
 table = record { words = 0; slots = 0; views_name = 0; atom = 0; block = 0; offset = 0; slot_names = [] }
 
+abbrev pub place : LogId
+place = record { table = table; region = record { life = 0; names = []; block = 0; first = 0 } }
+
 abbrev pub log : LogValue
-log = record { table = table; identity = identity; start = 0; consumers = 1 }
+log = record { table = place; identity = identity; start = 0; consumers = 1 }
 
 abbrev pub first : PublisherValue
-first = record { of = table; seat = 0; pass = newcomer identity 0 0 176; steps = 0; controls = no_controls; sure = 0 }
+first = record { of = place; seat = 0; pass = newcomer identity 0 0 176; steps = 0; controls = no_controls; sure = 0; freed = 0 }
 
 abbrev pub taken : List Taken
 taken = Message 0 abc ∷ Message 64 ab ∷ []

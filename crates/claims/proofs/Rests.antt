@@ -16,7 +16,7 @@ use Rattle.publication.specs.declared.step.WordStep.{WordStep}
 use Rattle.publication.specs.declared.step.WordStep.TheVariants as steps
 use Rattle.publication.specs.Steps.{Keeps, blank, blanks, geometry_of, message_at, opened, seeing, start_in, term_of, with_work}
 use Rattle.publication.specs.Frames.{frame_at, message_frames}
-use Rattle.publication.specs.Claims.{Claimed, Fills, HasBlank, Justified, Leaves, LeavesPadding, padded, padding_words}
+use Rattle.publication.specs.Claims.{Claimed, Fills, HasBlank, Justified, Leaves, LeavesPadding, padded, padding_stores}
 use Rattle.publication.specs.Looks.{Granted, LookedAt, Tripping}
 use Rattle.publication.specs.Offers.{Offered}
 use Rattle.log_rule.specs.Claims.Admits.{Same}
@@ -84,7 +84,7 @@ pub granted_same : (p : Pass) (count size start : ℕ) (q : Pass) → Granted p 
 granted_same p count size start q h = alike p (seeing (opened p (message_at p h.word size)) q) q h.after (record { identity = refl; start = refl; number = refl; parts = refl; numbers = refl; reading = refl; keeping = refl })
 
 -- it committed nothing
-pub granted_nothing : (p : Pass) (count size start : ℕ) (q : Pass) → Granted p count size start q → padding_words p q ≡ 0
+pub granted_nothing : (p : Pass) (count size start : ℕ) (q : Pass) → Granted p count size start q → padding_stores p q ≡ 0
 granted_nothing p count size start q h = let e = ap (λ (v : Pass). length v.work.frames) h.after in omega (arith, e)
 
 pub offered_same : (p : Pass) (message : List ℕ) (end : ℕ) (q : Pass) → Offered p message end q → Same p q

@@ -7,14 +7,14 @@ use Rattle.publication.specs.declared.step.WordStep.{WordStep}
 use Rattle.publication.specs.Steps.{with_work}
 use Rattle.publication.specs.Frames.{frame_at}
 use Rattle.publication.specs.Refusals.{SightsJustify}
-use Rattle.publication.specs.Claims.{Justified, message_words, padding_words}
+use Rattle.publication.specs.Claims.{Justified, message_stores, padding_stores}
 use Rattle.publication.specs.Looks.{Granted, LookedAt, Tripping}
 use Rattle.publication.specs.Offers.{Offered, Opened}
 use Rattle.log_rule.specs.Claims.Admits.{Same}
 use Rattle.log_passes.specs.Handles.{IsOf, LogValue, PublisherValue, Took}
 use Rattle.claims.specs.Holdings.{ArmedValue, ClaimValue}
 
--- a call that is whole: all its word steps, seven at the most, and so many words stored; its number and its parts stay
+-- a call that is whole: all its word steps, seven at the most, and so many frames stored; its number and its parts stay
 pub record IsCall (l : LogValue) (p : PublisherValue) (stored : ℕ) (q : PublisherValue) : Type 0 where
   pub of : IsOf l q
   pub same : Same p.pass q.pass
@@ -31,12 +31,12 @@ pub record GoesOn (l : LogValue) (p : PublisherValue) (stored : ℕ) (q : Publis
 
 -- a message was accepted
 pub record AcceptsMessage (l : LogValue) (p : PublisherValue) (message : List ℕ) (end : ℕ) (q : PublisherValue) : Type 0 where
-  pub call : IsCall l p (message_words (length message) p.pass q.pass) q
+  pub call : IsCall l p (message_stores (length message) p.pass q.pass) q
   pub offered : Offered p.pass message end q.pass
 
 -- a message of this many bytes was refused, by what the call loaded or added to
 pub record DeniesMessage (l : LogValue) (p : PublisherValue) (size : ℕ) (why : Refusal) (q : PublisherValue) : Type 0 where
-  pub call : IsCall l p (padding_words p.pass q.pass) q
+  pub call : IsCall l p (padding_stores p.pass q.pass) q
   pub refused : Justified p.pass size why q.pass
   pub justified : SightsJustify p.pass size why q.pass
 
@@ -56,7 +56,7 @@ pub record AddsRange (l : LogValue) (a : ArmedValue) (c : ClaimValue) : Type 0 w
 
 -- it passed the end of its term
 pub record TripsTerm (l : LogValue) (a : ArmedValue) (why : Refusal) (q : PublisherValue) : Type 0 where
-  pub more : GoesOn l a.publisher (padding_words a.publisher.pass q.pass) q
+  pub more : GoesOn l a.publisher (padding_stores a.publisher.pass q.pass) q
   pub tripped : Tripping a.publisher.pass a.count a.size why q.pass
 
 -- one claim more, for a message of this many bytes, which is open; they are zeros
@@ -65,8 +65,8 @@ pub record OpensClaim (l : LogValue) (p : PublisherValue) (size : ℕ) (c : Clai
   pub opened : Opened p.pass size c.start c.publisher.pass
   pub zeros : c.bytes ≡ replicate size 0
 
--- the open claim is committed as this frame, by so many stores and no other step
-pub record EndsClaim (l : LogValue) (c : ClaimValue) (f : Frame) (stored : ℕ) (q : PublisherValue) : Type 0 where
+-- the open claim is committed as this frame, by one store and no other step
+pub record EndsClaim (l : LogValue) (c : ClaimValue) (f : Frame) (q : PublisherValue) : Type 0 where
   pub of : IsOf l q
-  pub took : Took c.publisher [] stored q
+  pub took : Took c.publisher [] 1 q
   pub pass : q.pass ≡ with_work (c.publisher.pass.work.frames ++ frame_at c.publisher.pass.identity c.start f ∷ []) [] c.publisher.pass

@@ -3,7 +3,6 @@
 ghost use Rattle.std.specs.Prelude.{◌≡◌, ◌+◌, ◌∷◌, [], vec_capacity, vec_len};
 ghost use Rattle.std.specs.Borrow.{sem};
 ghost use Rattle.theory.specs.Placed.{Data, Pad};
-ghost use Rattle.publication.specs.Frames.{stored_words};
 ghost use Rattle.log_passes.specs.Handles.{IsOf};
 ghost use Rattle.claims.specs.Claimings.{EndsClaim};
 ghost use Rattle.claims.specs.Holdings.{HasOpen, end_of, size_of};
@@ -81,7 +80,7 @@ impl Claim {
     /// Commits the message. The answer is the claimant and the position behind the claim.
     pub fn commit(self, log: &Log) -> (Claimant, u64)
         requires { IsOf log.now self.publisher }
-        ensures committed { EndsClaim log.now self (Data 192 self.bytes) (stored_words ((32 + size_of self) ∷ [])) result.0 }
+        ensures committed { EndsClaim log.now self (Data 192 self.bytes) result.0 }
         ensures end { result.1 ≡ end_of self }
     {
         let Claim {
@@ -102,7 +101,7 @@ impl Claim {
     /// Makes the claim a padding of the same range. The answer is the claimant and the position behind the claim.
     pub fn abort(self, log: &Log) -> (Claimant, u64)
         requires { IsOf log.now self.publisher }
-        ensures aborted { EndsClaim log.now self (Pad (32 + size_of self)) 4 result.0 }
+        ensures aborted { EndsClaim log.now self (Pad (32 + size_of self)) result.0 }
         ensures end { result.1 ≡ end_of self }
     {
         let Claim {

@@ -15,7 +15,7 @@ use Rattle.publication.specs.declared.pass.ClaimRange.{ClaimRange}
 use Rattle.publication.specs.declared.pass.FrameWords.{FrameWords}
 use Rattle.publication.specs.Frames.{frame_at}
 use Rattle.publication.specs.Steps.{Extent, works}
-use Rattle.log_passes.specs.Handles.{LogValue, PublisherValue}
+use Rattle.log_passes.specs.Handles.{LogId, LogValue, PublisherValue}
 use Rattle.log_rule.specs.Claims.Plays.{newcomer}
 use Rattle.log_rule.specs.Claims.Sure.{no_controls}
 use Rattle.log_rule.specs.Claims.Sums.{total}
@@ -55,16 +55,20 @@ frame start message = frame_at identity start (Data 192 message)
 abbrev table : TableId
 table = record { words = 0; slots = 0; views_name = 0; atom = 0; block = 0; offset = 0; slot_names = [] }
 
+abbrev place : LogId
+place = record { table = table; region = record { life = 0; names = []; block = 0; first = 0 } }
+
 abbrev log : LogValue
-log = record { table = table; identity = identity; start = 0; consumers = 1 }
+log = record { table = place; identity = identity; start = 0; consumers = 1 }
 
 abbrev publisher : ℕ → ℕ → List ClaimRange → List FrameWords → PublisherValue
 publisher number parts claims frames = record {
-  of = table;
+  of = place;
   seat = number;
   steps = 0;
   controls = no_controls;
   sure = 0;
+  freed = 0;
   pass = record (newcomer identity 0 number parts) { right = record (newcomer identity 0 number parts).right { claims = claims }; work = works frames [] };
 }
 
@@ -171,7 +175,7 @@ shows = record {
 
 abbrev reader : ReaderValue
 reader = record {
-  held = record { of = table; seat = 9; pass = reader_alone identity 0 record { number = 0; position = 192; known = frame 0 abc ∷ frame 64 ab ∷ frame 128 bc ∷ []; misses = 0 }; steps = 0; controls = no_controls; sure = 0 };
+  held = record { of = place; seat = 9; pass = reader_alone identity 0 record { number = 0; position = 192; known = frame 0 abc ∷ frame 64 ab ∷ frame 128 bc ∷ []; misses = 0 }; steps = 0; controls = no_controls; sure = 0; freed = 0 };
   place = 0;
   number = 0;
   position = 192;

@@ -25,7 +25,7 @@ use crate::one_hand::OneHandLog;
 use block::Block;
 use position::{FrameHead, Geometry};
 use publication::Refusal;
-use shared_log::{Book, Log, LogError, PUBLISHERS, Publisher, first_there};
+use shared_log::{Book, Log, LogError, PUBLISHERS, Publisher, first_there, open_whole};
 use std::alloc::Global;
 use std::marker::Model;
 
@@ -79,7 +79,7 @@ impl LogHand {
         ensures memory { IsErrOf result LogError.Memory → IsStart geometry start × IsConsumerCount consumers }
         ensures opens { IfErr result OfOpening }
     {
-        let (log, all) = Log::open_whole(alloc, geometry, session, stream, start, consumers)?;
+        let (log, all) = open_whole(alloc, geometry, session, stream, start, consumers)?;
         let block = Block::new(alloc, geometry.mtu() as usize)?;
         let there = first_there(log.consumers());
         Ok(LogHand {

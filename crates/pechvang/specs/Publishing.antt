@@ -2,7 +2,6 @@
 use Rattle.std.specs.Prelude.{◌≡◌, ℕ, ◌+◌, ◌⊎◌, ℤ, pos, negsuc, List, [], ◌∷◌, length}
 use Rattle.std.specs.declared.option.Option.TheVariants.{Some}
 use Rattle.theory.specs.Placed.{Data, Frame, Pad}
-use Rattle.publication.specs.Frames.{stored_words}
 use Rattle.log_rule.specs.Shares.{claimed_bytes}
 use Rattle.claims.specs.Holdings.{end_of, size_of}
 use Rattle.claims.specs.Passes.Claiming.{DeclinesClaim, DeclinesPart, Ends, Opens, Writes}
@@ -37,17 +36,17 @@ WritesPart (Some (Claim c)) offset part code k = Does Claim (pos 0) (λ d. Write
 WritesPart (Some (Publisher p)) offset part code k = RefusedBy no_claim (Some (Publisher p)) code k
 WritesPart h offset part code k = Unserved h code k
 
--- the open claim ends as a frame, with so many stores, and the position behind it is written
-abbrev pub EndsAs : (ClaimPass → Frame) → (ClaimPass → ℕ) → Held → ℕ → ℤ → ℕ → Held → Type 0
-EndsAs frame stored (Some (Claim c)) before code after k = Does Publisher (pos 0) (λ q. Ends c (frame c) (stored c) q × (after ≡ end_of c.claim)) code k
-EndsAs frame stored (Some (Publisher p)) before code after k = RefusedBy no_claim (Some (Publisher p)) code k × (after ≡ before)
-EndsAs frame stored h before code after k = Unserved h code k × (after ≡ before)
+-- the open claim ends as a frame, by one store, and the position behind it is written
+abbrev pub EndsAs : (ClaimPass → Frame) → Held → ℕ → ℤ → ℕ → Held → Type 0
+EndsAs frame (Some (Claim c)) before code after k = Does Publisher (pos 0) (λ q. Ends c (frame c) q × (after ≡ end_of c.claim)) code k
+EndsAs frame (Some (Publisher p)) before code after k = RefusedBy no_claim (Some (Publisher p)) code k × (after ≡ before)
+EndsAs frame h before code after k = Unserved h code k × (after ≡ before)
 
 abbrev pub Commits : Held → ℕ → ℤ → ℕ → Held → Type 0
-Commits = EndsAs (λ c. Data 192 c.claim.bytes) (λ c. stored_words ((32 + size_of c.claim) ∷ []))
+Commits = EndsAs (λ c. Data 192 c.claim.bytes)
 
 abbrev pub Aborts : Held → ℕ → ℤ → ℕ → Held → Type 0
-Aborts = EndsAs (λ c. Pad (32 + size_of c.claim)) (λ c. 4)
+Aborts = EndsAs (λ c. Pad (32 + size_of c.claim))
 
 -- how many bytes its claims cover is written
 abbrev pub Shares : Held → ℕ → ℤ → ℕ → Held → Type 0

@@ -2,8 +2,6 @@
 
 ghost use Rattle.std.specs.Prelude.{◌≡◌, ◌*◌, ◌/◌, ◌-◌, ◌^◌, ◌<◌, ◌≤◌, max, min, IfOk, IfSome};
 ghost use Rattle.std.specs.Duration.{as_nanos};
-ghost use Rattle.theory.specs.Position.{cuts_of};
-ghost use Rattle.publication.specs.Frames.{stored_words};
 ghost use Rattle.speed.specs.Figures.{AreByTurns, AreFigures, ByTurns, IsMedian};
 
 use crate::fault::SpeedError;
@@ -17,15 +15,13 @@ use std::alloc::{AllocError, Global};
 use std::thread::Threads;
 use std::time::{Clock, Duration};
 
-/// The words that one accepted offer stores: four of the header and 25 of the payload.
+/// The words of one accepted offer's frame: four of the header and 25 of the payload.
 const STORES: usize = 29;
 
-/// How many words so many accepted offers store, of 2^32 at the most.
-fn words_of(geometry: &Geometry, offers: u64) -> usize
-    ensures { result ≡ min offers (2 ^ 32) * stored_words (cuts_of geometry.now 200) }
+/// How many words the frames of so many accepted offers have, of 2^32 at the most.
+fn words_of(offers: u64) -> usize
+    ensures { result ≡ min offers (2 ^ 32) * ((32 + 200) / 8) }
 {
-    // What always holds of it, for the proof.
-    let _ = geometry.max_position();
     offers.min(1 << 32) as usize * STORES
 }
 
@@ -62,18 +58,17 @@ fn claim_figure<R: Threads + Clock + Sync>(
     Ok((each(taken, filled.accepted), filled.accepted))
 }
 
-/// What as many plain stores took as so many claims make, shared out among the threads.
+/// What as many stores took as the frames of so many claims have words, shared out among the threads.
 fn store_figure<R: Threads + Clock + Sync>(
     rt: &R,
     alloc: Global,
-    geometry: &Geometry,
     threads: usize,
     accepted: u64,
 ) -> Result<u64, SpeedError>
     requires some { 0 < threads }
 {
     let shared = accepted / threads as u64;
-    let length = words_of(geometry, shared);
+    let length = words_of(shared);
     let taken = stores(rt, alloc, threads, length)?.ok_or(SpeedError::Clock)?;
     Ok(each(taken, shared.saturating_mul(threads as u64)))
 }
@@ -89,7 +84,7 @@ fn sample<R: Threads + Clock + Sync>(
 {
     let (claim, accepted) = claim_figure(rt, alloc, geometry, samples.threads)?;
     samples.claims.push(claim)?;
-    let stored = store_figure(rt, alloc, &geometry, samples.threads, accepted)?;
+    let stored = store_figure(rt, alloc, samples.threads, accepted)?;
     samples.stores.push(stored)?;
     Ok(())
 }

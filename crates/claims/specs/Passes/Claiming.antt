@@ -45,6 +45,6 @@ DeclinesPart c offset count Outside d = OutsideClaim c offset count d
 DeclinesPart c offset count other d = ⊥
 
 -- the claim is committed as this frame, with so many stores
-pub record Ends (c : ClaimPass) (f : Frame) (stored : ℕ) (q : PublisherPass) : Type 0 where
+pub record Ends (c : ClaimPass) (f : Frame) (q : PublisherPass) : Type 0 where
   pub log : arc_value q.log ≡ arc_value c.log
-  pub ends : EndsClaim (arc_value c.log) c.claim f stored q.claimant
+  pub ends : EndsClaim (arc_value c.log) c.claim f q.claimant

@@ -3,7 +3,6 @@
 ghost use Rattle.std.specs.Prelude.{◌≡◌, ◌+◌, ◌≤◌, ◌∷◌, [], IfErr, IfOk, OnOk, length};
 ghost use Rattle.std.specs.Arc.{arc_value};
 ghost use Rattle.theory.specs.Placed.{Data, Pad};
-ghost use Rattle.publication.specs.Frames.{stored_words};
 ghost use Rattle.log_passes.specs.Handles.{IsOf};
 ghost use Rattle.claims.specs.Holdings.{end_of, size_of};
 ghost use Rattle.claims.specs.Passes.Parts.{with_part};
@@ -83,7 +82,7 @@ impl ClaimPass {
 
     /// Commits the message. The answer is the publisher and the position behind the claim.
     pub fn commit(self) -> (PublisherPass, u64)
-        ensures committed { Ends self (Data 192 self.claim.bytes) (stored_words ((32 + size_of self.claim) ∷ [])) result.0 }
+        ensures committed { Ends self (Data 192 self.claim.bytes) result.0 }
         ensures end { result.1 ≡ end_of self.claim }
     {
         let ClaimPass { log, claim } = self;
@@ -93,7 +92,7 @@ impl ClaimPass {
 
     /// Makes the claim a padding of the same range. The answer is the publisher and the position behind the claim.
     pub fn abort(self) -> (PublisherPass, u64)
-        ensures aborted { Ends self (Pad (32 + size_of self.claim)) 4 result.0 }
+        ensures aborted { Ends self (Pad (32 + size_of self.claim)) result.0 }
         ensures end { result.1 ≡ end_of self.claim }
     {
         let ClaimPass { log, claim } = self;

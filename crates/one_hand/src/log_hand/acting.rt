@@ -6,7 +6,7 @@ ghost use Rattle.one_hand.specs.Hands.{AbortsClaim, Claims, ClaimsNone, CommitsC
 
 use crate::log_hand::held::Held;
 use publication::Refusal;
-use shared_log::{Log, OnLog, Publisher};
+use shared_log::{Log, OnLog, Publisher, renumber};
 
 /// Offers a message as the publisher of a number.
 pub(crate) fn offer_as(
@@ -20,7 +20,7 @@ pub(crate) fn offer_as(
     requires short { length message.now ≤ max_message log.now.identity.geometry }
     ensures { Offers log.now all.old number message.now result all.new }
 {
-    log.renumber(all, number);
+    renumber(log, all, number);
     let mut words = OnLog::new(log);
     publication::offer(&mut words, all, message)
 }
@@ -38,7 +38,7 @@ pub(crate) fn claim_as(
     ensures accepted { IfOk result (λ start. Claims log.now all.old number size start all.new) }
     ensures refused { IfErr result (λ why. ClaimsNone log.now all.old number size why all.new) }
 {
-    log.renumber(all, number);
+    renumber(log, all, number);
     let mut words = OnLog::new(log);
     publication::try_claim(&mut words, all, size)
 }
@@ -57,7 +57,7 @@ pub(crate) fn commit_as(
     requires may { MayEnd all.old.pass held (32 + held.size) }
     ensures { CommitsClaim log.now all.old number held payload.now result all.new }
 {
-    log.renumber(all, number);
+    renumber(log, all, number);
     let mut words = OnLog::new(log);
     publication::commit(&mut words, all, held.start, payload)
 }
@@ -69,7 +69,7 @@ pub(crate) fn abort_as(log: &Log, all: &mut Publisher, number: u64, held: Held) 
     requires may { MayEnd all.old.pass held (32 + held.size) }
     ensures { AbortsClaim log.now all.old number held result all.new }
 {
-    log.renumber(all, number);
+    renumber(log, all, number);
     let mut words = OnLog::new(log);
     publication::abort(&mut words, all, held.start, held.size)
 }

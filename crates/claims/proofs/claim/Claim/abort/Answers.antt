@@ -29,6 +29,6 @@ returns-clause-aborted c =
     let l = c.args.log.now in let q = c.abort.new.pass in let part = c.abort.ensures.part in let p = c.self.inside.publisher in
     let claim : ClaimValue = record { publisher = p; start = c.self.inside.start; bytes = c.self.inside.bytes.items } in
     let whole = filled p.pass q.pass c.self.inside.start (vec_len c.self.inside.bytes) (Pad (32 + c.len-size.result)) (ap (λ (n : ℕ). 32 + n) c.len-size.ensures) c.self.invariant.one c.abort.ensures.aborted in
-    subst (λ (x : ClaimValue). EndsClaim l x (Pad (32 + length x.bytes)) 4 q) c.self.view_is
-    (subst (λ (n : ℕ). EndsClaim l claim (Pad (32 + n)) 4 q) (c.len-size.ensures ∙ c.self.inside.bytes.ok.0)
-    (ends l claim (Pad (32 + c.len-size.result)) 4 q part.took.noted (subst (λ (m : LogValue). IsOf m q) (part.moved.same ∙ c.new.ensures) part.moved.still) part.took.steps part.took.call whole))
+    subst (λ (x : ClaimValue). EndsClaim l x (Pad (32 + length x.bytes)) q) c.self.view_is
+    (subst (λ (n : ℕ). EndsClaim l claim (Pad (32 + n)) q) (c.len-size.ensures ∙ c.self.inside.bytes.ok.0)
+    (ends l claim (Pad (32 + c.len-size.result)) q part.took.noted (subst (λ (m : LogValue). IsOf m q) (part.moved.same ∙ c.new.ensures) part.moved.still) part.took.steps part.took.call whole))

@@ -20,6 +20,6 @@ returns-clause-committed c =
     let l = c.args.log.now in let q = c.commit.new.pass in let part = c.commit.ensures.part in let p = c.self.inside.publisher in
     let claim : ClaimValue = record { publisher = p; start = c.self.inside.start; bytes = c.self.inside.bytes.items } in
     let whole = filled p.pass q.pass c.self.inside.start (vec_len c.self.inside.bytes) (Data 192 c.as_slice.result.now) (ap (λ (n : ℕ). 32 + n) c.as_slice.ensures.len) c.self.invariant.one c.commit.ensures.committed in
-    subst (λ (x : ClaimValue). EndsClaim l x (Data 192 x.bytes) ((32 + length x.bytes + 7) / 8 + 0) q) c.self.view_is
-    (subst (λ (bytes : List ℕ). EndsClaim l claim (Data 192 bytes) ((32 + length bytes + 7) / 8 + 0) q) c.as_slice.ensures.value
-    (ends l claim (Data 192 c.as_slice.result.now) ((32 + length c.as_slice.result.now + 7) / 8 + 0) q part.took.noted (subst (λ (m : LogValue). IsOf m q) (part.moved.same ∙ c.new.ensures) part.moved.still) part.took.steps part.took.call whole))
+    subst (λ (x : ClaimValue). EndsClaim l x (Data 192 x.bytes) q) c.self.view_is
+    (subst (λ (bytes : List ℕ). EndsClaim l claim (Data 192 bytes) q) c.as_slice.ensures.value
+    (ends l claim (Data 192 c.as_slice.result.now) q part.took.noted (subst (λ (m : LogValue). IsOf m q) (part.moved.same ∙ c.new.ensures) part.moved.still) part.took.steps part.took.call whole))
