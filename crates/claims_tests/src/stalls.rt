@@ -88,7 +88,7 @@ pub(crate) fn arm_early(log: &Log, claimant: Claimant) -> Result<Armed, Fail>
 fn count_and_tails(log: &mut Log) -> [u64; 4]
     ensures { log.new ≡ log.old }
 {
-    let control = 3 * (log.identity().geometry().term_length() as usize / 8);
+    let control = 3 * (log.identity().geometry().term_length() as usize / 32);
     [
         log.peek(control + 1),
         log.peek(control + 2),

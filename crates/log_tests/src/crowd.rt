@@ -2,6 +2,7 @@
 
 ghost use Rattle.shared_log.specs.Handles.{AreNew};
 ghost use Rattle.log_passes.specs.Handles.{IsOf};
+ghost use Rattle.shared_log.specs.Readers.{IsReaderOf};
 
 use crate::claimed::Claimed;
 use crate::opening::open_ready;
@@ -9,7 +10,7 @@ use crate::publishing::{below, publish_all};
 use crate::walk::{Terms, shown};
 use position::Geometry;
 use rand_pcg::Pcg32;
-use shared_log::{Log, Publisher};
+use shared_log::{Log, LogReader, Publisher};
 use std::alloc::{AllocError, Global};
 use std::process::Abort;
 use std::sync::atomic::{AtomicU64, Ordering};
@@ -107,11 +108,14 @@ fn walk<R: Abort>(
     rt: &R,
     alloc: Global,
     log: &mut Log,
-    start: u64,
+    reader: LogReader,
     claims: &[Claimed],
     seed: u64,
-) -> Result<u64, AllocError> {
-    let terms = Terms::of(alloc, log)?;
+) -> Result<u64, AllocError>
+    requires { IsReaderOf log.old reader }
+{
+    let start = log.start();
+    let terms = Terms::of(alloc, log, reader)?;
     let tail = shown(log);
     match terms.walk(start, tail, claims) {
         Ok(padded) => {
@@ -129,9 +133,9 @@ fn run<R: Threads + Abort + Sync>(rt: &R, alloc: Global, seed: u64) -> Result<bo
     let mtu = if below(&mut draws, 2) == 0 { 256 } else { 1408 };
     let geometry = Geometry::new(65_536, mtu, 7)?;
     let start = draw_start(&mut draws, &geometry);
-    let (mut log, publishers) = open_ready(alloc, geometry, start)?;
+    let (mut log, publishers, reader) = open_ready(alloc, geometry, start)?;
     let claims = fill(rt, alloc, &log, publishers, seed)?;
-    let tail = walk(rt, alloc, &mut log, start, claims.as_slice(), seed)?;
+    let tail = walk(rt, alloc, &mut log, reader, claims.as_slice(), seed)?;
     let limit = start.wrapping_add(32_768).min(geometry.max_position());
     assert!(rt; tail >= limit);
     Ok(start / 65_536 != tail / 65_536)

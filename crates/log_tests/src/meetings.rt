@@ -74,7 +74,7 @@ fn publish_both<R: Threads>(
 #[tactic(auto, using(crate::proofs::Each::back_rests))]
 fn two_meet(rt: HostRuntime) -> Result<(), Fail> {
     let geometry = Geometry::new(65_536, 1408, 7)?;
-    let (mut log, publishers) = open_ready(rt.alloc(), geometry, 0)?;
+    let (mut log, publishers, _) = open_ready(rt.alloc(), geometry, 0)?;
     let (one, other) = first_two(rt.alloc(), &log, publishers)?;
     let (one, other) = publish_both(&rt, &log, one, other);
     let (one, other, tail) = meet(&log, one, other);

@@ -3,13 +3,14 @@
 ghost use Rattle.std.specs.Prelude.{◌≡◌, ◌≤◌, length, IfOk};
 ghost use Rattle.theory.specs.Position.{max_message};
 ghost use Rattle.log_passes.specs.Handles.{IsOf};
+ghost use Rattle.shared_log.specs.Readers.{IsReaderOf};
 ghost use Rattle.log_tests.specs.Stays.{Stays};
 
 use crate::opening::open_ready;
 use crate::walk::{Terms, shown};
 use position::Geometry;
 use publication::{Refusal, offer};
-use shared_log::{Log, LogError, OnLog, Publisher};
+use shared_log::{Log, LogError, LogReader, OnLog, Publisher};
 use std::alloc::{AllocError, Global};
 use std::process::Abort;
 use std::test::*;
@@ -112,15 +113,15 @@ const ROWS: [Row; 7] = [
     },
 ];
 
-/// A log that begins at a position, and the first of its publishers.
-pub(crate) fn open_at(alloc: Global, start: u64) -> Result<(Log, Publisher), Fail>
-    ensures { IfOk result (λ r. IsOf r.0 r.1) }
+/// A log that begins at a position, the first of its publishers, and its reader.
+pub(crate) fn open_at(alloc: Global, start: u64) -> Result<(Log, Publisher, LogReader), Fail>
+    ensures { IfOk result (λ r. IsOf r.0 r.1 × IsReaderOf r.0 r.2) }
 {
     let geometry = Geometry::new(65_536, 1408, 7)?;
-    let (log, publishers) = open_ready(alloc, geometry, start)?;
+    let (log, publishers, reader) = open_ready(alloc, geometry, start)?;
     let mut publishers = Vec::from_array(alloc, publishers)?;
     let first = publishers.remove(0);
-    Ok((log, first))
+    Ok((log, first, reader))
 }
 
 /// Offers a message of so many letters. The answer is a position or a code.
@@ -153,7 +154,7 @@ fn offer_row<R: Abort>(rt: &R, log: &Log, publisher: &mut Publisher, row: &Row)
 pub(crate) fn count_and_tails(log: &mut Log) -> [u64; 4]
     ensures { log.new ≡ log.old }
 {
-    let control = 3 * (log.identity().geometry().term_length() as usize / 8);
+    let control = 3 * (log.identity().geometry().term_length() as usize / 32);
     [
         log.peek(control + 1),
         log.peek(control + 2),
@@ -170,12 +171,12 @@ fn stand(alloc: Global, terms: &Terms, position: u64, digits: &str) -> Result<bo
 
 /// Plays a row, and looks at what stands in the log then.
 fn play<R: Abort>(rt: &R, alloc: Global, row: &Row) -> Result<(), Fail> {
-    let (mut log, mut publisher) = open_at(alloc, row.start)?;
+    let (mut log, mut publisher, reader) = open_at(alloc, row.start)?;
     offer_row(rt, &log, &mut publisher, row);
     let (tail, words) = (shown(&mut log), count_and_tails(&mut log));
     assert!(rt; tail == row.tail);
     assert!(rt; words == row.words);
-    let terms = Terms::of(alloc, &mut log)?;
+    let terms = Terms::of(alloc, &mut log, reader)?;
     for (position, digits) in row.stream {
         assert!(rt; stand(alloc, &terms, *position, digits)?);
     }

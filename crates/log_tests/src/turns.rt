@@ -52,7 +52,7 @@ fn turn_behind_a_trip(log: &Log, publisher: &mut Publisher, size: u32) -> Result
 /// An addition passes the end of its term, and its publisher turns that again.
 #[test]
 fn turned_behind_a_trip(rt: HostRuntime) -> Result<(), Fail> {
-    let (mut log, mut publisher) = open_at(rt.alloc(), 140_737_488_289_728)?;
+    let (mut log, mut publisher, _) = open_at(rt.alloc(), 140_737_488_289_728)?;
     turn_behind_a_trip(&log, &mut publisher, 33)?;
     let words = count_and_tails(&mut log);
     assert!(rt;
@@ -71,7 +71,7 @@ fn turned_behind_a_trip(rt: HostRuntime) -> Result<(), Fail> {
 #[test]
 fn turned(rt: HostRuntime) -> Result<(), Fail> {
     for times in 1..4 {
-        let (mut log, mut publisher) = open_at(rt.alloc(), 57_152)?;
+        let (mut log, mut publisher, _) = open_at(rt.alloc(), 57_152)?;
         assert!(rt; offer_letters(&log, &mut publisher, 8192) == 65_536);
         let words = count_and_tails(&mut log);
         assert!(rt; words == [0, 0x7_0001_0000, 0x5_0000_0000, 0x6_0000_0000]);

@@ -1,28 +1,33 @@
-//! The words of a log, as frames.
+//! A log's frames, as a reader finds them and as its words show them.
 
 ghost use Rattle.std.specs.Prelude.{◌<◌, ◌^◌};
+ghost use Rattle.shared_log.specs.Readers.{IsReaderOf};
 
 use crate::claimed::{Claimed, LONGEST, fill};
+use block::Block;
 use frames::{Frame, Header, read_frame};
-use position::{BEGIN, END, Identity, UNFRAGMENTED};
-use shared_log::Log;
+use position::{BEGIN, END, FrameHead, FrameKind, Identity, UNFRAGMENTED};
+use shared_log::{Log, LogReader, advance, next};
 use std::alloc::{AllocError, Global};
 
 /// More frames than a log has between its start and its limit.
 const FRAMES: usize = 4096;
 
-/// The bytes of a log's three terms.
+/// The bytes of a log's three terms, as a reader finds its frames, and the first word of each frame, by units of 32 bytes.
 #[derive(Drop)]
 pub struct Terms {
     identity: Identity,
     bytes: Vec<u8>,
+    firsts: Vec<u64>,
+    /// Whether the log's words are these.
+    agree: bool,
 }
 
 /// The greatest position that the raw tails show.
 pub fn shown(log: &mut Log) -> u64 {
     let geometry = log.identity().geometry();
     let term = geometry.term_length();
-    let control = 3 * (term as usize / 8);
+    let control = 3 * (term as usize / 32);
     let mut greatest = 0;
     for place in 2..5 {
         let word = log.peek(control + place);
@@ -37,15 +42,80 @@ fn is_zero(bytes: &[u8]) -> bool {
     bytes.iter().all(|byte| *byte == 0)
 }
 
-impl Terms {
-    /// Peeks at all of them.
-    pub fn of(alloc: Global, log: &mut Log) -> Result<Terms, AllocError> {
-        let identity = log.identity();
-        let mut bytes = Vec::new(alloc);
-        for index in 0..3 * (identity.geometry().term_length() as usize / 8) {
-            bytes.extend_from_slice(&log.peek(index).to_le_bytes())?;
+/// Copies some bytes over others, from a place on.
+fn put(bytes: &mut [u8], at: usize, some: &[u8]) {
+    for (index, byte) in some.iter().enumerate() {
+        if let Some(place) = bytes.get_mut(at.wrapping_add(index)) {
+            *place = *byte;
         }
-        Ok(Terms { identity, bytes })
+    }
+}
+
+impl Terms {
+    /// What a reader finds from where it stands on, and the words of the log then.
+    pub fn of(alloc: Global, log: &mut Log, reader: LogReader) -> Result<Terms, AllocError>
+        requires { IsReaderOf log.old reader }
+    {
+        let mut terms = Terms::read(alloc, log, reader)?;
+        terms.agree = terms.agrees(log);
+        Ok(terms)
+    }
+
+    /// The frames that a reader finds.
+    fn read(alloc: Global, log: &Log, mut reader: LogReader) -> Result<Terms, AllocError>
+        requires { IsReaderOf log.now reader }
+    {
+        let identity = log.identity();
+        let term = identity.geometry().term_length() as usize;
+        let mut terms = Terms {
+            identity,
+            bytes: vec![in alloc; 0; 3 * term]?,
+            firsts: vec![in alloc; 0; 3 * (term / 32)]?,
+            agree: false,
+        };
+        let mut block = Block::new(alloc, identity.geometry().mtu() as usize)?;
+        for _ in 0..FRAMES {
+            let Some(head) = next(log, &mut reader, &mut block) else {
+                break;
+            };
+            terms.note(&head, block.bytes());
+            advance(log, &mut reader);
+        }
+        Ok(terms)
+    }
+
+    /// A frame, as on the wire.
+    fn note(&mut self, head: &FrameHead, payload: &[u8]) {
+        let at = (head.start % (3 * self.term())) as usize;
+        let header = self.header(head.start);
+        let (kind, size): (u16, usize) = match head.kind {
+            FrameKind::Data => (1, head.frame_length.saturating_sub(32) as usize),
+            FrameKind::Pad => (0, 0),
+        };
+        let mut first = [0; 8];
+        put(&mut first, 0, &head.frame_length.to_le_bytes());
+        put(&mut first, 5, &[head.flags]);
+        put(&mut first, 6, &kind.to_le_bytes());
+        put(self.bytes.as_mut_slice(), at, &first);
+        put(self.bytes.as_mut_slice(), at + 8, &header.term_offset.to_le_bytes());
+        put(self.bytes.as_mut_slice(), at + 12, &header.session.to_le_bytes());
+        put(self.bytes.as_mut_slice(), at + 16, &header.stream.to_le_bytes());
+        put(self.bytes.as_mut_slice(), at + 20, &header.term_id.to_le_bytes());
+        put(self.bytes.as_mut_slice(), at + 32, payload.get(..size).unwrap_or(&[]));
+        if let Some(place) = self.firsts.as_mut_slice().get_mut(at / 32) {
+            *place = u64::from_le_bytes(first);
+        }
+    }
+
+    /// Whether each word of the log's units is the first of the frame that begins there, or zero where none does.
+    fn agrees(&self, log: &mut Log) -> bool {
+        let units = 3 * (log.identity().geometry().term_length() as usize / 32);
+        for index in 0..units {
+            if self.firsts.as_slice().get(index) != Some(&log.peek(index)) {
+                return false;
+            }
+        }
+        true
     }
 
     fn term(&self) -> u64
@@ -172,7 +242,7 @@ impl Terms {
                 _ => return Err(position),
             }
         }
-        if position == tail && rest.is_empty() && self.is_blank(tail, start) {
+        if position == tail && rest.is_empty() && self.agree && self.is_blank(tail, start) {
             return Ok(padded);
         }
         Err(position)

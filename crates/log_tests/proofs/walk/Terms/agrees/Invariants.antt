@@ -1,5 +1,5 @@
 use Rattle.std.proofs.Common.{◌≡◌}
-use Rattle.log_tests.proofs.walk.Terms.of.Given as goal
+use Rattle.log_tests.proofs.walk.Terms.agrees.Given as goal
 
 abbrev pub invariant-loop-index : goal.invariant-loop-index
 invariant-loop-index l = l.log ≡ l.fn.log
