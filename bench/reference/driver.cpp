@@ -127,5 +127,5 @@ int main(int count, char **words) {
     std::uint64_t began = stage.receive_all(tally);
     for (auto &thread : threads) thread.join();
     if (!stage.counters.read().is_whole()) fail("counters broken");
-    tally.print(HAS_PLAIN_FRAMES ? "cpp-driver-plain" : "cpp-driver", began);
+    tally.print("cpp-driver", began);
 }

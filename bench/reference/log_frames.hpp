@@ -1,6 +1,6 @@
-// Where the frames of a log lie, in three terms: in words, each stored by a step of its own, or, with PLAIN_FRAMES, in plain
-// memory, each as on the wire. Then one word for each unit says that a frame begins there: it is the frame's first, zero until the
-// frame is committed, and its store publishes all bytes of the frame.
+// Where the frames of a log lie, in three terms, as on the wire: in plain memory, as the proved log's do. One word for each unit
+// says that a frame begins there: it is the frame's first, zero until the frame is committed, and its store publishes all bytes of
+// the frame. With WORD_FRAMES they lie in words instead, each stored by a step of its own.
 #pragma once
 #include "geometry.hpp"
 #include "words.hpp"
@@ -25,7 +25,7 @@ struct Header {
     std::uint64_t first, second, third;
 };
 
-#ifdef PLAIN_FRAMES
+#ifndef WORD_FRAMES
 constexpr bool HAS_PLAIN_FRAMES = true;
 
 class LogFrames {

@@ -51,5 +51,5 @@ int main(int count, char **words) {
         return began;
     };
 
-    play(options, HAS_PLAIN_FRAMES ? "cpp-log-plain" : HAS_WEAK_STORES ? "cpp-log-weak" : "cpp-log", publisher, subscriber);
+    play(options, HAS_WEAK_STORES ? (HAS_PLAIN_FRAMES ? "cpp-log-weak-plain" : "cpp-log-weak") : "cpp-log", publisher, subscriber);
 }
