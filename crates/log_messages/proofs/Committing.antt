@@ -1,5 +1,5 @@
 -- What a publisher's calls say of its claims.
-use Rattle.std.proofs.Common.{◌≡◌, ℕ, ◌+◌, List, [], ◌∷◌, ◌++◌, map, inl, inr, refl, sym, ap, ◌∙◌, subst}
+use Rattle.std.proofs.Common.{◌≡◌, ℕ, ◌+◌, List, [], ◌∷◌, ◌++◌, map, refl, sym, ap, ◌∙◌, subst}
 use Rattle.std.specs.List.{AllByRecursion, flat_map}
 use Rattle.std.proofs.lemmas.List.{map-append}
 use Rattle.theory.specs.Bytes.{Identity}
@@ -10,7 +10,6 @@ use Rattle.theory.proofs.Lists.{all_from}
 use Rattle.frame_words.specs.Contents.{frame_of}
 use Rattle.frame_words.specs.Words.{frame_words}
 use Rattle.frame_words.proofs.Contents.{bytes_small, data_said, pad_said}
-use Rattle.publication.specs.declared.pass.FrameWords.{FrameWords}
 use Rattle.publication.specs.Frames.{frames_at}
 use Rattle.shared_log.specs.Sourced.{placed}
 use Rattle.log_messages.specs.Closed.{CommitsItsClaims, IsTold, joined, words_in}

@@ -164,7 +164,7 @@ module _ (l : LogValue) (p : PublisherValue) (held : List (Option Held)) (hand :
       goes : SameSeat p r2.held × OnlyReads p.pass r2.held.pass × (positions_of r2.held.pass ≡ slice_set (positions_of p.pass) c.place r2.position)
       goes =
           let s = stays.seat in let b = a.seat in let sure1 : r1.held.sure ≡ 1 = s.sure ∙ hand.free.sure in (
-            record { of = b.of ∙ s.of; seat = b.seat ∙ s.seat; sure = b.sure ∙ s.sure; controls = λ sure. b.controls sure1 ∙ s.controls sure },
+            record { of = b.of ∙ s.of; seat = b.seat ∙ s.seat; sure = b.sure ∙ s.sure; freed = b.freed ∙ s.freed; controls = λ sure. b.controls sure1 ∙ s.controls sure },
             record { rest = a.pass.rest ∙ ap (λ (x : Pass). record x { reading = r2.held.pass.reading }) stays.pass.rest; numbers = a.pass.numbers ∙ stays.pass.numbers },
             a.positions ∙ (λ j. slice_set (stays.positions j) ((stays.same j).place) ((sym (ap (λ (z : ReaderValue). z.position) a.same)) j)),
           )

@@ -4,7 +4,11 @@ use Rattle.log_passes.specs.Handles.{PublisherValue}
 use Rattle.claims.specs.Holdings.{ArmedValue, ClaimValue}
 use Rattle.claims.specs.Claimings.{AddsRange, ArmsFor, OpensClaim, TripsTerm}
 use Rattle.claims.proofs.Halves.{adds, denies, opens, trips}
+use Rattle.claims.proofs.Rests.{tripped_rests}
 use Rattle.claims.proofs.armed.Armed.add.Goals as goal
+
+pub new-requires-in-Err : goal.new-requires-in-Err
+new-requires-in-Err c = tripped_rests c.self.inside.publisher c.add_range.new.pass _ c.self.inside.count c.self.inside.size c.in-Err.refusal c.self.invariant c.in-Err.ensures.refused
 
 pub returns-in-Ok-clause-accepted : goal.returns-in-Ok-clause-accepted
 returns-in-Ok-clause-accepted c =

@@ -14,7 +14,7 @@ use Rattle.claims.proofs.claim.Claim.abort.Goals as goal
 
 pub overflow_cast-size : goal.overflow_cast-size
 overflow_cast-size c =
-    let is : geometry_of c.self.inside.publisher.pass ≡ c.geometry.result = ap (λ (x : ClaimValue). geometry_of x.publisher.pass) c.self.view_is ∙ ap (λ (i : Identity). i.geometry) (c.requires.identity ∙ sym c.identity.ensures) ∙ sym c.geometry.ensures.value in
+    let is : geometry_of c.self.inside.publisher.pass ≡ c.geometry.result = ap (λ (x : ClaimValue). geometry_of x.publisher.pass) c.self.view_is ∙ ap (λ (i : Identity). i.geometry) (c.requires.identity ∙ sym c.identity.ensures.is) ∙ sym c.geometry.ensures.value in
     let legal : IsGeometry (geometry_of c.self.inside.publisher.pass) = subst IsGeometry (sym is) c.geometry.ensures.legal in
     let size = c.len-size.ensures in let short = c.self.invariant.short in record { fits = omega (arith, size, short, legal.mtu.greatest, legal.mtu.least) }
 

@@ -10,7 +10,7 @@ use Rattle.claims.proofs.passes.source.ReaderPassFrameSource.advance.Goals as go
 pub returns-clause-passes : goal.returns-clause-passes
 returns-clause-passes g c =
     let l : LogValue = c.deref-log.result.now in let r = c.args.self.now.reader in
-    let legal : IsGeometry l.identity.geometry = subst (λ (i : Identity). IsGeometry i.geometry) c.identity.ensures (subst IsGeometry c.geometry-shape.ensures.value c.geometry-shape.ensures.legal) in
+    let legal : IsGeometry l.identity.geometry = subst (λ (i : Identity). IsGeometry i.geometry) c.identity.ensures.is (subst IsGeometry c.geometry-shape.ensures.value c.geometry-shape.ensures.legal) in
     subst (λ (m : LogValue). Passes (source_of m r) c.advance.result (source_of m c.advance.new.reader)) c.deref-log.ensures (passes l r c.advance.new.reader c.advance.result legal (search rules) c.advance.ensures.advances c.advance.ensures.answer)
 
 pub returns-clause-leaves : goal.returns-clause-leaves
