@@ -1,8 +1,8 @@
 -- The words of a log that opens obey the rule.
-use Rattle.std.proofs.Common.{◌≡◌, inl, ℕ, zero, suc, ◌+◌, ◌-◌, ◌*◌, ◌/◌, ◌%◌, ◌<◌, ◌≤◌, eqb, cond, Bool, true, false, List, [], ◌∷◌, replicate, length, set, length-set, get_or-set_same, get_or-set_other, sym, refl, ap, ◌∙◌, subst, ne_eqb, ◌++◌, length-append, lt_of_not-le, arith}
+use Rattle.std.proofs.Common.{◌≡◌, inl, ℕ, zero, suc, ◌+◌, ◌-◌, ◌*◌, ◌/◌, ◌%◌, ◌<◌, ◌≤◌, eqb, cond, Bool, true, false, List, [], ◌∷◌, replicate, length, sym, refl, ap, ◌∙◌, subst, ne_eqb, ◌++◌, length-append, lt_of_not-le, arith}
 use mathlib.Core.Option.{some, some-injective, some-ne-none}
 use mathlib.Core.Logic.{dite}
-use native.Mathlib.Decide.{dec_le, ℕ_discrete}
+use native.Mathlib.Decide.{dec_le}
 use lib.ListN.{get_elem?}
 use Rattle.std.specs.Prelude.{slice_index}
 use Rattle.std.specs.List.{AllByRecursion}
@@ -34,26 +34,6 @@ use Rattle.log_rule.specs.Opening.{Begun}
 
 abbrev pub origin_of : Key → Origin
 origin_of key = record { identity = key.identity; start = key.start }
-
--- ---- the limit is set, and one consumer after the other
-
-pub begun_first : (start : ℕ) (words : List ℕ) → 208 ≤ length words → Begun start words 0 (set words 0 start)
-begun_first start words wide = record {
-  wide = length-set words 0 start;
-  limit = get_or-set_same words 0 start 0 (let low : 0 < length words = omega arith in low);
-  consumers = λ j lt. absurd (omega arith);
-  others = λ i ne far. get_or-set_other words 0 i start 0 ne;
-}
-
-pub begun_next : (start n : ℕ) (words now : List ℕ) → 208 ≤ length words → n < 8 → Begun start words n now → Begun start words (n + 1) (set now (n * 16 + 80) start)
-begun_next start n words now wide few b = let i : ℕ = n * 16 + 80 in let e = b.wide in record {
-  wide = length-set now i start ∙ b.wide;
-  limit = get_or-set_other now i 0 start 0 (λ e. omega arith) ∙ b.limit;
-  consumers = λ j lt. dite (ℕ_discrete j n)
-      (λ same. (λ k. slice_index (set now i start) (consumer_place (same k))) ∙ get_or-set_same now i start 0 (let low : i < length now = omega arith in low))
-      (λ ne. get_or-set_other now i (consumer_place j) start 0 (λ e. ne (omega arith)) ∙ b.consumers j (omega arith));
-  others = λ j ne far. get_or-set_other now i j start 0 (far n (omega arith)) ∙ b.others j ne (λ k lt. far k (omega arith));
-}
 
 -- ---- numbers of a log that opens
 

@@ -14,4 +14,3 @@ pub mod Begun
 pub mod Numbers
 pub mod Gathering
 pub mod Eventful
-pub mod Rings

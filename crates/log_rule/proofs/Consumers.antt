@@ -129,9 +129,6 @@ module _ (key : Key) (slots id : ℕ) (m : Mine) (place : ℕ) (r : Reading) (is
   renumbered x same j = put_same (reads_as j) m.0.pass.reading place r x is (ap (λ (k : ℕ). cond (eqb k j) 1 0) same)
 
   module _ (s : State (Unit {0}) View) (q : LogRuled key s) (at : get_elem? s.views id ≡ some m.0) where
-    ps : List Pass
-    ps = map pass_in s.views
-
     abbrev b : Bounds
     b = now_at key (slice_index s.words limit_place) q.cleaned
 

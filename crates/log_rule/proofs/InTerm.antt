@@ -101,10 +101,6 @@ done_long i f d = go f.words d.first
     go [] pos = absurd (omega arith)
     go (w ∷ ws) pos = omega arith
 
-legal_long : (g : Geometry) (f : Frame) → IsLegal g f → 32 ≤ frame_length f
-legal_long g (Data flags payload) l = omega arith
-legal_long g (Pad n) l = l.0
-
 -- it begins at a unit
 pub unit_of : (b : Bounds) (ws : List ℕ) (ps : List Pass) → Ruled b ws ps → (f : FrameWords) → IsAmong ps f → f.start % 32 ≡ 0
 unit_of b ws ps r f among = let a = among_claimed b ws ps r f among (λ x. x.start % 32) in let z = units_sum ps (λ i v at. (r.claims.each i v at).entries) in none (f.start % 32) (claimed_sum (λ x. x.start % 32) ps) a z

@@ -73,8 +73,3 @@ lifted key slots id i m f told noted turns may spares own go s r homes at small 
         g.3,
       ),
     )
-
--- the word may be named otherwise
-pub lifted_at : (key : Key) (slots id i : ℕ) (m : Mine) (f : ℕ → ℕ) (told : ℕ → Pass → Type 0) (noted : ℕ → List WordStep) (j : ℕ) → j ≡ i → Turns i f noted → (0 < m.0.pass.right.parts) ⊎ Leaves i f → Spares i f → ((n : ℕ) (w : Pass) → told n w → Goes m.0.pass w) → ((b : Bounds) → Eventful b id m.0.pass i f told)
-    → Allows (LogRuled key) slots id m j f (λ n m'. (m'.1 ≡ m.1) × (m'.0.steps ≡ suc m.0.steps) × Same m.0.pass m'.0.pass × LearnsControls (noted n) m.0 m'.0 × told n m'.0.pass)
-lifted_at key slots id i m f told noted j e turns may spares own go = subst (λ (k : ℕ). Allows (LogRuled key) slots id m k f (λ n m'. (m'.1 ≡ m.1) × (m'.0.steps ≡ suc m.0.steps) × Same m.0.pass m'.0.pass × LearnsControls (noted n) m.0 m'.0 × told n m'.0.pass)) (sym e) (lifted key slots id i m f told noted turns may spares own go)

@@ -9,19 +9,17 @@ use Rattle.theory.specs.Words.{offset_in}
 use Rattle.theory.proofs.Claims.{covers_framed}
 use Rattle.theory.proofs.Places.{power_unit}
 use Rattle.publication.specs.declared.pass.ClaimRange.{ClaimRange}
-use Rattle.publication.specs.Frames.{CompletesFrame}
-use Rattle.publication.specs.Steps.{Adds, Commits, HasWord, Stores, geometry_of, message_at, padding_at, term_of}
+use Rattle.publication.specs.Steps.{Adds, geometry_of, message_at, padding_at, term_of}
 use Rattle.theory.specs.Entry.{Entry, length_of}
 use Rattle.theory.specs.Tiling.{share_of}
 use Rattle.theory.proofs.Tiling.{share-cons}
 use Rattle.publication.specs.declared.pass.Pass.{Pass}
 use Rattle.log_rule.specs.Claims.Sums.{total}
 use Rattle.log_rule.specs.Claims.Terms.{claimed_to}
-use Rattle.log_rule.specs.Claims.Rule.{Bounds, entry_of, shape_of, size_of, weight}
+use Rattle.log_rule.specs.Claims.Rule.{Bounds, shape_of, size_of, weight}
 use Rattle.log_rule.specs.Claims.Memory.{Ruled}
-use Rattle.log_rule.specs.Claims.Events.{Eventful}
 use Rattle.log_rule.proofs.Claimed.Looks.{term_short}
-use Rattle.log_rule.proofs.Claimed.Totals.{extent_of, total_at, total_append, total_map, total_set}
+use Rattle.log_rule.proofs.Claimed.Totals.{extent_of, total_append}
 use Rattle.log_rule.specs.Shares.{claimed_bytes, owner_bytes, range_bytes}
 
 pub claimed_low : (b : Bounds) (ws : List ℕ) (ps : List Pass) → Ruled b ws ps → total (weight length_of) ps < 2 ^ 63
@@ -32,12 +30,6 @@ claimed_low b ws ps r =
   where
     low : (start all base offset term sum : ℕ) → sum ≡ all → start + all ≡ base + min offset term → base ≤ 2147483647 * 16777216 → term ≤ 16777216 → sum < 2 ^ 63
     low start all base offset term sum e tiles up short = omega arith
-
--- the step tells that too
-pub with_low_share : (b : Bounds) (id : ℕ) (v : Pass) (i : ℕ) (f : ℕ → ℕ) (told : ℕ → Pass → Type 0) → Eventful b id v i f told → Eventful b id v i f (λ n w. told n w × (claimed_bytes w < 2 ^ 63))
-with_low_share b id v i f told go words passes r at =
-    let g = go words passes r at in let low = claimed_low b _ _ g.1 in let sum = total_set (weight length_of) passes id v g.0 at in let mine = total_at (weight length_of) passes id v at in
-    let is : weight length_of g.0 ≡ claimed_bytes g.0 = total_map length_of entry_of g.0.right.claims in (g.0, g.1, g.2, (g.3, omega arith), g.4)
 
 -- ---- what steps make of it
 
@@ -57,12 +49,6 @@ adds_bytes v w size n is a =
 pub adds_share : (v w : Pass) (size n : ℕ) (g : Geometry) → geometry_of v ≡ g → IsGeometry g → Adds v size n w → (share covered took : ℕ) → share ≡ claimed_bytes v → covered ≡ framed_length g size → took ≡ min covered (g.term_length - offset_in n) → share + took ≡ claimed_bytes w
 adds_share v w size n g e is a share covered took now c t =
     (λ j. now j + t j) ∙ (λ j. claimed_bytes v + min (c j) (g.term_length - offset_in n)) ∙ (λ j. claimed_bytes v + min (framed_length (sym e j) size) ((sym e j).term_length - offset_in n)) ∙ sym (adds_bytes v w size n (subst IsGeometry (sym e) is) a)
-
-pub stores_share : (v w : Pass) (p x : ℕ) → HasWord v 1 p → Stores v p x w → claimed_bytes w ≡ claimed_bytes v
-stores_share v w p x h s = ap claimed_bytes (s h.front h.draft h.behind h.place h.parts h.above h.inside h.position)
-
-pub commits_share : (v w : Pass) (p x : ℕ) → CompletesFrame v p x → Commits v p x w → claimed_bytes w ≡ claimed_bytes v
-commits_share v w p x h s = ap claimed_bytes (s h.front h.draft h.behind h.parts h.inside h.position)
 
 -- ---- the share of an owner
 

@@ -1,5 +1,4 @@
 pub mod Packs
-pub mod Rings
 pub mod Sums
 pub mod Terms
 pub mod Rule

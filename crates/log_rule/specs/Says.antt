@@ -1,4 +1,4 @@
--- What the rule says of a log's table, whatever its words and passes are, in the words of the stream.
+-- What the rule says of a log, whatever its words and passes are, in the words of the stream.
 use Rattle.std.specs.Prelude.{◌≡◌, ℕ, ◌+◌, ◌-◌, ◌*◌, ◌%◌, ◌<◌, ◌≤◌, ◌⊎◌, List, length, map, max, slice_index}
 use Rattle.std.specs.List.{AllByRecursion}
 use mathlib.Core.Option.{some}
@@ -31,7 +31,7 @@ use Rattle.log_rule.specs.Table.{LogRuled}
 abbrev pub tail_shown : Geometry → List ℕ → ℕ
 tail_shown g words = max (max (shown_position g (slice_index words (tail_place 0))) (shown_position g (slice_index words (tail_place 1)))) (shown_position g (slice_index words (tail_place 2)))
 
--- a committed frame's words stand in the table, as far as they aren't cleaned: it is spelt there as a frame of the stream
+-- a committed frame's words stand at their places, as far as they aren't cleaned: it is spelt there as a frame of the stream
 pub record IsSpelt (i : Identity) (cleaned : ℕ) (words : List ℕ) (f : FrameWords) : Type 0 where
   pub done : IsCommittedFrame i f
   pub stands : (k : ℕ) → k < length f.words → cleaned ≤ f.start + 8 * k → slice_index words (slot i.geometry (f.start + 8 * k)) ≡ slice_index f.words k

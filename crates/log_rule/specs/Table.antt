@@ -1,4 +1,4 @@
--- The rule over a table's state, the first seat, and what each step tells.
+-- The rule over all words and seats, the first seat, and how seats are dealt, told and joined.
 use Rattle.std.specs.Prelude.{ℕ, zero, suc, ◌-◌, List, [], ◌∷◌, ◌++◌, map, replicate, slice_index}
 use Rattle.atomic_table.specs.Table.{State}
 use Rattle.theory.specs.Bytes.{Identity}

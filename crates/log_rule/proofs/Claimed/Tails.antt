@@ -1,5 +1,5 @@
 -- What the three raw tails say of the terms, and how they change.
-use Rattle.std.proofs.Common.{◌≡◌, ◌≢◌, ℕ, ◌+◌, ◌-◌, ◌%◌, ◌^◌, ◌<◌, ◌≤◌, List, length, set, sym, ap, ◌∙◌, subst, lt_of_not-le, mod-lt, get_or-set_other, get_or-set_same, arith}
+use Rattle.std.proofs.Common.{◌≡◌, ℕ, ◌+◌, ◌-◌, ◌%◌, ◌^◌, ◌<◌, ◌≤◌, List, length, set, sym, ap, ◌∙◌, subst, lt_of_not-le, mod-lt, get_or-set_other, get_or-set_same, arith}
 use native.Mathlib.Decide.{dec_le, ℕ_discrete}
 use mathlib.Core.Logic.{dite}
 use Rattle.std.specs.Prelude.{slice_index}
@@ -68,10 +68,6 @@ next_old g first t ws f r nar k le e = dite (dec_le (k + 1) t.newest)
     (λ no. let lt = lt_of_not-le no in omega arith)
 
 -- ---- steps
-
--- neither the active count nor a raw tail stands here
-abbrev pub Far : ℕ → Type 0
-Far i = (i ≢ count_place) × ((k : ℕ) → i ≢ tail_place k)
 
 pub elsewhere : (g : Geometry) (first : ℕ) (t : Terms) (ws ws' : List ℕ) → ((j : ℕ) → 0 < j → j < 80 → slice_index ws' j ≡ slice_index ws j) → Tailed g first t ws → Tailed g first t ws'
 elsewhere g first t ws ws' same r = record {

@@ -21,7 +21,7 @@ use Rattle.log_rule.specs.Claims.Rule.{Bounds, ClaimsHold, shape_of, size_of, we
 abbrev pub tail_of : Bounds → List Pass → ℕ
 tail_of b passes = b.start + total (weight length_of) passes
 
--- the words of a frame stand in the table, those that aren't cleaned
+-- the words of a frame stand at their places, those that aren't cleaned
 abbrev pub StandsInTable : Bounds → List ℕ → FrameWords → Type 0
 StandsInTable b words f = (i : ℕ) → i < length f.words → b.cleaned ≤ f.start + 8 * i → slice_index words (slot (shape_of b) (f.start + 8 * i)) ≡ slice_index f.words i
 

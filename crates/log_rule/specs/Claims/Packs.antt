@@ -1,5 +1,5 @@
--- Where the words of a log stand in its table.
--- The control words are a cache line apart, 16 words: the limit, the active count, the three raw tails, and the positions of eight consumers. Behind them stand the words of three terms.
+-- Where the words of a log stand.
+-- The control words are a cache line apart, 16 words: the limit, the active count, the three raw tails, and the positions of eight consumers. Behind them stand the words of three terms, which a log that runs has in the proofs alone.
 use Rattle.std.specs.Prelude.{ℕ, ◌+◌, ◌*◌, ◌/◌, ◌%◌}
 use Rattle.theory.specs.Position.{Geometry}
 

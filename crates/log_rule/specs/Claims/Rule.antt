@@ -1,5 +1,5 @@
 -- The rule that a log's words and passes obey between any two steps: what is claimed, and by whom.
--- It is said over the table's words and all passes, in whatever threads they are. What passes claimed is, however
+-- It is said over all words and all passes, in whatever threads they are. What passes claimed is, however
 -- entries are weighed (`fair`), what stands in one list that tiles the stream; who has a position and where the tail
 -- is are sums over the passes.
 use Rattle.std.specs.Prelude.{◌≡◌, ℕ, suc, ◌+◌, ◌*◌, ◌/◌, ◌%◌, ◌<◌, ◌≤◌, ◌==◌, cond, List, [], length, map, slice_index}

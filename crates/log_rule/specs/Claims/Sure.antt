@@ -13,7 +13,7 @@ use Rattle.publication.specs.Controls.{Leads}
 use Rattle.log_rule.specs.declared.claims.view.View.{View}
 use Rattle.log_rule.specs.Claims.Packs.{count_place, limit_place, tail_place}
 
--- the control words among the words of the table
+-- the control words among all words
 abbrev pub controls_in : List ℕ → Controls
 controls_in words = record { limit = slice_index words limit_place; count = slice_index words count_place; tails = slice_index words (tail_place 0) ∷ slice_index words (tail_place 1) ∷ slice_index words (tail_place 2) ∷ [] }
 

@@ -1,4 +1,4 @@
-//! Where the words of a log stand in its table.
+//! Where the control words of a log stand in its table, by the places that the rule gives them.
 
 ghost use Rattle.std.specs.Prelude.{◌≡◌, ◌<◌};
 ghost use Rattle.theory.specs.Words.{tail_word};
@@ -10,12 +10,13 @@ pub const LINE: usize = 16;
 /// The place of the active count among the words of the table. That of the limit is 0.
 pub const COUNT: usize = 16;
 
-/// That of the first raw tail, and that of the first consumer's position; each further one is a line behind.
-pub const TAILS: usize = 32;
+/// That of the first raw tail; each further one is a line behind.
+const TAILS: usize = 32;
 
+/// That of the first consumer's position; each further one is a line behind.
 pub const CONSUMERS: usize = 80;
 
-/// That of the stream's first word.
+/// That of the first word behind the control words.
 pub const DATA: usize = 208;
 
 /// The place of the raw tail of a count's partition.

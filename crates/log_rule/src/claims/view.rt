@@ -1,4 +1,4 @@
-//! What a seat of a log's table knows, and what the table is told.
+//! What a seat of a log knows, and the stream that a log carries.
 
 use position::Identity;
 use publication::{Controls, Pass};
@@ -13,7 +13,7 @@ pub struct View {
     pub sure: u64,
 }
 
-/// What a log's table is told when it is made: the stream that it carries, and the position at which it begins.
+/// The stream that a log carries, and the position at which it begins.
 #[derive(Clone, Copy)]
 pub struct Origin {
     pub identity: Identity,
