@@ -1,5 +1,4 @@
-//! The rule of a log whose frames lie in plain memory, and the kinds of step that keep it. The log
-//! that threads share isn't over it yet: its frames are still words of its table.
+//! The rule of a log whose frames lie in plain memory, and the kinds of step that keep it.
 //!
 //! The words that `log_rule` speaks of, three terms of them, exist in the proofs alone here
 //! (`stream`). The table has the control words, and for each unit of 32 bytes one word more: the
