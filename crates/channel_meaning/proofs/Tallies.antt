@@ -5,7 +5,8 @@ use Rattle.image.specs.Rebuilding.{Inserting, join_of}
 use Rattle.receiver.specs.Lives.{IsStream, Stream}
 use Rattle.run_parties.specs.Runs.{GivesARun, TalliesARun}
 use Rattle.run_parties.specs.Tallies.{Counted, IsTallyOf}
-use Rattle.channel_meaning.specs.Tallies.{TalliesAll}
+use Rattle.run.specs.Streams.{IsRunStream, RunIsAStream, stream_of}
+use Rattle.channel_meaning.specs.Tallies.{TalliesAll, TalliesAllOfARun}
 use Rattle.channel_meaning.proofs.Runs.{run_in}
 
 pub no_more : (before given behind : List (List ℕ)) → length (before ++ (given ++ behind)) ≤ length given → before ++ (given ++ behind) ≡ given
@@ -27,3 +28,11 @@ all_of x is (Some i) t run few =
 
 pub tallies_all : GivesARun → TalliesAll
 tallies_all law x is session stream g id first core acts new lives honest t polled few = all_of x is core.image t (law x is session stream g id first core acts new lives honest t polled) few
+
+pub tallies_all_of_a_run : RunIsAStream → TalliesAllOfARun
+tallies_all_of_a_run law plan o p =
+    let s : IsRunStream plan o p = law plan o p in
+    record {
+      is = s;
+      all = λ g id first core acts new lives honest t polled few. all_of (stream_of p.log o.book s.closes.entries) s.stream core.image t (s.tallies g id first core acts new lives honest t polled) few;
+    }

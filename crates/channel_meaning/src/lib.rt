@@ -7,7 +7,8 @@
 //! read, and its beginning where the image joined at the start (`writes_what_is_read`).
 //!
 //! In a driver's run a subscriber whose receiver was handed datagrams alone that are honest for a stream, that refused no message,
-//! and has tallied as many as the stream has, has tallied all of its messages, in their order (`tallies_all`).
+//! and has tallied as many as the stream has, has tallied all of its messages, in their order (`tallies_all`); and the log of a run that
+//! has ended is such a stream, whatever its publishers were (`tallies_all_of_a_run`).
 //!
 //! The log of a publisher that has ended whole is closed: what it has claimed is a stream, from the log's start to its tail, and
 //! the messages of that are those that were read (`publishes_all_of_it`); its sender has lived, and knew no frames but those. So
@@ -22,9 +23,10 @@
 ghost use Rattle.channel_meaning.specs.Books.{GivesAllHonest, PublishesAllOfIt, WritesAllOfIt};
 ghost use Rattle.channel_meaning.specs.Copies.{CopiesAllOfIt};
 ghost use Rattle.channel_meaning.specs.Streams.{PublishesItsStream, WritesWhatIsRead};
-ghost use Rattle.channel_meaning.specs.Tallies.{TalliesAll};
+ghost use Rattle.channel_meaning.specs.Tallies.{TalliesAll, TalliesAllOfARun};
 
 use receiver::polls_a_run;
+use run::run_is_a_stream;
 use run_parties::gives_a_run;
 use sender_meaning::{setups_are_honest, stream_gives_honest};
 
@@ -84,4 +86,14 @@ pub fn tallies_all()
 {
     // A law that the proof cites.
     gives_a_run();
+}
+
+/// A law: the log of a run that has ended is a stream, of what its publishers have claimed. So what a receiver of the run has tallied, if
+/// it was handed datagrams alone that are honest for that stream and has tallied as many messages as it has, are all of its messages, in
+/// their order.
+pub fn tallies_all_of_a_run()
+    ensures { TalliesAllOfARun }
+{
+    // A law that the proof cites.
+    run_is_a_stream();
 }
