@@ -1,6 +1,6 @@
 //! A log's frames, as a reader finds them and as its words show them.
 
-ghost use Rattle.std.specs.Prelude.{◌<◌, ◌^◌};
+ghost use Rattle.std.specs.Prelude.{◌≡◌, ◌<◌, ◌^◌};
 ghost use Rattle.shared_log.specs.Readers.{IsReaderOf};
 
 use crate::claimed::{Claimed, LONGEST, fill};
@@ -24,7 +24,9 @@ pub struct Terms {
 }
 
 /// The greatest position that the raw tails show.
-pub fn shown(log: &mut Log) -> u64 {
+pub fn shown(log: &mut Log) -> u64
+    ensures { log.new ≡ log.old }
+{
     let geometry = log.identity().geometry();
     let term = geometry.term_length();
     let control = 3 * (term as usize / 32);
