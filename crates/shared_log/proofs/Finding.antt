@@ -156,9 +156,6 @@ short_head g head is legal = let t = is.term.greatest in let a = legal.in_term i
 pub low_end : (g : Geometry) (head : FrameHead) (p n : ℕ) → IsGeometry g → IsStreamFrame g head → p ≡ head.start → n ≡ aligned head.frame_length → p + n < 2 ^ 56
 low_end g head p n is legal e f = let t = is.term.greatest in let a = legal.in_stream in omega arith
 
-pub low_start : (g : Geometry) (head : FrameHead) → IsGeometry g → IsStreamFrame g head → head.start < 2 ^ 56
-low_start g head is legal = let t = is.term.greatest in let a = legal.below in omega arith
-
 -- ---- its payload
 
 abbrev is_data : FrameKind → Type 0

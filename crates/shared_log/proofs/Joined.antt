@@ -1,8 +1,7 @@
 -- A consumer joins or leaves by the keeper's stores.
-use Rattle.std.proofs.Common.{◌≡◌, ◌≢◌, ℕ, zero, suc, ◌+◌, ◌*◌, ◌<◌, ◌≤◌, Bool, true, false, max, ◌-◌, get_or, List, [], ◌∷◌, ◌++◌, length, map, set, length-set, get_or-set_same, get_or-set_other, sym, refl, ap, ◌∙◌, subst, arith}
+use Rattle.std.proofs.Common.{◌≡◌, ◌≢◌, ℕ, zero, suc, ◌+◌, ◌<◌, ◌≤◌, Bool, true, false, max, ◌-◌, get_or, List, [], ◌∷◌, ◌++◌, length, map, set, length-set, get_or-set_same, get_or-set_other, sym, refl, ap, ◌∙◌, subst, arith}
 use Rattle.std.specs.Prelude.{slice_index}
 use Rattle.std.proofs.lemmas.List.{length-map, map-set}
-use Rattle.atomic_table.specs.Table.{Allows}
 use Rattle.publication.specs.declared.pass.Keeping.{Keeping}
 use Rattle.publication.specs.declared.pass.Pass.{Pass}
 use Rattle.publication.specs.declared.pass.Reading.{Reading}
@@ -10,15 +9,10 @@ use Rattle.theory.specs.Bytes.{Identity}
 use Rattle.theory.specs.Placed.{Among}
 use Rattle.theory.specs.Position.{max_position}
 use Rattle.publication.specs.Steps.{term_of}
-use Rattle.log_rule.specs.Claims.Packs.{consumer_place}
-use Rattle.log_rule.specs.Claims.Plays.{Mine}
-use Rattle.log_rule.specs.Claims.Sure.{LearnsControls}
-use Rattle.log_rule.specs.declared.rule.Key.{Key}
 use Rattle.log_rule.specs.Kept.{IsThere}
-use Rattle.log_rule.specs.Keepings.{Joins, Leaves, MayJoin, MayLeave, joined, keeping, least_of, least_there, left, newly, numbered}
-use Rattle.log_rule.specs.Table.{LogRuled, other_readings, reader_alone}
+use Rattle.log_rule.specs.Keepings.{MayJoin, MayLeave, joined, least_of, least_there, left, newly, numbered}
+use Rattle.log_rule.specs.Table.{other_readings, reader_alone}
 use Rattle.log_rule.proofs.Growing.{there_low}
-use Rattle.log_rule.proofs.Joining.{join, leave}
 use Rattle.log_passes.specs.Handles.{LogValue}
 use Rattle.shared_log.specs.Joining.{Becomes, Begins, Ends, HasConsumer, HasOther, IsFirstFree, IsJoined, Joins as ReaderJoins, KnowsControls, Leaves as ReaderLeaves, begun, with_newcomer}
 use Rattle.shared_log.specs.Keepers.{IsKeeping, KeeperValue, KnowsWho, ReadsConsumer, Sweeps, TookSteps, flag_of, keeping_of, reads_of, seen_positions, there_of, those_there}
@@ -45,18 +39,6 @@ pub flags_low : (v : Pass) (bs : List Bool) → KnowsWho v bs → (j : ℕ) → 
 flags_low v bs k j = subst (λ (l : List ℕ). slice_index l j ≤ 1) (sym k.flags) (flag_at bs j)
 
 -- ---- the stores are allowed
-
-pub join_here : (key : Key) (slots id : ℕ) (m : Mine) (i j p number place n : ℕ) → MayJoin m.0.pass number n → j ≡ number → p ≡ place → i ≡ 80 + 16 * number
-    → Allows (LogRuled key) slots id m i (λ _. n) (λ _ m'. keeping (λ v w. LearnsControls [] v w) (λ v w. Joins v j p n w) m m')
-join_here key slots id m i j p number place n may same there at =
-    let here : consumer_place number ≡ i = omega (arith, at) in
-    subst (λ (x : ℕ × ℕ × ℕ). Allows (LogRuled key) slots id m x.0 (λ _. n) (λ _ m'. keeping (λ v w. LearnsControls [] v w) (λ v w. Joins v x.1 x.2 n w) m m')) (λ q. (here q, sym same q, sym there q)) (join key slots id m number place n may)
-
-pub leave_here : (key : Key) (slots id : ℕ) (m : Mine) (i j p number place : ℕ) → MayLeave m.0.pass place number → j ≡ number → p ≡ place → i ≡ 80 + 16 * number
-    → Allows (LogRuled key) slots id m i (λ _. 0) (λ _ m'. keeping (λ v w. LearnsControls [] v w) (λ v w. Leaves v p j w) m m')
-leave_here key slots id m i j p number place may same there at =
-    let here : consumer_place number ≡ i = omega (arith, at) in
-    subst (λ (x : ℕ × ℕ × ℕ). Allows (LogRuled key) slots id m x.0 (λ _. 0) (λ _ m'. keeping (λ v w. LearnsControls [] v w) (λ v w. Leaves v x.2 x.1 w) m m')) (λ q. (here q, sym same q, sym there q)) (leave key slots id m place number may)
 
 -- ---- what the keeper knows then
 

@@ -1,5 +1,5 @@
 -- A reader's steps, by what it is: its seat is the consumer that stands where it says.
-use Rattle.std.proofs.Common.{◌≡◌, ℕ, ◌<◌, zero, suc, List, [], ◌∷◌, map, set, inl, inr, sym, refl, ap, ◌∙◌, subst, lt_of_not-le, arith}
+use Rattle.std.proofs.Common.{◌≡◌, ℕ, ◌<◌, zero, suc, List, [], ◌∷◌, map, set, sym, refl, ap, ◌∙◌, subst, lt_of_not-le, arith}
 use mathlib.Core.Logic.{dite}
 use native.Mathlib.Decide.{dec_le}
 use mathlib.Core.Option.{some, some-injective, some-ne-none}
@@ -11,8 +11,8 @@ use Rattle.publication.specs.declared.pass.FrameWords.{FrameWords}
 use Rattle.publication.specs.declared.pass.Pass.{Pass}
 use Rattle.publication.specs.declared.pass.Reading.{Reading}
 use Rattle.log_passes.specs.Readers.{SameSeat}
-use Rattle.log_passes.specs.Handles.{LogValue, PublisherValue}
-use Rattle.shared_log.specs.Readers.{Has, IsReaderOf, IsReading, Misses, OnlyReads, ReaderValue, Rests, known_at, known_of, misses_at, misses_of, missing_at, positions_of}
+use Rattle.log_passes.specs.Handles.{LogValue}
+use Rattle.shared_log.specs.Readers.{IsReaderOf, IsReading, Misses, OnlyReads, ReaderValue, Rests, known_at, known_of, misses_at, missing_at, positions_of}
 use Rattle.log_rule.specs.Readings.{Consumes, IsConsumer, Looks, MayPass, knows_more, missed, moved_to, with_consumer}
 
 -- ---- it stays the consumer that it is
@@ -67,17 +67,6 @@ looked_still v w place number position read_to n is told =
   where
     zero_is : (n : ℕ) → n < 1 → n ≡ 0
     zero_is n lt = omega arith
-
--- the pass stays one of its log
-pub looked_same : (v w : Pass) (place number position read_to n : ℕ) → IsReading v place number position read_to → Looks v place n w → (w.identity ≡ v.identity) × (w.start ≡ v.start)
-looked_same v w place number position read_to n is told =
-    let l = told is.consumer is.is in
-    dite (dec_le 1 n)
-    (λ pos. let e = (l.found pos).after in (ap (λ (x : Pass). x.identity) e, ap (λ (x : Pass). x.start) e))
-    (λ no. let e = (l.none (let low = lt_of_not-le no in omega arith)).0 in (ap (λ (x : Pass). x.identity) e, ap (λ (x : Pass). x.start) e))
-
-pub passed_same : (v w : Pass) (place number position read_to : ℕ) → IsReading v place number position read_to → Consumes v place read_to w → (w.identity ≡ v.identity) × (w.start ≡ v.start)
-passed_same v w place number position read_to is told = let e = (told is.consumer is.is).after in (ap (λ (x : Pass). x.identity) e, ap (λ (x : Pass). x.start) e)
 
 pub passed_here : (v w : Pass) (place number position read_to : ℕ) → IsReading v place number position read_to → Consumes v place read_to w → IsReading w place number read_to read_to
 passed_here v w place number position read_to is told =
@@ -134,42 +123,17 @@ known_missing r q a = (λ j. known_at (a.pass j).reading (ap (λ (x : ReaderValu
 
 -- ---- it rests
 
-pub same_seat : (p : PublisherValue) → SameSeat p p
-same_seat p = record { of = refl; seat = refl; sure = refl; controls = λ one. refl; freed = refl }
-
-pub same_on : (p q s : PublisherValue) → SameSeat p q → SameSeat q s → SameSeat p s
-same_on p q s a c = record { of = c.of ∙ a.of; seat = c.seat ∙ a.seat; sure = c.sure ∙ a.sure; controls = λ one. c.controls (a.sure ∙ one) ∙ a.controls one; freed = c.freed ∙ a.freed }
-
-pub rests_same : (r : ReaderValue) → Rests r r
-rests_same r = record { seat = same_seat r.held; pass = refl; same = refl }
-
-pub rests_on : (r q s : ReaderValue) → Rests r q → Rests q s → Rests r s
-rests_on r q s a c = record { seat = same_on r.held q.held s.held a.seat c.seat; pass = c.pass ∙ a.pass; same = c.same ∙ ap (λ (x : ReaderValue). record x { held = s.held }) a.same }
-
 pub known_on : (r q : ReaderValue) → Rests r q → known_of q ≡ known_of r
 known_on r q a = (λ j. known_at (a.pass j).reading (place_is j))
   where
     place_is : q.place ≡ r.place
     place_is = ap (λ (x : ReaderValue). x.place) a.same
 
-pub misses_on : (r q : ReaderValue) → Rests r q → misses_of q ≡ misses_of r
-misses_on r q a = (λ j. misses_at (a.pass j).reading (ap (λ (x : ReaderValue). x.place) a.same j))
-
-pub has_on : (r q : ReaderValue) → Rests r q → (f : FrameWords) → Has r f → Has q f
-has_on r q a f (inl k) = inl (subst (Among f) (sym (known_on r q a)) k)
-has_on r q a f (inr among) = inr (subst (λ (v : Pass). Among f v.work.frames) (sym a.pass) among)
-
 -- the same of what consumers are, where one is changed alike
 pub put_equal : (h : Reading → ℕ) (rs : List Reading) (i : ℕ) (r x : Reading) → get_elem? rs i ≡ some r → h x ≡ h r → map h (set rs i x) ≡ map h rs
 put_equal h [] i r x at e = refl
 put_equal h (y ∷ ys) zero r x at e = let same : h x ≡ h y = e ∙ ap h (sym (some-injective y r at)) in ap (λ (n : ℕ). n ∷ map h ys) same
 put_equal h (y ∷ ys) (suc i) r x at e = ap (λ (ns : List ℕ). h y ∷ ns) (put_equal h ys i r x at e)
-
-pub reader_on : (l : LogValue) (r q : ReaderValue) → Rests r q → IsReaderOf l r → IsReaderOf l q
-reader_on l r q a is = record {
-  of = record { table = a.seat.of ∙ is.of.table; identity = ap (λ (v : Pass). v.identity) a.pass ∙ is.of.identity; start = ap (λ (v : Pass). v.start) a.pass ∙ is.of.start };
-  number = subst (λ (x : ReaderValue). x.number < 8) (sym a.same) is.number;
-}
 
 -- it stays one of the log's readers
 pub still_reader : (l : LogValue) (r q : ReaderValue) → IsReaderOf l r → SameSeat r.held q.held → OnlyReads r.held.pass q.held.pass → q.number ≡ r.number → IsReaderOf l q

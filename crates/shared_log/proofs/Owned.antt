@@ -1,19 +1,16 @@
 -- Whose claims are.
-use Rattle.std.proofs.Common.{◌≡◌, ℕ, ◌+◌, ◌*◌, ◌%◌, ◌<◌, eqb, cond, inl, inr, Bool, true, false, List, [], ◌∷◌, ◌++◌, map, sym, refl, ap, ◌∙◌, subst, lt_of_not-le, arith}
+use Rattle.std.proofs.Common.{◌≡◌, ℕ, ◌+◌, ◌<◌, eqb, cond, inl, inr, Bool, true, false, List, [], ◌∷◌, ◌++◌, map, sym, refl, ap, ◌∙◌, subst, lt_of_not-le, arith}
 use mathlib.Core.Logic.{dite}
 use native.Mathlib.Decide.{dec_le, ℕ_discrete}
 use lib.IntN.{ℤ_discrete}
 use Rattle.std.specs.List.{AllByRecursion}
 use Rattle.theory.specs.Position.{framed_length, id_of, span}
 use Rattle.theory.specs.Placed.{Among}
-use Rattle.theory.specs.Refusal.{limit_in}
 use Rattle.theory.specs.Words.{id_in, offset_in}
 use Rattle.theory.proofs.Lists.{all_append, among_left}
 use Rattle.publication.specs.declared.pass.ClaimRange.{ClaimRange}
 use Rattle.publication.specs.declared.pass.Pass.{Pass}
-use Rattle.publication.specs.declared.step.WordStep.TheVariants as steps
-use Rattle.publication.specs.Frames.{CompletesFrame}
-use Rattle.publication.specs.Steps.{Adds, Arms, Commits, HasWord, Nexts, Rotates, Stores, addition, count_in, disarmed, geometry_of, message_at, noted, padding_at, tail_step, term_of, with_armed, with_begun, with_full}
+use Rattle.publication.specs.Steps.{Adds, Rotates, addition, count_in, disarmed, geometry_of, message_at, noted, padding_at, term_of, with_full}
 use Rattle.log_rule.specs.Claims.Closing.{handed_over, owned_by, renamed}
 use Rattle.log_rule.specs.Claims.Rule.{entry_of}
 use Rattle.log_rule.specs.Claims.Sums.{total}
@@ -50,15 +47,6 @@ owns_more v w c number parts numbers claims mine o = record {
   mine = λ less. subst (λ (x : ℕ × List ClaimRange). AllByRecursion (IsOwn x.0) x.1) (λ i. (sym number i, sym claims i)) (all_append (IsOwn v.number) v.right.claims (c ∷ []) (o.mine (subst (λ (n : ℕ). n < 1024) parts less)) (mine, tt));
 }
 
-pub arms_owns : (v : Pass) (n : ℕ) (w : Pass) → Arms v n w → OwnsClaims v → OwnsClaims w
-arms_owns v n w t o = dite (ℤ_discrete (id_in n) (id_of (geometry_of v) v.seen.count))
-    (λ named. dite (dec_le (term_of v) (offset_in n))
-    (λ full. owns_as v w (noted (tail_step v n) (with_full v v.seen.count)) refl refl refl refl (t.used_up named full) o)
-    (λ no. let room = lt_of_not-le no in dite (dec_le (limit_in v.right.limit) (v.seen.count * term_of v + offset_in n))
-    (λ past. owns_as v w (noted (tail_step v n) v) refl refl refl refl (t.limited named room past) o)
-    (λ not. owns_as v w (noted (tail_step v n) (with_armed v)) refl refl refl refl (t.below named room (lt_of_not-le not)) o)))
-    (λ other. owns_as v w (noted (tail_step v n) v) refl refl refl refl (t.other other) o)
-
 pub adds_owns : (v : Pass) (size n : ℕ) (w : Pass) → Adds v size n w → OwnsClaims v → OwnsClaims w
 adds_owns v size n w t o = dite (dec_le (offset_in n + framed_length (geometry_of v) size) (term_of v))
     (λ fits. let e = t.fits fits in owns_more v w (message_at v n size) (ap (λ (y : Pass). y.number) e) (ap (λ (y : Pass). y.right.parts) e) (ap (λ (y : Pass). y.right.numbers) e) (ap (λ (y : Pass). y.right.claims) e) refl o)
@@ -66,23 +54,12 @@ adds_owns v size n w t o = dite (dec_le (offset_in n + framed_length (geometry_o
     (λ full. owns_as v w (noted (addition v size n) (with_full (disarmed v) (count_in (geometry_of v) n))) refl refl refl refl (t.over full) o)
     (λ not. let e = t.trips (lt_of_not-le not) (lt_of_not-le no) in owns_more v w (padding_at v n) (ap (λ (y : Pass). y.number) e) (ap (λ (y : Pass). y.right.parts) e) (ap (λ (y : Pass). y.right.numbers) e) (ap (λ (y : Pass). y.right.claims) e) refl o))
 
-pub nexts_owns : (v : Pass) (k n : ℕ) (w : Pass) → Nexts v k n w → OwnsClaims v → OwnsClaims w
-nexts_owns v k n w t o = dite (ℤ_discrete (id_in n) (id_of (geometry_of v) (k + 1)))
-    (λ yes. owns_as v w (noted (steps.NextTail ((k + 1) % 3) n) (with_begun v (k + 1))) refl refl refl refl (t.begun yes) o)
-    (λ no. owns_as v w (noted (steps.NextTail ((k + 1) % 3) n) v) refl refl refl refl (t.other no) o)
-
 pub rotates_claims : (v : Pass) (k from n : ℕ) (w : Pass) → Rotates v k from n w → w.right.claims ≡ v.right.claims
 rotates_claims v k from n w t = dite (ℕ_discrete n from)
     (λ hit. ap (λ (y : Pass). y.right.claims) (t.begun (inl hit)))
     (λ miss. dite (ℤ_discrete (id_in n) (id_of (geometry_of v) (k + 1)))
     (λ yes. ap (λ (y : Pass). y.right.claims) (t.begun (inr yes)))
     (λ no. ap (λ (y : Pass). y.right.claims) (t.other miss no)))
-
-pub stores_owns : (v w : Pass) (p x : ℕ) → HasWord v 1 p → Stores v p x w → OwnsClaims v → OwnsClaims w
-stores_owns v w p x h s o = let e = s h.front h.draft h.behind h.place h.parts h.above h.inside h.position in owns_same v w (ap (λ (y : Pass). y.number) e) (ap (λ (y : Pass). y.right.parts) e) (ap (λ (y : Pass). y.right.numbers) e) (ap (λ (y : Pass). y.right.claims) e) o
-
-pub commits_owns : (v w : Pass) (p x : ℕ) → CompletesFrame v p x → Commits v p x w → OwnsClaims v → OwnsClaims w
-commits_owns v w p x h s o = let e = s h.front h.draft h.behind h.parts h.inside h.position in owns_same v w (ap (λ (y : Pass). y.number) e) (ap (λ (y : Pass). y.right.parts) e) (ap (λ (y : Pass). y.right.numbers) e) (ap (λ (y : Pass). y.right.claims) e) o
 
 -- ---- what is handed over
 

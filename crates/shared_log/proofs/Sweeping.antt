@@ -68,12 +68,6 @@ numbered_is from (zero ∷ xs) i a = let r = numbered_is (suc from) xs i a in le
 numbered_is from (suc x ∷ xs) i (inl e) = (0, (let z : i ≡ from + 0 = omega arith in z), (let z : 0 < suc x = omega arith in z), (let z : 0 < suc (length xs) = omega arith in z))
 numbered_is from (suc x ∷ xs) i (inr a) = let r = numbered_is (suc from) xs i a in let e = r.1 in let lt = r.3 in (suc r.0, (let z : i ≡ from + suc (r.0) = omega arith in z), r.2, (let z : suc (r.0) < suc (length xs) = omega arith in z))
 
-taken_flag : (there : List ℕ) (j k : ℕ) → k < length (take j there) → slice_index (take j there) k ≡ slice_index there k
-taken_flag there zero k lt = absurd (omega arith)
-taken_flag [] (suc j) k lt = absurd (omega arith)
-taken_flag (x ∷ xs) (suc j) zero lt = refl
-taken_flag (x ∷ xs) (suc j) (suc k) lt = taken_flag xs j k (omega arith)
-
 -- ---- positions
 
 pub map_same : (f g : ℕ → ℕ) (xs : List ℕ) → ((x : ℕ) → Among x xs → f x ≡ g x) → map f xs ≡ map g xs

@@ -1,18 +1,16 @@
 -- A reader that has found a frame and not read it stays the reader that it was.
-use Rattle.std.proofs.Common.{◌≡◌, ℕ, ◌+◌, ◌*◌, ◌<◌, ◌≤◌, List, [], ◌∷◌, length, sym, ap, ◌∙◌, subst}
+use Rattle.std.proofs.Common.{◌≡◌, ℕ, ◌+◌, ◌<◌, ◌≤◌, List, [], ◌∷◌, length, sym, ap, ◌∙◌, subst}
 use Rattle.theory.specs.Placed.{Among}
-use Rattle.theory.specs.Position.{IsGeometry, aligned, max_position}
+use Rattle.theory.specs.Position.{aligned, max_position}
 use Rattle.theory.proofs.Lists.{among_left}
 use Rattle.position.specs.declared.head.FrameHead.{FrameHead}
 use Rattle.position.specs.declared.head.FrameKind.TheVariants as kinds
-use Rattle.position.specs.Heads.{head_of}
-use Rattle.publication.specs.Contents.{frame_in}
 use Rattle.publication.specs.declared.pass.Pass.{Pass}
 use Rattle.publication.specs.declared.pass.Reading.{Reading}
 use Rattle.log_passes.specs.Handles.{LogValue}
 use Rattle.shared_log.specs.Readers.{Finds, FindsPart, IsReading, ReaderValue, known_of}
 use Rattle.shared_log.specs.Whole.{FindsLonger}
-use Rattle.shared_log.proofs.Finding.{covers_is, unfit}
+use Rattle.shared_log.proofs.Finding.{unfit}
 use Rattle.shared_log.proofs.Looking.{known_is}
 use mathlib.Core.Option.{some-injective}
 
@@ -36,12 +34,6 @@ unread_reading l r q head f was is =
       low = is.low;
       low_end = subst (λ (v : Pass). r.read_to ≤ max_position v.identity.geometry) (sym f.stays.pass.rest) was.low_end;
     }
-
--- where the frame ends
-pub found_end : (l : LogValue) (r : ReaderValue) (head : FrameHead) (q : ReaderValue) → IsGeometry l.identity.geometry → Finds l r head q → q.read_to ≡ r.position + aligned head.frame_length
-found_end l r head q g f =
-    let whole : aligned head.frame_length ≡ 8 * length f.frame.words = ap (λ (h : FrameHead). aligned h.frame_length) f.shown ∙ ap (λ (k : ℕ). aligned (head_of k (frame_in f.frame)).frame_length) (sym f.here.at) ∙ covers_is l.identity f.frame g f.here.done in
-    f.read ∙ (λ j. f.here.at j + sym whole j)
 
 pub finds_longer : (l : LogValue) (r : ReaderValue) (head : FrameHead) (before : List ℕ) (q s : ReaderValue) (after : List ℕ) → (f : FindsPart l r head before q after) → head.kind ≡ kinds.Data → 32 + length before < head.frame_length → s ≡ record q { read_to = r.read_to } → q.read_to ≡ r.position + aligned head.frame_length → FindsLonger l r head before s after
 finds_longer l r head before q s after f kind long same end = record {
