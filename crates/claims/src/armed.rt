@@ -95,7 +95,11 @@ impl Armed {
             size,
         } = self;
         let covered = log.identity().geometry().framed_length(size);
-        let Equipped { publisher, bytes } = equipped.as_mut();
+        let Equipped {
+            publisher,
+            bytes,
+            ..
+        } = equipped.as_mut();
         match add_range(&mut OnLog::new(log), publisher, count, size) {
             Ok(start) => {
                 fill(bytes, size as usize);

@@ -88,7 +88,11 @@ impl Claim {
             start,
             end,
         } = self;
-        let Equipped { publisher, bytes } = equipped.as_mut();
+        let Equipped {
+            publisher,
+            bytes,
+            ..
+        } = equipped.as_mut();
         commit(&mut OnLog::new(log), publisher, start, bytes.as_slice());
         (Claimant { equipped }, end)
     }
@@ -106,7 +110,11 @@ impl Claim {
         } = self;
         // What always holds of it, for the proof.
         let _ = log.identity().geometry();
-        let Equipped { publisher, bytes } = equipped.as_mut();
+        let Equipped {
+            publisher,
+            bytes,
+            ..
+        } = equipped.as_mut();
         let size = bytes.len() as u32;
         abort(&mut OnLog::new(log), publisher, start, size);
         (Claimant { equipped }, end)

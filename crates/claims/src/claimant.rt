@@ -39,7 +39,7 @@ impl Claimant {
         requires room { (geometry_of publisher.pass).mtu ≤ vec_capacity bytes }
         ensures { IfOk result (λ c. c ≡ publisher) }
     {
-        let equipped = Box::new(alloc, Equipped { publisher, bytes })?;
+        let equipped = Box::new(alloc, Equipped::new(publisher, bytes))?;
         Ok(Claimant { equipped })
     }
 
@@ -57,7 +57,11 @@ impl Claimant {
         ensures rests { IsResting self }
         ensures room { (geometry_of self.pass).mtu ≤ vec_capacity result.1 }
     {
-        let Equipped { publisher, bytes } = Box::into_inner(self.equipped);
+        let Equipped {
+            publisher,
+            bytes,
+            ..
+        } = Box::into_inner(self.equipped);
         (publisher, bytes)
     }
 }
