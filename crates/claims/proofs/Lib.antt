@@ -1,3 +1,4 @@
+mod Boxed
 pub mod Rests
 pub mod Halves
 pub mod Eights

@@ -11,15 +11,16 @@ ghost use Rattle.claims.specs.Claimings.{AddsRange, ArmsFor, DeniesMessage, Goes
 use crate::claim::Claim;
 use crate::claimant::Claimant;
 use crate::denied::Denied;
+use crate::equipped::Equipped;
 use publication::{Look, Refusal, add_range, look_at};
 use shared_log::{Log, OnLog, Publisher};
+use std::alloc::Global;
 use std::marker::Model;
 
 /// A publisher that found room below the limit, and may add to the tail at which it looked, once. It must be spent, by
 /// `add`.
 pub struct Armed {
-    publisher: Publisher,
-    bytes: Vec<u8>,
+    equipped: Box<Equipped, Global>,
     /// The count of the term at which it looked.
     count: u32,
     /// The size of its message in bytes.
@@ -32,9 +33,9 @@ impl Model for Armed {
 
     ghost Value = { ArmedValue };
 
-    ghost view = { λ a. record { publisher = a.publisher; count = a.count; size = a.size } };
+    ghost view = { λ a. record { publisher = a.equipped.value.publisher; count = a.count; size = a.size } };
 
-    ghost invariant = { λ a. MayAdd a.publisher a.count a.size (vec_capacity a.bytes) };
+    ghost invariant = { λ a. MayAdd a.equipped.value.publisher a.count a.size (vec_capacity a.equipped.value.bytes) };
 }
 
 /// Looks at a log for a claim of `length` bytes, up to the greatest payload of a frame: the limit, the active count and its
@@ -45,23 +46,20 @@ pub fn arm(log: &Log, claimant: Claimant, length: u32) -> Result<Armed, Denied>
     ensures armed { IfOk result (λ a. ArmsFor log.now claimant length a) }
     ensures denied { IfErr result (λ d. DeniesMessage log.now claimant length d.refusal d.claimant) }
 {
-    let Claimant {
-        mut publisher,
-        bytes,
-    } = claimant;
+    let Claimant { mut equipped } = claimant;
     let mut words = OnLog::new(log);
-    match look_at(&mut words, &mut publisher) {
+    let publisher = &mut equipped.as_mut().publisher;
+    match look_at(&mut words, publisher) {
         Look::Open(count) => Ok(Armed {
-            publisher,
-            bytes,
+            equipped,
             count,
             size: length,
         }),
         Look::UsedUp(count) => {
-            let refusal = turn_from(&mut words, &mut publisher, count);
-            Err(Denied::new(refusal, publisher, bytes))
+            let refusal = turn_from(&mut words, publisher, count);
+            Err(Denied::new(refusal, equipped))
         }
-        Look::Refused(refusal) => Err(Denied::new(refusal, publisher, bytes)),
+        Look::Refused(refusal) => Err(Denied::new(refusal, equipped)),
     }
 }
 
@@ -92,19 +90,23 @@ impl Armed {
         ensures denied { IfErr result (λ d. (p : PublisherValue) → ArmsFor log.now p self.size self → DeniesMessage log.now p self.size d.refusal d.claimant) }
     {
         let Armed {
-            mut publisher,
-            mut bytes,
+            mut equipped,
             count,
             size,
         } = self;
         let covered = log.identity().geometry().framed_length(size);
-        match add_range(&mut OnLog::new(log), &mut publisher, count, size) {
+        let Equipped {
+            publisher,
+            bytes,
+            ..
+        } = equipped.as_mut();
+        match add_range(&mut OnLog::new(log), publisher, count, size) {
             Ok(start) => {
-                fill(&mut bytes, size as usize);
+                fill(bytes, size as usize);
                 let end = start + u64::from(covered);
-                Ok(Claim::new(publisher, bytes, start, end))
+                Ok(Claim::new(equipped, start, end))
             }
-            Err(refusal) => Err(Denied::new(refusal, publisher, bytes)),
+            Err(refusal) => Err(Denied::new(refusal, equipped)),
         }
     }
 }

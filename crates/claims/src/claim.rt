@@ -8,16 +8,17 @@ ghost use Rattle.claims.specs.Claimings.{EndsClaim};
 ghost use Rattle.claims.specs.Holdings.{HasOpen, end_of, size_of};
 
 use crate::claimant::Claimant;
+use crate::equipped::Equipped;
 use publication::{abort, commit};
-use shared_log::{Log, OnLog, Publisher};
+use shared_log::{Log, OnLog};
+use std::alloc::Global;
 use std::marker::Model;
 
 /// A range of the stream that is a publisher's, for one frame of a message, whose bytes are made in the publisher's block.
 /// It must be spent, by `commit` or by `abort`: readers wait before it.
 pub struct Claim {
-    publisher: Publisher,
-    /// Those of its message, as many as were claimed.
-    bytes: Vec<u8>,
+    /// Its bytes are those of the message, as many as were claimed.
+    equipped: Box<Equipped, Global>,
     start: u64,
     end: u64,
 }
@@ -28,21 +29,20 @@ impl Model for Claim {
 
     ghost Value = { ClaimValue };
 
-    ghost view = { λ c. record { publisher = c.publisher; start = c.start; bytes = c.bytes.items } };
+    ghost view = { λ c. record { publisher = c.equipped.value.publisher; start = c.start; bytes = c.equipped.value.bytes.items } };
 
-    ghost invariant = { λ c. HasOpen c.publisher c.start c.end (vec_len c.bytes) (vec_capacity c.bytes) };
+    ghost invariant = { λ c. HasOpen c.equipped.value.publisher c.start c.end (vec_len c.equipped.value.bytes) (vec_capacity c.equipped.value.bytes) };
 }
 
 impl Claim {
     ghost use Rattle.claims.specs.Lending.{LendsBytes};
 
-    pub(crate) fn new(publisher: Publisher, bytes: Vec<u8>, start: u64, end: u64) -> Claim
-        requires { HasOpen publisher start end (vec_len bytes) (vec_capacity bytes) }
-        ensures { result ≡ record { publisher = publisher; start = start; bytes = bytes.items } }
+    pub(crate) fn new(equipped: Box<Equipped, Global>, start: u64, end: u64) -> Claim
+        requires { HasOpen equipped.value.publisher start end (vec_len equipped.value.bytes) (vec_capacity equipped.value.bytes) }
+        ensures { result ≡ record { publisher = equipped.value.publisher; start = start; bytes = equipped.value.bytes.items } }
     {
         Claim {
-            publisher,
-            bytes,
+            equipped,
             start,
             end,
         }
@@ -66,7 +66,7 @@ impl Claim {
     pub fn bytes(&self) -> &[u8]
         ensures { result.now ≡ self.now.bytes }
     {
-        self.bytes.as_slice()
+        self.equipped.bytes.as_slice()
     }
 
     /// The bytes of its message, to be written.
@@ -74,7 +74,7 @@ impl Claim {
         ensures* writes_back { sem 𝓛 (LendsBytes self.entry result) }
         ensures value { result.now ≡ self.old.bytes }
     {
-        self.bytes.as_mut_slice()
+        self.equipped.bytes.as_mut_slice()
     }
 
     /// Commits the message. The answer is the claimant and the position behind the claim.
@@ -84,18 +84,17 @@ impl Claim {
         ensures end { result.1 ≡ end_of self }
     {
         let Claim {
-            mut publisher,
-            bytes,
+            mut equipped,
             start,
             end,
         } = self;
-        commit(
-            &mut OnLog::new(log),
-            &mut publisher,
-            start,
-            bytes.as_slice(),
-        );
-        (Claimant { publisher, bytes }, end)
+        let Equipped {
+            publisher,
+            bytes,
+            ..
+        } = equipped.as_mut();
+        commit(&mut OnLog::new(log), publisher, start, bytes.as_slice());
+        (Claimant { equipped }, end)
     }
 
     /// Makes the claim a padding of the same range. The answer is the claimant and the position behind the claim.
@@ -105,15 +104,19 @@ impl Claim {
         ensures end { result.1 ≡ end_of self }
     {
         let Claim {
-            mut publisher,
-            bytes,
+            mut equipped,
             start,
             end,
         } = self;
         // What always holds of it, for the proof.
         let _ = log.identity().geometry();
+        let Equipped {
+            publisher,
+            bytes,
+            ..
+        } = equipped.as_mut();
         let size = bytes.len() as u32;
-        abort(&mut OnLog::new(log), &mut publisher, start, size);
-        (Claimant { publisher, bytes }, end)
+        abort(&mut OnLog::new(log), publisher, start, size);
+        (Claimant { equipped }, end)
     }
 }

@@ -7,16 +7,17 @@ ghost use Rattle.log_passes.specs.Handles.{IsOf};
 ghost use Rattle.claims.specs.Claimings.{AcceptsMessage, DeniesMessage};
 ghost use Rattle.claims.specs.Holdings.{IsResting};
 
+use crate::equipped::Equipped;
 use publication::Refusal;
 use shared_log::{Log, OnLog, Publisher};
+use std::alloc::{AllocError, Global};
 use std::marker::Model;
 
 /// A publisher of a log with memory of its own for the bytes of a claim: a block of the MTU's length at least, of which only
 /// what is claimed is filled. Nothing of it is open.
 #[derive(Drop)]
 pub struct Claimant {
-    pub(crate) publisher: Publisher,
-    pub(crate) bytes: Vec<u8>,
+    pub(crate) equipped: Box<Equipped, Global>,
 }
 
 impl Model for Claimant {
@@ -26,19 +27,20 @@ impl Model for Claimant {
 
     ghost Value = { PublisherValue };
 
-    ghost view = { λ c. c.publisher };
+    ghost view = { λ c. c.equipped.value.publisher };
 
-    ghost invariant = { λ c. IsClaimant c.publisher (vec_capacity c.bytes) };
+    ghost invariant = { λ c. IsClaimant c.equipped.value.publisher (vec_capacity c.equipped.value.bytes) };
 }
 
 impl Claimant {
-    /// A publisher with a block, which has room for the MTU.
-    pub fn new(publisher: Publisher, bytes: Vec<u8>) -> Claimant
+    /// A publisher with a block, which has room for the MTU. The error comes only where memory is refused.
+    pub fn new(alloc: Global, publisher: Publisher, bytes: Vec<u8>) -> Result<Claimant, AllocError>
         requires rests { IsResting publisher }
         requires room { (geometry_of publisher.pass).mtu ≤ vec_capacity bytes }
-        ensures { result ≡ publisher }
+        ensures { IfOk result (λ c. c ≡ publisher) }
     {
-        Claimant { publisher, bytes }
+        let equipped = Box::new(alloc, Equipped::new(publisher, bytes))?;
+        Ok(Claimant { equipped })
     }
 
     /// The publisher.
@@ -46,7 +48,7 @@ impl Claimant {
         ensures is { result.now ≡ self.now }
         ensures rests { IsResting self.now }
     {
-        &self.publisher
+        &self.equipped.as_ref().publisher
     }
 
     /// The publisher and the block.
@@ -55,7 +57,11 @@ impl Claimant {
         ensures rests { IsResting self }
         ensures room { (geometry_of self.pass).mtu ≤ vec_capacity result.1 }
     {
-        let Claimant { publisher, bytes } = self;
+        let Equipped {
+            publisher,
+            bytes,
+            ..
+        } = Box::into_inner(self.equipped);
         (publisher, bytes)
     }
 }
@@ -68,5 +74,6 @@ pub fn offer(log: &Log, claimant: &mut Claimant, message: &[u8]) -> Result<u64, 
     ensures accepted { IfOk result (λ end. AcceptsMessage log.now claimant.old message.now end claimant.new) }
     ensures refused { IfErr result (λ why. DeniesMessage log.now claimant.old (length message.now) why claimant.new) }
 {
-    publication::offer(&mut OnLog::new(log), &mut claimant.publisher, message)
+    let publisher = &mut claimant.equipped.as_mut().publisher;
+    publication::offer(&mut OnLog::new(log), publisher, message)
 }

@@ -4,8 +4,9 @@ ghost use Rattle.std.specs.Prelude.{◌≡◌, vec_capacity};
 ghost use Rattle.claims.specs.Holdings.{IsClaimant};
 
 use crate::claimant::Claimant;
+use crate::equipped::Equipped;
 use publication::Refusal;
-use shared_log::Publisher;
+use std::alloc::Global;
 
 /// Why there is no claim, and the claimant, of which nothing is open.
 #[derive(Drop)]
@@ -15,14 +16,14 @@ pub struct Denied {
 }
 
 impl Denied {
-    pub(crate) fn new(refusal: Refusal, publisher: Publisher, bytes: Vec<u8>) -> Denied
-        requires { IsClaimant publisher (vec_capacity bytes) }
+    pub(crate) fn new(refusal: Refusal, equipped: Box<Equipped, Global>) -> Denied
+        requires { IsClaimant equipped.value.publisher (vec_capacity equipped.value.bytes) }
         ensures refusal { result.refusal ≡ refusal }
-        ensures claimant { result.claimant ≡ publisher }
+        ensures claimant { result.claimant ≡ equipped.value.publisher }
     {
         Denied {
             refusal,
-            claimant: Claimant { publisher, bytes },
+            claimant: Claimant { equipped },
         }
     }
 }

@@ -18,6 +18,7 @@ mod claim;
 mod claimant;
 mod closing;
 mod denied;
+mod equipped;
 mod parts;
 mod passes;
 

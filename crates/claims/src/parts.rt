@@ -1,6 +1,6 @@
 //! A log that opens, with publishers that claim.
 
-ghost use Rattle.std.specs.Prelude.{◌≡◌, ◌↔◌, IfErr, IfOk, IsErrOf, vec_capacity};
+ghost use Rattle.std.specs.Prelude.{◌≡◌, ◌↔◌, ◌∷◌, [], IfErr, IfOk, IsErrOf};
 ghost use Rattle.std.specs.List.{AllByRecursion};
 ghost use Rattle.publication.specs.Steps.{geometry_of};
 ghost use Rattle.position.specs.Openings.{IsConsumerCount, IsStart};
@@ -24,40 +24,34 @@ pub struct Parts {
     pub keeper: Keeper,
 }
 
-/// Memory for the bytes of a claim of this MTU.
-fn block(alloc: Global, mtu: usize) -> Result<Vec<u8>, AllocError>
-    ensures { IfOk result (λ b. vec_capacity b ≡ mtu) }
+/// A publisher with a block of its own, of this MTU.
+fn equip(alloc: Global, publisher: Publisher, mtu: usize) -> Result<Claimant, AllocError>
+    requires rests { IsResting publisher }
+    requires short { (geometry_of publisher.pass).mtu ≡ mtu }
+    ensures { IfOk result (λ c. c ≡ publisher) }
 {
-    Ok(Vec::with_capacity(alloc, mtu)?)
+    let block = Vec::with_capacity(alloc, mtu)?;
+    Claimant::new(alloc, publisher, block)
 }
 
-/// The same for each of four publishers.
-fn blocks(alloc: Global, mtu: usize) -> Result<[Vec<u8>; 4], AllocError>
-    ensures { IfOk result (λ bs. AllByRecursion (λ b. vec_capacity b ≡ mtu) bs) }
+/// The same of each of four.
+fn equip_four(
+    alloc: Global,
+    zero: Publisher,
+    one: Publisher,
+    two: Publisher,
+    three: Publisher,
+    mtu: usize,
+) -> Result<[Claimant; 4], AllocError>
+    requires rest { AllByRecursion IsResting (zero ∷ one ∷ two ∷ three ∷ []) }
+    requires short { AllByRecursion (λ p. (geometry_of p.pass).mtu ≡ mtu) (zero ∷ one ∷ two ∷ three ∷ []) }
+    ensures { IfOk result (λ cs. cs ≡ zero ∷ one ∷ two ∷ three ∷ []) }
 {
-    Ok([
-        block(alloc, mtu)?,
-        block(alloc, mtu)?,
-        block(alloc, mtu)?,
-        block(alloc, mtu)?,
-    ])
-}
-
-/// Four publishers of this MTU, each with a block of its own.
-fn paired(publishers: [Publisher; 4], blocks: [Vec<u8>; 4], mtu: usize) -> [Claimant; 4]
-    requires rest { AllByRecursion IsResting publishers }
-    requires short { AllByRecursion (λ p. (geometry_of p.pass).mtu ≡ mtu) publishers }
-    requires room { AllByRecursion (λ b. vec_capacity b ≡ mtu) blocks }
-    ensures { result ≡ publishers }
-{
-    let [zero, one, two, three] = publishers;
-    let [for_zero, for_one, for_two, for_three] = blocks;
-    [
-        Claimant::new(zero, for_zero),
-        Claimant::new(one, for_one),
-        Claimant::new(two, for_two),
-        Claimant::new(three, for_three),
-    ]
+    let zero = equip(alloc, zero, mtu)?;
+    let one = equip(alloc, one, mtu)?;
+    let two = equip(alloc, two, mtu)?;
+    let three = equip(alloc, three, mtu)?;
+    Ok([zero, one, two, three])
 }
 
 /// Publishers of a log, each with a block of its own. The error comes only where memory is refused.
@@ -71,11 +65,12 @@ pub fn with_blocks(
     ensures { IfOk result (λ cs. cs ≡ publishers) }
 {
     let mtu = log.identity().geometry().mtu() as usize;
-    let for_front = blocks(alloc, mtu)?;
-    let for_back = blocks(alloc, mtu)?;
     let [zero, one, two, three, four, five, six, seven] = publishers;
-    let [zero, one, two, three] = paired([zero, one, two, three], for_front, mtu);
-    let [four, five, six, seven] = paired([four, five, six, seven], for_back, mtu);
+    let front = equip_four(alloc, zero, one, two, three, mtu);
+    let back = equip_four(alloc, four, five, six, seven, mtu);
+    let (front, back) = (front?, back?);
+    let [zero, one, two, three] = front;
+    let [four, five, six, seven] = back;
     Ok([zero, one, two, three, four, five, six, seven])
 }
 
