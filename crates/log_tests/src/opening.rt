@@ -5,7 +5,9 @@ ghost use Rattle.shared_log.specs.Handles.{AreNew};
 ghost use Rattle.shared_log.specs.Readers.{IsReaderOf};
 
 use position::Geometry;
-use shared_log::{Log, LogError, LogReader, Parts, Publisher, clean_and_limit, open, set_connected};
+use shared_log::{
+    Log, LogError, LogReader, Parts, Publisher, clean_and_limit, open, set_connected,
+};
 use std::alloc::Global;
 
 /// A log that begins at a position, connected, with its limit half a term above it, its publishers, and its reader.

@@ -99,11 +99,31 @@ impl Terms {
         put(&mut first, 5, &[head.flags]);
         put(&mut first, 6, &kind.to_le_bytes());
         put(self.bytes.as_mut_slice(), at, &first);
-        put(self.bytes.as_mut_slice(), at + 8, &header.term_offset.to_le_bytes());
-        put(self.bytes.as_mut_slice(), at + 12, &header.session.to_le_bytes());
-        put(self.bytes.as_mut_slice(), at + 16, &header.stream.to_le_bytes());
-        put(self.bytes.as_mut_slice(), at + 20, &header.term_id.to_le_bytes());
-        put(self.bytes.as_mut_slice(), at + 32, payload.get(..size).unwrap_or(&[]));
+        put(
+            self.bytes.as_mut_slice(),
+            at + 8,
+            &header.term_offset.to_le_bytes(),
+        );
+        put(
+            self.bytes.as_mut_slice(),
+            at + 12,
+            &header.session.to_le_bytes(),
+        );
+        put(
+            self.bytes.as_mut_slice(),
+            at + 16,
+            &header.stream.to_le_bytes(),
+        );
+        put(
+            self.bytes.as_mut_slice(),
+            at + 20,
+            &header.term_id.to_le_bytes(),
+        );
+        put(
+            self.bytes.as_mut_slice(),
+            at + 32,
+            payload.get(..size).unwrap_or(&[]),
+        );
         if let Some(place) = self.firsts.as_mut_slice().get_mut(at / 32) {
             *place = u64::from_le_bytes(first);
         }
