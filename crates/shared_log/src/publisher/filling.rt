@@ -17,6 +17,7 @@ use log_passes::Log;
 use position::{UNFRAGMENTED, align32};
 
 /// Commits one of the publisher's open frames.
+#[inline(always)]
 fn commit(log: &Log, publisher: &mut Publisher, draft: &Draft<'_>)
     requires fits { IsOf log.now publisher.old }
     requires draft { IsDraft draft.now }
@@ -32,6 +33,7 @@ fn commit(log: &Log, publisher: &mut Publisher, draft: &Draft<'_>)
 }
 
 /// Commits a data frame, by one step, in an open frame of its length of which nothing is stored.
+#[inline(always)]
 pub fn fill_data(log: &Log, publisher: &mut Publisher, start: u64, flags: u8, payload: &[u8])
     requires fits { IsOf log.now publisher.old }
     requires in_stream { start ≤ max_position log.now.identity.geometry }
