@@ -40,6 +40,7 @@ impl Model for Armed {
 
 /// Looks at a log for a claim of `length` bytes, up to the greatest payload of a frame: the limit, the active count and its
 /// raw tail. It is refused at the limit and by a closed log; at the end of a term too, and the log turns to the next one.
+#[inline(always)]
 pub fn arm(log: &Log, claimant: Claimant, length: u32) -> Result<Armed, Denied>
     requires fits { IsOf log.now claimant }
     requires short { length ≤ max_payload log.now.identity.geometry }
@@ -80,6 +81,7 @@ impl Armed {
     /// Adds what the message covers to the tail, by one addition, whatever others did since `arm`. Where the message doesn't
     /// fit the rest of the term that the addition found, it is refused, and a padding up to that term's end is left if the
     /// addition began in it.
+    #[inline(always)]
     pub fn add(self, log: &Log) -> Result<Claim, Denied>
         requires { IsOf log.now self.publisher }
         ensures added { IfOk result (λ c. AddsRange log.now self c) }
@@ -112,6 +114,7 @@ impl Armed {
 }
 
 /// So many zeros, where they fit.
+#[inline(always)]
 fn fill(bytes: &mut Vec<u8>, count: usize)
     requires { count ≤ vec_capacity bytes.old }
     ensures zeros { bytes.new.items ≡ replicate count 0 }
@@ -124,6 +127,7 @@ fn fill(bytes: &mut Vec<u8>, count: usize)
 
 /// Claims a range for a message of `length` bytes, up to the greatest payload of a frame. It is accepted where an offer of
 /// such a message would be, and refused as that is.
+#[inline(always)]
 pub fn try_claim(log: &Log, claimant: Claimant, length: u32) -> Result<Claim, Denied>
     requires fits { IsOf log.now claimant }
     requires short { length ≤ max_payload log.now.identity.geometry }

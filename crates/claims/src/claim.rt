@@ -37,6 +37,7 @@ impl Model for Claim {
 impl Claim {
     ghost use Rattle.claims.specs.Lending.{LendsBytes};
 
+    #[inline(always)]
     pub(crate) fn new(equipped: Box<Equipped, Global>, start: u64, end: u64) -> Claim
         requires { HasOpen equipped.value.publisher start end (vec_len equipped.value.bytes) (vec_capacity equipped.value.bytes) }
         ensures { result ≡ record { publisher = equipped.value.publisher; start = start; bytes = equipped.value.bytes.items } }
@@ -70,6 +71,7 @@ impl Claim {
     }
 
     /// The bytes of its message, to be written.
+    #[inline(always)]
     pub fn bytes_mut(&mut self) -> &mut [u8]
         ensures* writes_back { sem 𝓛 (LendsBytes self.entry result) }
         ensures value { result.now ≡ self.old.bytes }
@@ -78,6 +80,7 @@ impl Claim {
     }
 
     /// Commits the message. The answer is the claimant and the position behind the claim.
+    #[inline(always)]
     pub fn commit(self, log: &Log) -> (Claimant, u64)
         requires { IsOf log.now self.publisher }
         ensures committed { EndsClaim log.now self (Data 192 self.bytes) result.0 }

@@ -6,6 +6,8 @@ ghost use Rattle.region.specs.Identity.{start_address};
 ghost use Rattle.publication.specs.Steps.{frame};
 ghost use Rattle.log_memory.specs.Drafts.{IsDraft, IsParted, MayStore, StoresFrame, behind_of, words_of};
 ghost use Rattle.log_memory.specs.Kinds.{IsSeatOf};
+ghost use Rattle.log_memory.specs.Places.{head_place};
+ghost use Rattle.log_memory.specs.Rule.{ring};
 ghost use Rattle.log_memory.specs.Steps.{CarriesRange, IsRoomAt};
 
 use crate::memory::LogMemory;
@@ -29,6 +31,7 @@ pub struct Draft<'a> {
 }
 
 /// A header's bytes.
+#[inline(always)]
 fn header_bytes(first: u64, second: u64, third: u64) -> [u8; 32]
     ensures { result ≡ bytes_in (first ∷ second ∷ third ∷ 0 ∷ []) }
 {
@@ -43,6 +46,7 @@ fn header_bytes(first: u64, second: u64, third: u64) -> [u8; 32]
 
 /// Writes a header and a payload over the front of a run, which lies `at` bytes behind the region's
 /// start.
+#[inline(always)]
 fn write_parts(
     run: WriteAccess,
     home: Arc<Region>,
@@ -69,6 +73,7 @@ fn write_parts(
 
 /// Stores a frame in the room that the seat carries in front, over the chosen slots, and puts the
 /// parts of the right to read it in its slots.
+#[inline(always)]
 pub fn store_frame<N: Rowed>(
     memory: &LogMemory,
     seat: &mut LogSeat,
@@ -97,7 +102,14 @@ pub fn store_frame<N: Rowed>(
     home
 }
 
-fn commit_as<N: Picked>(memory: &LogMemory, seat: &mut LogSeat, draft: &Draft<'_>)
+#[inline(always)]
+fn commit_as<N: Picked>(
+    memory: &LogMemory,
+    seat: &mut LogSeat,
+    draft: &Draft<'_>,
+    place: usize,
+)
+    requires place { place ≡ head_place (ring memory.now.table.shared.key) draft.now.start }
     requires seat { IsSeatOf memory.now.table.shared.key memory.now.table.shared.table_id
         seat.old.table_id }
     requires draft { IsDraft draft.now }
@@ -112,12 +124,13 @@ fn commit_as<N: Picked>(memory: &LogMemory, seat: &mut LogSeat, draft: &Draft<'_
         seat.new.me }
 {
     let table = &memory.table.shared;
-    commit::<N>(table, seat, memory.head(draft.start), draft.first);
+    commit::<N>(table, seat, place, draft.first);
 }
 
 /// Commits an open frame of the seat's pass whose room it carries in front, over the chosen slots:
 /// its bytes are written plainly, then its first word is stored, by one step, which gives its parts
 /// to those who read it.
+#[inline(always)]
 pub fn commit_frame<N: Rowed>(
     memory: &LogMemory,
     seat: &mut LogSeat,
@@ -136,7 +149,8 @@ pub fn commit_frame<N: Rowed>(
     ensures stores { StoresFrame draft.now N.behind seat.old.me seat.new.me }
 {
     let _ = &memory.table;
+    let place = memory.head(draft.start);
     let home = store_frame::<N>(memory, seat, home, draft);
-    commit_as::<Brand>(memory, seat, draft);
+    commit_as::<Brand>(memory, seat, draft, place);
     home
 }

@@ -20,6 +20,7 @@ use region::{Access, ReadAccess, Region, WriteAccess};
 use std::sync::Arc;
 
 /// Copies what lies behind a frame's header.
+#[inline(always)]
 fn copy_behind(into: &mut [u8], bytes: &[u8])
     requires { length bytes.now ≡ 32 + length into.old }
     ensures { into.new ≡ drop 32 bytes.now }
@@ -29,6 +30,7 @@ fn copy_behind(into: &mut [u8], bytes: &[u8])
 
 /// Copies the bytes behind the header of the frame that begins at `start` and of which a part shows
 /// all, as many as there are places.
+#[inline(always)]
 fn show_part(memory: &LogMemory, part: &ReadAccess, start: u64, into: &mut [u8])
     requires part { (part.now.identity ≡ memory.now.table.shared.key.region.identity)
         × (0 < part.now.count) }
@@ -46,6 +48,7 @@ fn show_part(memory: &LogMemory, part: &ReadAccess, start: u64, into: &mut [u8])
 
 /// Copies the bytes behind the header of the frame that begins at `start`, as many as there are
 /// places: the first slot that the seat carries has the part of the consumer with this number.
+#[inline(always)]
 pub fn copy_part(memory: &LogMemory, seat: &mut LogSeat, start: u64, number: u64, into: &mut [u8])
     requires seat { seat.old.table_id ≡ memory.now.table.shared.table_id }
     requires low { number < 8 }
@@ -65,6 +68,7 @@ pub fn copy_part(memory: &LogMemory, seat: &mut LogSeat, start: u64, number: u64
 
 /// A consumer of the seat gives its part of a frame back, at a load of the word of the unit at a
 /// position.
+#[inline(always)]
 pub fn give_back(memory: &LogMemory, seat: &mut LogSeat, position: u64)
     requires seat { IsSeatOf memory.now.table.shared.key memory.now.table.shared.table_id
         seat.old.table_id }
@@ -77,6 +81,7 @@ pub fn give_back(memory: &LogMemory, seat: &mut LogSeat, position: u64)
 
 /// Takes the memory of the frame that begins where memory was taken back, at `freed`, and that all
 /// consumers left a term ago. The answer is the right to write its bytes, and how many these are.
+#[inline(always)]
 fn take_frame(memory: &LogMemory, seat: &mut LogSeat, freed: u64) -> (WriteAccess, u32)
     requires seat { IsSeatOf memory.now.table.shared.key memory.now.table.shared.table_id
         seat.old.table_id }
@@ -96,6 +101,7 @@ fn take_frame(memory: &LogMemory, seat: &mut LogSeat, freed: u64) -> (WriteAcces
 
 /// Gives zeros as room that were the memory of a frame that begins at `freed` and covers so many
 /// bytes.
+#[inline(always)]
 fn give_frame(memory: &LogMemory, seat: &mut LogSeat, run: WriteAccess, freed: u64, bytes: u32)
     requires seat { IsSeatOf memory.now.table.shared.key memory.now.table.shared.table_id
         seat.old.table_id }
@@ -116,6 +122,7 @@ fn give_frame(memory: &LogMemory, seat: &mut LogSeat, run: WriteAccess, freed: u
 /// Makes the memory of the frame room again that begins where memory was taken back, at `freed`,
 /// and that all consumers left a term ago: it is taken, made zero and given. The answer is how many
 /// bytes it covers.
+#[inline(always)]
 pub fn free_frame(
     memory: &LogMemory,
     seat: &mut LogSeat,

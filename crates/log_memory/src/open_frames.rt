@@ -87,6 +87,7 @@ impl<N: Opened> Rowed for Rest<N> {
 /// Commits one of the open frames of the seat's pass, between the chosen ones: its bytes are
 /// written plainly, then its first word is stored, by one step. The room of the others stays in the
 /// seat's row.
+#[inline(always)]
 fn commit_as<N: Opened>(
     memory: &LogMemory,
     seat: &mut LogSeat,
@@ -113,6 +114,7 @@ fn commit_as<N: Opened>(
 
 /// Commits one of the open frames of the seat's pass, whichever: its bytes are written plainly,
 /// then its first word is stored, by one step. The room of the others stays in the seat's row.
+#[inline(always)]
 pub fn commit_open(
     memory: &LogMemory,
     seat: &mut LogSeat,
@@ -135,6 +137,7 @@ pub fn commit_open(
 /// Adds what a message of `size` bytes covers to the tail for which the publisher is armed. The
 /// room of what it claims is in the seat's row then, behind that of the frames that were open
 /// before. The answers are the word that was there, and how many bytes it took.
+#[inline(always)]
 pub fn add_open(
     memory: &LogMemory,
     seat: &mut LogSeat,

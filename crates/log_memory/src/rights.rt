@@ -21,6 +21,7 @@ pub type LogTable = Shared<Access, LogView, Site, LogMemoryRule>;
 pub type LogSeat = Seat<Access, LogView>;
 
 /// Seven slots go behind the others.
+#[inline(always)]
 fn pass_seven(seat: &mut LogSeat)
     ensures same { (seat.new.table_id ≡ seat.old.table_id) × (seat.new.id ≡ seat.old.id) }
     ensures turned { seat.new.me ≡ (
@@ -56,6 +57,7 @@ impl<N: Rowed> Chosen for Behind<N> {
 
 /// The right to write the next of so many units, of which the first `done` slots were emptied.
 #[tactic(auto, using(crate::proofs::Rounds::next_unit))]
+#[inline(always)]
 fn take_unit<N: Rowed>(
     table: &LogTable,
     seat: &mut LogSeat,
@@ -83,6 +85,7 @@ fn take_unit<N: Rowed>(
 
 /// The right to write all bytes of so many units, whose slots the seat carries over others, from
 /// the slot `first` on.
+#[inline(always)]
 pub fn gather<N: Rowed>(
     table: &LogTable,
     seat: &mut LogSeat,
@@ -109,6 +112,7 @@ pub fn gather<N: Rowed>(
 
 /// A right to read all bytes of a frame is parted among its first unit's eight slots, of so many
 /// units that the seat carries over others.
+#[inline(always)]
 pub fn deal_parts<N: Rowed>(
     table: &LogTable,
     seat: &mut LogSeat,
@@ -139,6 +143,7 @@ pub fn deal_parts<N: Rowed>(
 }
 
 /// What the slot that the seat took last has. It goes behind the others, empty.
+#[inline(always)]
 fn take_slot(table: &LogTable, seat: &mut LogSeat, slot: usize) -> Access
     requires seat { seat.old.table_id ≡ table.now.table_id }
     requires here { (g : Kept) × (seat.old.me.1 ≡ (slot, g) ∷ rest seat.old.me.1) }
@@ -154,6 +159,7 @@ fn take_slot(table: &LogTable, seat: &mut LogSeat, slot: usize) -> Access
 
 /// The right to read a frame, whole, whose eight parts the first unit's slots have, of so many
 /// units that the seat carries.
+#[inline(always)]
 pub fn collect_parts(table: &LogTable, seat: &mut LogSeat, first: usize, units: usize) -> ReadAccess
     requires seat { seat.old.table_id ≡ table.now.table_id }
     requires place { (0 < units) × (first + 8 * units < 2 ^ 60) }
@@ -177,6 +183,7 @@ pub fn collect_parts(table: &LogTable, seat: &mut LogSeat, first: usize, units: 
 
 /// A run of zeros is dealt as room among so many units, whose slots the seat carries, from the slot
 /// `first` on.
+#[inline(always)]
 pub fn deal_room(table: &LogTable, seat: &mut LogSeat, run: WriteAccess, first: usize, units: usize)
     requires seat { seat.old.table_id ≡ table.now.table_id }
     requires run { IsRun table.now.key first (32 * units) run }

@@ -46,6 +46,7 @@ fn part_in(word: u64, start: u64, room: usize) -> usize
     }
 }
 
+#[inline(always)]
 fn look_as<N: Picked>(memory: &LogMemory, seat: &mut LogSeat, consumer: &Consumer) -> u64
     requires seat { IsSeatOf memory.now.table.shared.key memory.now.table.shared.table_id
         seat.old.table_id }
@@ -77,6 +78,7 @@ fn look_at(memory: &LogMemory, seat: &mut LogSeat, consumer: &Consumer) -> u64
     look_as::<Brand>(memory, seat, consumer)
 }
 
+#[inline(always)]
 fn reread_as<N: Picked>(
     memory: &LogMemory,
     seat: &mut LogSeat,
@@ -117,6 +119,7 @@ fn reread_at(memory: &LogMemory, seat: &mut LogSeat, consumer: &Consumer, start:
     reread_as::<Brand>(memory, seat, consumer, start)
 }
 
+#[inline(always)]
 fn consume_as<N: Chosen>(memory: &LogMemory, seat: &mut LogSeat, consumer: &Consumer, end: u64)
     requires seat { IsSeatOf memory.now.table.shared.key memory.now.table.shared.table_id
         seat.old.table_id }

@@ -65,6 +65,7 @@ unsafe impl Send for RegionKey {}
 
 impl Access {
     /// Neither.
+    #[inline(always)]
     pub fn none() -> Access
         ensures { (result.write.items ≡ []) × (result.read.count ≡ 0) }
     {
@@ -75,6 +76,7 @@ impl Access {
     }
 
     /// The right to write, alone.
+    #[inline(always)]
     pub fn of_write(write: WriteAccess) -> Access
         ensures { (result.write ≡ write) × (result.read.count ≡ 0) }
     {
@@ -85,6 +87,7 @@ impl Access {
     }
 
     /// The right to read, alone.
+    #[inline(always)]
     pub fn of_read(read: ReadAccess) -> Access
         ensures { (result.read ≡ read) × (result.write.items ≡ []) }
     {
@@ -97,6 +100,7 @@ impl Access {
 
 impl WriteAccess {
     /// No byte at all.
+    #[inline(always)]
     pub fn none() -> WriteAccess
         ensures { result.items ≡ [] }
     {
@@ -111,6 +115,7 @@ impl WriteAccess {
     }
 
     /// The first `mid` bytes, and the others.
+    #[inline(always)]
     pub fn split_at(self, mid: usize) -> (WriteAccess, WriteAccess)
         requires { mid ≤ length self.items }
         ensures front { result.0 ≡ record self { items = take mid self.items } }
@@ -121,6 +126,7 @@ impl WriteAccess {
     }
 
     /// Two runs, the other behind this one, are one.
+    #[inline(always)]
     pub fn append(self, other: WriteAccess) -> WriteAccess
         requires { (other.identity ≡ self.identity) × (other.at ≡ self.at + length self.items) }
         ensures { result ≡ record self { items = self.items ++ other.items } }
@@ -131,6 +137,7 @@ impl WriteAccess {
     }
 
     /// A round of reading begins: the bytes stay as they are until all its parts are back.
+    #[inline(always)]
     pub fn begin_reading(self, region: &Region) -> ReadAccess
         requires { (self.identity ≡ region.now.identity) × (length self.items < 2 ^ 63) }
         ensures whole { result.count ≡ 2 ^ 63 }
@@ -144,6 +151,7 @@ impl WriteAccess {
 
 impl ReadAccess {
     /// No part at all.
+    #[inline(always)]
     pub fn none() -> ReadAccess
         ensures { result.count ≡ 0 }
     {
@@ -151,6 +159,7 @@ impl ReadAccess {
     }
 
     /// `count` parts, and the others.
+    #[inline(always)]
     pub fn split(self, count: usize) -> (ReadAccess, ReadAccess)
         requires { (count ≤ self.count) × (self.count ≤ 2 ^ 63) }
         ensures one { result.0 ≡ record self { count = count } }
@@ -161,6 +170,7 @@ impl ReadAccess {
     }
 
     /// Parts of one round are put together.
+    #[inline(always)]
     pub fn join(self, other: ReadAccess) -> ReadAccess
         requires round { (other.round.life ≡ self.round.life)
             × (other.round.book ≡ self.round.book) }
@@ -173,6 +183,7 @@ impl ReadAccess {
     }
 
     /// The first `len` bytes, which lie `at` bytes behind the region's start. Any part shows them.
+    #[inline(always)]
     pub fn bytes<'a>(
         &'a self,
         region: &'a Region,
@@ -191,6 +202,7 @@ impl ReadAccess {
     }
 
     /// The first bytes at `first`.
+    #[inline(always)]
     fn read<'a>(&'a self, region: &'a Region, first: *const u8, len: usize) -> &'a [u8]
         requires { (0 < self.now.count) × (self.now.identity ≡ region.now.identity)
             × (first ≡ byte_address self.now.identity self.now.at) × (len ≤ length self.now.items) }
@@ -200,6 +212,7 @@ impl ReadAccess {
     }
 
     /// All parts are back, and the round is over: the bytes are as they were, and may be written.
+    #[inline(always)]
     pub fn end_reading(self) -> WriteAccess
         requires { self.count ≡ 2 ^ 63 }
         ensures { result ≡ record { identity = self.identity; at = self.at; items = self.items } }

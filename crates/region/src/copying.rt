@@ -8,6 +8,7 @@ use std::sync::Arc;
 
 impl WriteAccess {
     /// Writes bytes over the front of the run, which lies `at` bytes behind the region's start.
+    #[inline(always)]
     pub fn write(
         self,
         region: Arc<Region>,
@@ -34,6 +35,7 @@ impl WriteAccess {
     }
 
     /// Makes all bytes of the run zero, which lies `at` bytes behind the region's start.
+    #[inline(always)]
     pub fn clear(
         self,
         region: Arc<Region>,
@@ -59,6 +61,7 @@ impl WriteAccess {
 
 impl ReadAccess {
     /// Copies the first bytes, which lie `at` bytes behind the region's start.
+    #[inline(always)]
     pub fn copy_to(&self, region: &Region, start: RegionStart, at: usize, into: &mut [u8])
         requires some { 0 < self.now.count }
         requires region { self.now.identity ≡ region.now.identity }
@@ -71,6 +74,7 @@ impl ReadAccess {
 }
 
 /// Copies as many bytes as there are places.
+#[inline(always)]
 fn copy(into: &mut [u8], bytes: &[u8])
     requires { length into.old ≡ length bytes.now }
     ensures { into.new ≡ bytes.now }
@@ -79,6 +83,7 @@ fn copy(into: &mut [u8], bytes: &[u8])
 }
 
 /// Makes all bytes zero.
+#[inline(always)]
 fn make_zero(bytes: &mut [u8])
     ensures { bytes.new ≡ replicate (length bytes.old) 0 }
 {

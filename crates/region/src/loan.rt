@@ -39,6 +39,7 @@ unsafe impl Sync for Loan {}
 
 impl Loan {
     /// The bytes at `first` as a `Vec`.
+    #[inline(always)]
     pub(crate) fn open(
         region: Arc<Region>,
         access: WriteAccess,
@@ -58,6 +59,7 @@ impl Loan {
     }
 
     /// The bytes are put back, with what was written there.
+    #[inline(always)]
     pub fn end(self, bytes: LentBytes) -> (Arc<Region>, WriteAccess)
         requires { IsOut bytes self }
         ensures region { result.0.value.identity ≡ self.identity }
@@ -72,6 +74,7 @@ impl Loan {
 
 impl WriteAccess {
     /// The bytes as a `Vec`, which lies `at` bytes behind the region's start, until the loan is ended.
+    #[inline(always)]
     pub fn lend(
         self,
         region: Arc<Region>,

@@ -102,6 +102,7 @@ impl LogReader {
 
 /// Loads the first word where the reader stands, and copies the payload of the frame that begins
 /// there, if there is one, to the front of the bytes, where it fits.
+#[inline(always)]
 fn look_at(log: &Log, reader: &mut LogReader, bytes: &mut [u8]) -> u64
     requires fits { IsReaderOf log.now reader.old }
     ensures seat { SameSeat reader.old.held reader.new.held }
@@ -119,6 +120,7 @@ fn look_at(log: &Log, reader: &mut LogReader, bytes: &mut [u8]) -> u64
 
 /// Finds the frame that is committed where the reader stands. Its payload is copied to the front of
 /// the bytes, where it fits.
+#[inline(always)]
 pub(crate) fn look(log: &Log, reader: &mut LogReader, bytes: &mut [u8]) -> Option<FrameHead>
     requires fits { IsReaderOf log.now reader.old }
     ensures found { IfSome result (λ head. FindsPart log.now reader.old head bytes.old reader.new
@@ -140,6 +142,7 @@ pub(crate) fn look(log: &Log, reader: &mut LogReader, bytes: &mut [u8]) -> Optio
 }
 
 /// Finds it so, and copies its payload to the block's front.
+#[inline(always)]
 fn find(log: &Log, reader: &mut LogReader, block: &mut Block) -> Option<FrameHead>
     requires fits { IsReaderOf log.now reader.old }
     ensures found { IfSome result (λ head. FindsPart log.now reader.old head block.old reader.new
@@ -152,6 +155,7 @@ fn find(log: &Log, reader: &mut LogReader, block: &mut Block) -> Option<FrameHea
 
 /// Reads the frame that is committed where the reader stands: a message's part is copied to the
 /// block's front, and the reader stays. There is none where nothing is committed yet.
+#[inline(always)]
 pub fn next(log: &Log, reader: &mut LogReader, block: &mut Block) -> Option<FrameHead>
     requires fits { IsReaderOf log.now reader.old }
     requires room { log.now.identity.geometry.mtu ≤ length block.old }
@@ -168,6 +172,7 @@ pub fn next(log: &Log, reader: &mut LogReader, block: &mut Block) -> Option<Fram
 }
 
 /// Moves the reader behind the frame that it has read. The answer is its new position.
+#[inline(always)]
 pub fn advance(log: &Log, reader: &mut LogReader) -> u64
     requires fits { IsReaderOf log.now reader.old }
     requires read { reader.old.position < reader.old.read_to }

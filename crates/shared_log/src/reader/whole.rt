@@ -30,6 +30,7 @@ impl LogReader {
 /// front of the bytes, and the reader stays. There is none where nothing is committed yet. A part
 /// that is longer than the bytes stays unread: nothing is copied, and the reader has read what it
 /// had read before.
+#[inline(always)]
 pub fn next_whole(log: &Log, reader: &mut LogReader, bytes: &mut [u8]) -> Result<FrameHead, Unread>
     requires fits { IsReaderOf log.now reader.old }
     ensures found { IfOk result (λ head. ReadsFrame log.now reader.old head bytes.old reader.new
