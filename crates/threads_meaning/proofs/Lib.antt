@@ -1,0 +1,2 @@
+mod ImageRows
+mod Imaged
