@@ -28,18 +28,17 @@ fn copy_behind(into: &mut [u8], bytes: &[u8])
     into.copy_from_slice(&bytes[32..]);
 }
 
-/// Copies the bytes behind the header of the frame that begins at `start` and of which a part shows
-/// all, as many as there are places.
+/// Copies the bytes behind the header of a frame of which a part shows all, as many as there are
+/// places. It lies `at` bytes behind the region's start.
 #[inline(always)]
-fn show_part(memory: &LogMemory, part: &ReadAccess, start: u64, into: &mut [u8])
+fn show_part(memory: &LogMemory, part: &ReadAccess, at: usize, into: &mut [u8])
     requires part { (part.now.identity ≡ memory.now.table.shared.key.region.identity)
         × (0 < part.now.count) }
-    requires place { part.now.at ≡ 4 * slot_of (ring memory.now.table.shared.key) start 0 }
+    requires place { part.now.at ≡ at }
     requires inside { 32 + length into.old ≤ length part.now.items }
     ensures { into.new ≡ take (length into.old) (drop 32 part.now.items) }
 {
     let _ = &memory.table;
-    let at = memory.byte(start);
     copy_behind(
         into,
         part.bytes(&memory.region, memory.start, at, 32 + into.len()),
@@ -47,10 +46,19 @@ fn show_part(memory: &LogMemory, part: &ReadAccess, start: u64, into: &mut [u8])
 }
 
 /// Copies the bytes behind the header of the frame that begins at `start`, as many as there are
-/// places: the first slot that the seat carries has the part of the consumer with this number.
+/// places: the first slot that the seat carries has the part of the consumer with this number. The
+/// frame lies `at` bytes behind the region's start.
 #[inline(always)]
-pub fn copy_part(memory: &LogMemory, seat: &mut LogSeat, start: u64, number: u64, into: &mut [u8])
+pub fn copy_part(
+    memory: &LogMemory,
+    seat: &mut LogSeat,
+    start: u64,
+    number: u64,
+    at: usize,
+    into: &mut [u8],
+)
     requires seat { seat.old.table_id ≡ memory.now.table.shared.table_id }
+    requires place { at ≡ 4 * slot_of (ring memory.now.table.shared.key) start 0 }
     requires low { number < 8 }
     requires part { HasPartAt memory.now.table.shared.key start number (length into.old)
         seat.old.me.1 }
@@ -62,21 +70,21 @@ pub fn copy_part(memory: &LogMemory, seat: &mut LogSeat, start: u64, number: u64
     let table = &memory.table.shared;
     let slot = memory.slot(start) + number as usize;
     let Access { write, read } = table.exchange(seat, slot, Access::none());
-    show_part(memory, &read, start, into);
+    show_part(memory, &read, at, into);
     let _none = table.exchange(seat, slot, Access { write, read });
 }
 
-/// A consumer of the seat gives its part of a frame back, at a load of the word of the unit at a
-/// position.
+/// A consumer of the seat gives its part of a frame back, at a load of one of the table's words.
 #[inline(always)]
-pub fn give_back(memory: &LogMemory, seat: &mut LogSeat, position: u64)
+pub fn give_back(memory: &LogMemory, seat: &mut LogSeat, place: usize)
     requires seat { IsSeatOf memory.now.table.shared.key memory.now.table.shared.table_id
         seat.old.table_id }
     requires may { MayGiveBack memory.now.table.shared.key seat.old.me }
+    requires inside { place < memory.now.table.shared.table_id.words }
     ensures seat { (seat.new.table_id ≡ seat.old.table_id) × (seat.new.id ≡ seat.old.id) }
     ensures told { Gives seat.old.me seat.new.me }
 {
-    give(&memory.table.shared, seat, memory.head(position));
+    give(&memory.table.shared, seat, place);
 }
 
 /// Takes the memory of the frame that begins where memory was taken back, at `freed`, and that all

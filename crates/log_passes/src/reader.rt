@@ -5,6 +5,8 @@ ghost use Rattle.std.specs.Int.{w64, to_le_bytes};
 ghost use Rattle.frame_words.specs.Contents.{head_by};
 ghost use Rattle.log_rule.specs.Readings.{Consumes, Looks, MayPass};
 ghost use Rattle.log_memory.specs.Kinds.{IsSeatOf, LooksHere, StoresPosition};
+ghost use Rattle.log_memory.specs.Places.{head_place};
+ghost use Rattle.log_memory.specs.Rule.{ring};
 ghost use Rattle.log_memory.specs.Steps.{IsIdle, Rereads};
 ghost use Rattle.log_passes.specs.Handles.{IsOf};
 ghost use Rattle.log_passes.specs.Readers.{CopiesHad, CopiesKnown, IsAt, MayRereadAt, ReadsAgain, SameSeat, frame_from, had_at, part_bytes, reading_at};
@@ -47,7 +49,13 @@ fn part_in(word: u64, start: u64, room: usize) -> usize
 }
 
 #[inline(always)]
-fn look_as<N: Picked>(memory: &LogMemory, seat: &mut LogSeat, consumer: &Consumer) -> u64
+fn look_as<N: Picked>(
+    memory: &LogMemory,
+    seat: &mut LogSeat,
+    consumer: &Consumer,
+    head: usize,
+) -> u64
+    requires head { head ≡ head_place (ring memory.now.table.shared.key) consumer.now.position }
     requires seat { IsSeatOf memory.now.table.shared.key memory.now.table.shared.table_id
         seat.old.table_id }
     requires idle { IsIdle seat.old.me.0 }
@@ -60,13 +68,20 @@ fn look_as<N: Picked>(memory: &LogMemory, seat: &mut LogSeat, consumer: &Consume
         consumer.now.place seat.old.me.0.view.pass.reading) seat.old.me result seat.new.me }
 {
     let table = &memory.table.shared;
-    look::<N>(table, seat, memory.head(consumer.position))
+    let _ = consumer;
+    look::<N>(table, seat, head)
 }
 
 /// Loads the word where the consumer stands. Its part of the frame that begins there, if there is
 /// one, is its seat's then.
 #[inline(always)]
-fn look_at(memory: &LogMemory, seat: &mut LogSeat, consumer: &Consumer) -> u64
+fn look_at(
+    memory: &LogMemory,
+    seat: &mut LogSeat,
+    consumer: &Consumer,
+    head: usize,
+) -> u64
+    requires head { head ≡ head_place (ring memory.now.table.shared.key) consumer.now.position }
     requires seat { IsSeatOf memory.now.table.shared.key memory.now.table.shared.table_id
         seat.old.table_id }
     requires idle { IsIdle seat.old.me.0 }
@@ -75,7 +90,7 @@ fn look_at(memory: &LogMemory, seat: &mut LogSeat, consumer: &Consumer) -> u64
     ensures told { LooksHere memory.now.table.shared.key consumer.now.place (reading_at
         consumer.now.place seat.old.me.0.view.pass.reading) seat.old.me result seat.new.me }
 {
-    look_as::<Brand>(memory, seat, consumer)
+    look_as::<Brand>(memory, seat, consumer, head)
 }
 
 #[inline(always)]
@@ -84,7 +99,9 @@ fn reread_as<N: Picked>(
     seat: &mut LogSeat,
     consumer: &Consumer,
     start: u64,
+    head: usize,
 ) -> u64
+    requires head { head ≡ head_place (ring memory.now.table.shared.key) start }
     requires seat { IsSeatOf memory.now.table.shared.key memory.now.table.shared.table_id
         seat.old.table_id }
     requires idle { IsIdle seat.old.me.0 }
@@ -101,12 +118,20 @@ fn reread_as<N: Picked>(
 {
     let table = &memory.table.shared;
     let _ = consumer;
-    reread::<N>(table, seat, memory.head(start))
+    let _ = start;
+    reread::<N>(table, seat, head)
 }
 
 /// Loads the word of a frame that the consumer has, and takes its part of it.
 #[inline(always)]
-fn reread_at(memory: &LogMemory, seat: &mut LogSeat, consumer: &Consumer, start: u64) -> u64
+fn reread_at(
+    memory: &LogMemory,
+    seat: &mut LogSeat,
+    consumer: &Consumer,
+    start: u64,
+    head: usize,
+) -> u64
+    requires head { head ≡ head_place (ring memory.now.table.shared.key) start }
     requires seat { IsSeatOf memory.now.table.shared.key memory.now.table.shared.table_id
         seat.old.table_id }
     requires idle { IsIdle seat.old.me.0 }
@@ -116,7 +141,7 @@ fn reread_at(memory: &LogMemory, seat: &mut LogSeat, consumer: &Consumer, start:
         seat.old.me.0.view.pass.reading) (frame_from start (had_at consumer.now.place
         seat.old.me.0.view.pass)) seat.old.me result seat.new.me }
 {
-    reread_as::<Brand>(memory, seat, consumer, start)
+    reread_as::<Brand>(memory, seat, consumer, start, head)
 }
 
 #[inline(always)]
@@ -148,20 +173,22 @@ impl Log {
         ensures same_length { length bytes.new ≡ length bytes.old }
     {
         parts_are_found();
-        let word = look_at(&self.memory, &mut pass.seat, consumer);
+        let start = consumer.position;
+        let (head, at) = (self.memory.head(start), self.memory.byte(start));
+        let word = look_at(&self.memory, &mut pass.seat, consumer, head);
         if word == 0 {
             return 0;
         }
-        let start = consumer.position;
         let count = part_in(word, start, bytes.len());
         copy_part(
             &self.memory,
             &mut pass.seat,
             start,
             consumer.number,
+            at,
             &mut bytes[..count],
         );
-        give_back(&self.memory, &mut pass.seat, start);
+        give_back(&self.memory, &mut pass.seat, head);
         word
     }
 
@@ -185,16 +212,18 @@ impl Log {
         ensures same_length { length bytes.new ≡ length bytes.old }
     {
         parts_are_found();
-        let word = reread_at(&self.memory, &mut pass.seat, consumer, start);
+        let (head, at) = (self.memory.head(start), self.memory.byte(start));
+        let word = reread_at(&self.memory, &mut pass.seat, consumer, start, head);
         let count = part_in(word, start, bytes.len());
         copy_part(
             &self.memory,
             &mut pass.seat,
             start,
             consumer.number,
+            at,
             &mut bytes[..count],
         );
-        give_back(&self.memory, &mut pass.seat, start);
+        give_back(&self.memory, &mut pass.seat, head);
         word
     }
 

@@ -27,7 +27,7 @@ pub show_part-requires-clause-place : goal.show_part-requires-clause-place
 show_part-requires-clause-place c =
     let q = c.requires.part in let key = c.args.memory.now.table.shared.key in let slot : ℕ = c.slot.result + c.args.number in
     let is = part_is key q.frame c.args.number slot c.args.seat.now.me.1 c.exchange-write.result (slot_is (ring key) c.args.start q.frame.start c.args.number c.slot.result c.slot.ensures.is (sym q.here)) c.exchange-write.ensures.2 q.part in
-    is.at ∙ ap (λ (p : ℕ). 4 * slot_of (ring key) p 0) q.here
+    is.at ∙ (ap (λ (p : ℕ). 4 * slot_of (ring key) p 0) q.here ∙ sym c.requires.place)
 
 pub show_part-requires-clause-inside : goal.show_part-requires-clause-inside
 show_part-requires-clause-inside c =
