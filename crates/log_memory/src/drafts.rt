@@ -103,12 +103,7 @@ pub fn store_frame<N: Rowed>(
 }
 
 #[inline(always)]
-fn commit_as<N: Picked>(
-    memory: &LogMemory,
-    seat: &mut LogSeat,
-    draft: &Draft<'_>,
-    place: usize,
-)
+fn commit_as<N: Picked>(memory: &LogMemory, seat: &mut LogSeat, draft: &Draft<'_>, place: usize)
     requires place { place ≡ head_place (ring memory.now.table.shared.key) draft.now.start }
     requires seat { IsSeatOf memory.now.table.shared.key memory.now.table.shared.table_id
         seat.old.table_id }

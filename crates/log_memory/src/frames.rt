@@ -5,7 +5,7 @@ ghost use Rattle.std.specs.Prelude.{◌≡◌, ◌+◌, ◌*◌, ◌/◌, ◌^�
 ghost use Rattle.theory.specs.Position.{IsGeometry};
 ghost use Rattle.log_memory.specs.Frames.{CopiesPart, FreesFrame, FreesTo, GivesFrame, HasPartAt, IsOutAt, MayFreeTo, MayGiveBack, TakesFrame};
 ghost use Rattle.log_memory.specs.Kinds.{IsSeatOf};
-ghost use Rattle.log_memory.specs.Places.{slot_of};
+ghost use Rattle.log_memory.specs.Places.{head_place, slot_of};
 ghost use Rattle.log_memory.specs.Rights.{IsAnything, IsRun};
 ghost use Rattle.log_memory.specs.Rule.{ring};
 ghost use Rattle.log_memory.specs.Steps.{Carries, Gives, MayTakeBack};
@@ -90,7 +90,8 @@ pub fn give_back(memory: &LogMemory, seat: &mut LogSeat, place: usize)
 /// Takes the memory of the frame that begins where memory was taken back, at `freed`, and that all
 /// consumers left a term ago. The answer is the right to write its bytes, and how many these are.
 #[inline(always)]
-fn take_frame(memory: &LogMemory, seat: &mut LogSeat, freed: u64) -> (WriteAccess, u32)
+fn take_frame(memory: &LogMemory, seat: &mut LogSeat, freed: u64, head: usize) -> (WriteAccess, u32)
+    requires head { head ≡ head_place (ring memory.now.table.shared.key) freed }
     requires seat { IsSeatOf memory.now.table.shared.key memory.now.table.shared.table_id
         seat.old.table_id }
     requires geometry { IsGeometry memory.now.table.shared.key.key.identity.geometry }
@@ -101,7 +102,7 @@ fn take_frame(memory: &LogMemory, seat: &mut LogSeat, freed: u64) -> (WriteAcces
     ensures takes { TakesFrame memory.now.table.shared.key seat.old.me result.1 result.0 seat.new.me }
 {
     let table = &memory.table.shared;
-    let word = take_back(table, seat, memory.head(freed));
+    let word = take_back(table, seat, head);
     let bytes = align32(head_in(word, freed).frame_length);
     let whole = collect_parts(table, seat, memory.slot(freed), bytes as usize / 32);
     (whole.end_reading(), bytes)
@@ -110,7 +111,15 @@ fn take_frame(memory: &LogMemory, seat: &mut LogSeat, freed: u64) -> (WriteAcces
 /// Gives zeros as room that were the memory of a frame that begins at `freed` and covers so many
 /// bytes.
 #[inline(always)]
-fn give_frame(memory: &LogMemory, seat: &mut LogSeat, run: WriteAccess, freed: u64, bytes: u32)
+fn give_frame(
+    memory: &LogMemory,
+    seat: &mut LogSeat,
+    run: WriteAccess,
+    freed: u64,
+    bytes: u32,
+    head: usize,
+)
+    requires head { head ≡ head_place (ring memory.now.table.shared.key) freed }
     requires seat { IsSeatOf memory.now.table.shared.key memory.now.table.shared.table_id
         seat.old.table_id }
     requires run { IsRun memory.now.table.shared.key (slot_of (ring memory.now.table.shared.key)
@@ -124,7 +133,7 @@ fn give_frame(memory: &LogMemory, seat: &mut LogSeat, run: WriteAccess, freed: u
 {
     let table = &memory.table.shared;
     deal_room(table, seat, run, memory.slot(freed), bytes as usize / 32);
-    give_room(table, seat, memory.head(freed));
+    give_room(table, seat, head);
 }
 
 /// Makes the memory of the frame room again that begins where memory was taken back, at `freed`,
@@ -149,9 +158,10 @@ pub fn free_frame(
     ensures frees { FreesFrame memory.now.table.shared.key seat.old.me result.1 seat.new.me }
 {
     let _ = &memory.table;
-    let (run, bytes) = take_frame(memory, seat, freed);
-    let (home, run) = run.clear(home, memory.start, memory.byte(freed), bytes as usize);
-    give_frame(memory, seat, run, freed, bytes);
+    let (head, at) = (memory.head(freed), memory.byte(freed));
+    let (run, bytes) = take_frame(memory, seat, freed, head);
+    let (home, run) = run.clear(home, memory.start, at, bytes as usize);
+    give_frame(memory, seat, run, freed, bytes, head);
     (home, u64::from(bytes))
 }
 

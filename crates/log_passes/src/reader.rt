@@ -75,12 +75,7 @@ fn look_as<N: Picked>(
 /// Loads the word where the consumer stands. Its part of the frame that begins there, if there is
 /// one, is its seat's then.
 #[inline(always)]
-fn look_at(
-    memory: &LogMemory,
-    seat: &mut LogSeat,
-    consumer: &Consumer,
-    head: usize,
-) -> u64
+fn look_at(memory: &LogMemory, seat: &mut LogSeat, consumer: &Consumer, head: usize) -> u64
     requires head { head ≡ head_place (ring memory.now.table.shared.key) consumer.now.position }
     requires seat { IsSeatOf memory.now.table.shared.key memory.now.table.shared.table_id
         seat.old.table_id }
