@@ -9,7 +9,7 @@ use model::every_run;
 /// image of the model. It has what the inserter's seat has stored, and its consumers stand where their words say. A table that was
 /// just opened is one that has stored nothing. Each step is one event of that image, or none: a frame that is stored is one that was
 /// inserted, a position that is stored a consumer that was moved past a frame, and every other step a look.
-pub fn images_steps_are_events()
+pub fn image_steps_are_events()
     ensures opens { OpensImage }
     ensures kinds { StepsHaveKinds }
     ensures steps { StepsAreEvents }

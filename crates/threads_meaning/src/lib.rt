@@ -3,4 +3,4 @@
 
 mod images;
 
-pub use images::{images_are_in_runs, images_steps_are_events};
+pub use images::{images_are_in_runs, image_steps_are_events};

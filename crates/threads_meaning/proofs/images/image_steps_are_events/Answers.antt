@@ -1,5 +1,5 @@
 use Rattle.threads_meaning.proofs.Imaged.{moves_are_events, opens_image, steps_are_events, steps_have_kinds}
-use Rattle.threads_meaning.proofs.images.images_steps_are_events.Goals as goal
+use Rattle.threads_meaning.proofs.images.image_steps_are_events.Goals as goal
 
 pub returns-clause-opens : goal.returns-clause-opens
 returns-clause-opens c = opens_image
