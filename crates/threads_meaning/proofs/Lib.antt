@@ -1,0 +1,6 @@
+mod Totals
+mod Alike
+mod Resting
+mod Looking
+mod Parts
+mod Publishers

@@ -1,0 +1,4 @@
+use Rattle.threads_meaning.proofs.law.each_step_is_an_event.Goals as goal
+
+pub returns : goal.returns
+returns c = ?

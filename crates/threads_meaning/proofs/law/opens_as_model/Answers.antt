@@ -1,0 +1,4 @@
+use Rattle.threads_meaning.proofs.law.opens_as_model.Goals as goal
+
+pub returns : goal.returns
+returns c = ?

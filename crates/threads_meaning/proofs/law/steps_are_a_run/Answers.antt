@@ -1,0 +1,4 @@
+use Rattle.threads_meaning.proofs.law.steps_are_a_run.Goals as goal
+
+pub returns : goal.returns
+returns c = ?

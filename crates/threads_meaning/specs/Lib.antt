@@ -1,0 +1,4 @@
+pub mod Modelled
+pub mod Steps
+pub mod Seats
+pub mod Law
