@@ -4,3 +4,10 @@ mod Resting
 mod Looking
 mod Parts
 mod Publishers
+mod Lowest
+mod Keeping
+mod Found
+mod Consumers
+mod Cut
+mod Open
+mod Committing

@@ -74,14 +74,14 @@ pub record Quiet (start cleaned : ℕ) (frames : List Placed) (readers : List (O
 pub armed_same : (v w : Pass) → w.right.armed ≡ v.right.armed → w.number ≡ v.number → (n : ℕ) → armed_as n w ≡ armed_as n v
 armed_same v w armed number n = λ i. cond (eqb (number i) n) (armed i) 0
 
-one_reads : (ps : List Pass) (start cleaned : ℕ) (frames : List Placed) (readers : List (Option Consumer)) (words : List ℕ) → AreReaders words ps start cleaned frames readers → (id : ℕ) (v w : Pass) → get_elem? ps id ≡ some v
+pub one_reads : (ps : List Pass) (start cleaned : ℕ) (frames : List Placed) (readers : List (Option Consumer)) (words : List ℕ) → AreReaders words ps start cleaned frames readers → (id : ℕ) (v w : Pass) → get_elem? ps id ≡ some v
     → ((r : Reading) → Among r w.reading → (x : Reading) × Among x v.reading × (x.number ≡ r.number)) → (i : ℕ) (u : Pass) (r : Reading) → get_elem? (set ps id w) i ≡ some u → Among r u.reading → r.number < 8 → HasReader readers r.number
 one_reads ps start cleaned frames readers words a id v w at reads i u r e among low = ⊎_elim
     (λ (y : (i ≡ id) × (w ≡ u)). let x = reads r (subst (λ (z : Pass). Among r z.reading) (sym y.1) among) in subst (HasReader readers) x.2 (a.mine id v x.0 at x.1 (subst (λ (n : ℕ). n < 8) (sym x.2) low)))
     (λ (y : (i ≢ id) × (get_elem? ps i ≡ some u)). a.mine i u r y.1 among low)
     (at_set ps id i w u e)
 
-one_keeps : (ps : List Pass) (start cleaned : ℕ) (frames : List Placed) (readers : List (Option Consumer)) (words : List ℕ) → AreReaders words ps start cleaned frames readers → (id : ℕ) (v w : Pass) → get_elem? ps id ≡ some v
+pub one_keeps : (ps : List Pass) (start cleaned : ℕ) (frames : List Placed) (readers : List (Option Consumer)) (words : List ℕ) → AreReaders words ps start cleaned frames readers → (id : ℕ) (v w : Pass) → get_elem? ps id ≡ some v
     → (w.keeping.right ≡ 1 → (v.keeping.right ≡ 1) × (KeepsReaders start cleaned frames readers v.keeping → KeepsReaders start cleaned frames readers w.keeping)) → (i : ℕ) (u : Pass) → get_elem? (set ps id w) i ≡ some u → u.keeping.right ≡ 1 → KeepsReaders start cleaned frames readers u.keeping
 one_keeps ps start cleaned frames readers words a id v w at keeps i u e one = ⊎_elim
     (λ (y : (i ≡ id) × (w ≡ u)). let k = keeps (ap (λ (z : Pass). z.keeping.right) y.1 ∙ one) in subst (λ (z : Pass). KeepsReaders start cleaned frames readers z.keeping) y.1 (k.1 (a.keeper id v at k.0)))
