@@ -11,3 +11,5 @@ mod Consumers
 mod Cut
 mod Open
 mod Committing
+mod Seats
+mod Handing

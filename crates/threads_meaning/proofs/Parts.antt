@@ -62,7 +62,7 @@ armed_mine v = ap (λ (b : Bool). cond b v.right.armed 0) (eq-eqb v.number v.num
 pub armed_other : (n : ℕ) (v : Pass) → v.number ≢ n → armed_as n v ≡ 0
 armed_other n v ne = ap (λ (b : Bool). cond b v.right.armed 0) (ne_eqb v.number n ne)
 
-armed_none : (n : ℕ) (v : Pass) → v.right.armed ≡ 0 → armed_as n v ≡ 0
+pub armed_none : (n : ℕ) (v : Pass) → v.right.armed ≡ 0 → armed_as n v ≡ 0
 armed_none n v none = zeros (eqb v.number n) v.right.armed none
   where
     zeros : (b : Bool) (m : ℕ) → m ≡ 0 → cond b m 0 ≡ 0

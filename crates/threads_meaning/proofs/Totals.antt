@@ -5,7 +5,7 @@ use lib.ListN.{get_elem?}
 use Rattle.log_rule.specs.Claims.Sums.{total}
 use Rattle.log_rule.proofs.Claimed.Totals.{total_append, total_at, total_set}
 
-total_none : {A : Type 0} (f : A → ℕ) (xs : List A) → ((j : ℕ) (u : A) → get_elem? xs j ≡ some u → f u ≡ 0) → total f xs ≡ 0
+pub total_none : {A : Type 0} (f : A → ℕ) (xs : List A) → ((j : ℕ) (u : A) → get_elem? xs j ≡ some u → f u ≡ 0) → total f xs ≡ 0
 total_none f [] none = refl
 total_none f (x ∷ xs) none = let a = none 0 x refl in let r = total_none f xs (λ j. none (suc j)) in omega arith
 
@@ -28,7 +28,7 @@ total_split f xs i v l r at e = let a = total_set f xs i v l at in let c = total
     sums : (all most v xs l r : ℕ) → most + v ≡ xs + l → all ≡ most + (r + 0) → l + r ≡ v → all ≡ xs
     sums all most v xs l r a c e = omega arith
 
-at_other : {A : Type 0} (xs : List A) (i j : ℕ) (a w : A) → j ≢ i → get_elem? xs j ≡ some w → get_elem? (set xs i a) j ≡ some w
+pub at_other : {A : Type 0} (xs : List A) (i j : ℕ) (a w : A) → j ≢ i → get_elem? xs j ≡ some w → get_elem? (set xs i a) j ≡ some w
 at_other [] i j a w ne at = absurd (some-ne-none w (sym at))
 at_other (x ∷ xs) zero zero a w ne at = absurd (ne refl)
 at_other (x ∷ xs) zero (suc j) a w ne at = at

@@ -12,7 +12,7 @@ use Rattle.log_rule.specs.declared.rule.Key.{Key}
 use Rattle.log_rule.specs.Claims.Closing.{both_seats, handing_seats, numbered_seat, spent_seat}
 use Rattle.log_rule.specs.Claims.Plays.{dealing_seat, dealt_seat, newcomer, no_keeping}
 use Rattle.log_rule.specs.Meetings.{back_left, back_right, meeting, meeting_seats, was_shown}
-use Rattle.log_rule.specs.Table.{keeper_left, keeper_right, knowledge_right, news_left, news_right, reader_alone, reader_left, reader_right, returned_seat, told_seat}
+use Rattle.log_rule.specs.Table.{keeper_left, keeper_right, knowledge_right, new_seat, news_left, news_right, reader_alone, reader_left, reader_right, returned_seat, told_seat}
 use Rattle.threads_meaning.specs.Modelled.{is_handed}
 
 -- a seat is cut in two
@@ -42,6 +42,12 @@ pub data SeatsMove (key : Key) (s t : State (Unit {0}) View) : Type 0 where
   tell : (v w : View) → w.pass ≡ record (newcomer key.identity key.start 0 0) { reading = w.pass.reading } → Takes s v w (told_seat v w) (spent_seat key.identity key.start) t → SeatsMove key s t
   return : (v w : View) (r : Reading) → w.pass ≡ reader_alone key.identity key.start r → Takes s v w (returned_seat v w) (spent_seat key.identity key.start) t → SeatsMove key s t
   gather : (v w : View) → v.pass.right.armed ≡ 0 → w.pass.right.armed ≡ 0 → Takes s v w (both_seats v w) (spent_seat key.identity key.start) t → SeatsMove key s t
+  meet : (v w : View) → v.pass.right.armed ≡ 0 → w.pass.right.armed ≡ 0 → Takes s v w (meeting_seats v w) (spent_seat key.identity key.start) t → SeatsMove key s t
+  part_again : (v : View) (shown : ℕ) (p q : Pass) → v.pass ≡ was_shown shown (meeting p q) → p.right.armed ≡ 0 → q.right.armed ≡ 0 → q.keeping ≡ no_keeping → Deals s v (back_left p v) (back_right q v) t → SeatsMove key s t
+  renumber : (v : View) (number : ℕ) → v.pass.right.armed ≡ 0 → Deals s v (numbered_seat number v) (spent_seat v.pass.identity v.pass.start) t → SeatsMove key s t
+  -- a pass goes to a new seat, and comes back to one that has nothing
+  lift : (v : View) → Deals s v (new_seat (newcomer v.pass.identity v.pass.start 0 0)) (new_seat v.pass) t → SeatsMove key s t
+  lower : (v w : View) → v.pass ≡ newcomer key.identity key.start 0 0 → w.pass.keeping ≡ no_keeping → Takes s v w (new_seat w.pass) (spent_seat key.identity key.start) t → SeatsMove key s t
 
 -- a publisher that isn't armed is handed over to another: what it claimed, under its own number, is the other's
 pub record HandsOver (key : Key) (gone : List ℕ) (s : State (Unit {0}) View) (kept number : ℕ) (t : State (Unit {0}) View) : Type 0 where
