@@ -1,10 +1,10 @@
 -- Entries that are claims of passes, one for one, and the tail that they end at.
-use Rattle.std.proofs.Common.{◌≡◌, ◌⊎◌, inl, inr, ⊎_elim, ℕ, ◌+◌, List, [], ◌∷◌, ◌++◌, map, sym, refl, ap, ◌∙◌, arith}
+use Rattle.std.proofs.Common.{◌≡◌, inl, inr, ⊎_elim, ℕ, ◌+◌, List, [], ◌∷◌, ◌++◌, map, sym, refl, ap, ◌∙◌, arith}
 use Rattle.atomic_table.specs.Table.{State}
 use Rattle.theory.specs.Entry.{Entry, length_of}
 use Rattle.theory.specs.Placed.{Among}
 use Rattle.theory.specs.Position.{span}
-use Rattle.theory.specs.Tiling.{Tiles, handed, retire}
+use Rattle.theory.specs.Tiling.{Tiles}
 use Rattle.log_rule.specs.declared.claims.view.View.{View}
 use Rattle.log_rule.specs.declared.rule.Key.{Key}
 use Rattle.log_rule.specs.Claims.Plays.{pass_in}
@@ -32,12 +32,16 @@ pub record HasEntry (c : Entry) (es : List Entry) : Type 0 where
 pub entry_for : (c : Entry) (cs es : List Entry) → AreAs cs es → Among c cs → HasEntry c es
 entry_for c [] es a i = absurd i
 entry_for c (d ∷ cs) [] a i = absurd a
-entry_for c (d ∷ cs) (e ∷ es) a (inl same) = record { entry = e; among = inl refl; is = (let s : d ≡ c = sym same in record {
-  start = a.0.start ∙ ap (λ (x : Entry). x.start) s;
-  owner = a.0.owner ∙ ap (λ (x : Entry). x.owner) s;
-  cuts = a.0.cuts ∙ ap (λ (x : Entry). x.cuts) s;
-  padding = ⊎_elim (λ e. inl (e ∙ ap (λ (x : Entry). x.padding) s)) (λ e. inr record { message = ap (λ (x : Entry). x.padding) same ∙ e.message; padding = e.padding; frames = e.frames }) a.0.padding;
-}) }
+entry_for c (d ∷ cs) (e ∷ es) a (inl same) = record {
+  entry = e;
+  among = inl refl;
+  is = (let s : d ≡ c = sym same in record {
+    start = a.0.start ∙ ap (λ (x : Entry). x.start) s;
+    owner = a.0.owner ∙ ap (λ (x : Entry). x.owner) s;
+    cuts = a.0.cuts ∙ ap (λ (x : Entry). x.cuts) s;
+    padding = ⊎_elim (λ e. inl (e ∙ ap (λ (x : Entry). x.padding) s)) (λ e. inr record { message = ap (λ (x : Entry). x.padding) same ∙ e.message; padding = e.padding; frames = e.frames }) a.0.padding;
+  });
+}
 entry_for c (d ∷ cs) (e ∷ es) a (inr i) = let r = entry_for c cs es a.1 i in record { entry = r.entry; among = inr r.among; is = r.is }
 
 pub alike_push : (cs es : List Entry) (c e : Entry) → AreAs cs es → IsAs c e → AreAs (cs ++ c ∷ []) (es ++ e ∷ [])

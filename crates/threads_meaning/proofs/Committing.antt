@@ -1,43 +1,41 @@
 -- A frame is committed, and a claim of one frame aborted.
-use Rattle.std.proofs.Common.{◌≡◌, ◌≢◌, ◌⊎◌, inl, inr, ⊎_elim, ℕ, zero, suc, ◌+◌, ◌-◌, ◌*◌, ◌/◌, ◌%◌, ◌<◌, ◌≤◌, Bool, true, false, cond, eqb, List, [], ◌∷◌, ◌++◌, length, map, set, sym, refl, ap, ◌∙◌, subst, eq-eqb, ne_eqb, arith}
+use Rattle.std.proofs.Common.{◌≡◌, ◌≢◌, inl, inr, ⊎_elim, ℕ, ◌+◌, ◌<◌, ◌≤◌, Bool, true, cond, List, [], ◌∷◌, ◌++◌, map, set, sym, refl, ap, ◌∙◌, subst, eq-eqb, ne_eqb, arith}
 use mathlib.Core.Option.{some}
 use mathlib.Core.Logic.{dite}
-use native.Mathlib.Decide.{dec_le, ℕ_discrete}
+use native.Mathlib.Decide.{ℕ_discrete}
 use lib.ListN.{get_elem?}
 use Rattle.std.specs.List.{AllByRecursion}
-use Rattle.std.specs.Prelude.{slice_index, slice_set, Option, None, Some}
 use Rattle.atomic_table.specs.Table.{State}
 use Rattle.theory.specs.Bytes.{Identity}
 use Rattle.theory.specs.Entry.{Entry, IsEntry, committed, entry_end}
-use Rattle.theory.specs.Placed.{Among, Frame, Pad, Placed, frame_length, place_all}
+use Rattle.theory.specs.Placed.{Among, Frame, Pad, Placed, place_all}
 use Rattle.theory.specs.Position.{Geometry, span}
 use Rattle.theory.specs.Refusal.{is_closed, is_connected, limit_in}
 use Rattle.theory.specs.Tiling.{Tiles}
-use Rattle.theory.proofs.Lists.{all_at, all_map, all_pushed, among_left, among_right}
+use Rattle.theory.proofs.Lists.{all_map, all_pushed, among_right}
 use Rattle.frame_words.specs.Words.{IsLegal, frame_words}
-use Rattle.publication.specs.declared.pass.ClaimRange.{ClaimRange}
 use Rattle.publication.specs.declared.pass.FrameWords.{FrameWords}
 use Rattle.publication.specs.declared.pass.Pass.{Pass}
 use Rattle.publication.specs.declared.pass.Reading.{Reading}
 use Rattle.publication.specs.Frames.{CompletesFrame}
-use Rattle.publication.specs.Steps.{Commits, geometry_of, with_work, written}
+use Rattle.publication.specs.Steps.{geometry_of, with_work, written}
 use Rattle.log_rule.specs.declared.claims.view.View.{View}
 use Rattle.log_rule.specs.declared.rule.Key.{Key}
 use Rattle.log_rule.specs.Claims.Events.{committed_weight}
-use Rattle.log_rule.specs.Claims.Packs.{consumer_place, limit_place, slot}
+use Rattle.log_rule.specs.Claims.Packs.{slot}
 use Rattle.log_rule.specs.Claims.Plays.{pass_in}
 use Rattle.log_rule.specs.Claims.Rule.{entry_of, weight}
 use Rattle.log_rule.specs.Claims.Sums.{total}
 use Rattle.log_rule.specs.Table.{LogRuled}
 use Rattle.log_rule.proofs.Claimed.Totals.{total_append}
-use Rattle.model.specs.Log.{Abort, Commit, Log, LogStep, MayAbort, MayCommit, aborted_at, with_frame}
+use Rattle.model.specs.Log.{Abort, Commit, Log, LogStep, aborted_at, with_frame}
 use Rattle.model.proofs.LogSteps.{Grows, entry_from, log_step, one_entry}
 use Rattle.threads_meaning.specs.Modelled.{AreAs, AreEntries, ArePublishers, AreReaders, IsAborted, IsAs, IsModelOf, KeepsReaders, armed_as, spelled}
-use Rattle.threads_meaning.specs.Steps.{IsNextFrame, StepAborts, StepCommits}
+use Rattle.threads_meaning.specs.Steps.{StepAborts, StepCommits}
 use Rattle.threads_meaning.proofs.Alike.{alike_map}
 use Rattle.threads_meaning.proofs.Cut.{ExactCut, committed_total, not_whole, placed_push}
 use Rattle.threads_meaning.proofs.Looking.{put_same}
-use Rattle.threads_meaning.proofs.Open.{NextFits, may_abort, next_fits}
+use Rattle.threads_meaning.proofs.Open.{may_abort, next_fits}
 use Rattle.threads_meaning.proofs.Parts.{kept_entries, readers_more}
 use Rattle.threads_meaning.proofs.Resting.{SameWords, armed_same, modelled, one_readers, publishers_rest}
 use Rattle.threads_meaning.proofs.Totals.{total_kept, total_more}
@@ -150,26 +148,25 @@ module _ (key : Key) (gone : List ℕ) (s t : State (Unit {0}) View) (l : Log) (
       let next = next_fits key gone s l q k y.id v y.turn.at start y.p f n h.draft draft (sym h.position) h.inside legal in
       let fits = next.may in let x : Entry = fits.entry in let exact : ExactCut n.front x.frames = next.exact in
       let place : y.p ≡ x.start + span n.front = n.place ∙ ap (λ (z : ℕ). z + span n.front) (sym fits.here) in
-      let placed : place_all x.start (g x).frames ≡ place_all x.start x.frames ++ new ∷ [] = ap (place_all x.start) (with_here start f x fits.here) ∙ placed_push x.start n.front x.frames (f ∷ []) exact ∙ ap (λ (z : ℕ). place_all x.start x.frames ++ record { at = z; frame = f } ∷ []) (sym place) in
-      (
+      let placed : place_all x.start (g x).frames ≡ place_all x.start x.frames ++ new ∷ [] = ap (place_all x.start) (with_here start f x fits.here) ∙ placed_push x.start n.front x.frames (f ∷ []) exact ∙ ap (λ (z : ℕ). place_all x.start x.frames ++ record { at = z; frame = f } ∷ []) (sym place) in (
         record l { entries = map g l.entries },
         (fits, refl),
         committing y.id v w new (h.front ++ h.behind) g y.turn.at y.turn.passes (put_same s.words t.words (slot (geometry_of v) y.p) y.x y.turn.words (λ z. omega arith) (λ j lt z. omega arith)) e
-          (alike_map g k.entries.log l.entries k.entries.alike (λ c z a is. record {
-          start = is.start;
-          owner = is.owner;
-          cuts = is.cuts;
-          padding = ⊎_elim (λ (p : z.padding ≡ c.padding). inl p)
-              (λ (p : IsAborted c z). dite (ℕ_discrete z.start start)
-              (λ here. let one : z ≡ x = only start x z fits.among a fits.here here in absurd (not_whole n.front n.cut n.behind x.frames exact (subst (λ (u : Entry). u.frames ≡ map Pad u.cuts) one p.frames ∙ ap (map Pad) next.cuts)))
-              (λ ne. let left = with_else start f z ne in inr record { message = p.message; padding = p.padding; frames = ap (λ (u : Entry). u.frames) left ∙ p.frames }))
-              is.padding;
-        }))
-          (frames_grow key.identity g geometry.term_length l.start l.tail l.entries x new k.entries.tiles k.entries.are fits.among (λ z ne. with_else start f z (λ u. ne (u ∙ sym fits.here))) refl placed)
-          (all_map (λ (z : Entry). AllByRecursion (IsLegal geometry) z.frames) g l.entries (λ z a are. dite (ℕ_discrete z.start start)
-          (λ here. subst (AllByRecursion (IsLegal geometry)) (sym (with_here start f z here)) (all_pushed (IsLegal geometry) z.frames f are legal))
-          (λ ne. subst (λ (u : Entry). AllByRecursion (IsLegal geometry) u.frames) (sym (with_else start f z ne)) are)) k.entries.legal)
-          (log_step [] (record l { readers = [] }) (Commit start f) (record l { readers = []; entries = map g l.entries }) (kept_entries key s q gone l k) (record { entry = fits.entry; among = fits.among; here = fits.here; frames = fits.frames; bytes = fits.bytes }, refl)),
+            (alike_map g k.entries.log l.entries k.entries.alike (λ c z a is. record {
+              start = is.start;
+              owner = is.owner;
+              cuts = is.cuts;
+              padding = ⊎_elim (λ (p : z.padding ≡ c.padding). inl p)
+                  (λ (p : IsAborted c z). dite (ℕ_discrete z.start start)
+                  (λ here. let one : z ≡ x = only start x z fits.among a fits.here here in absurd (not_whole n.front n.cut n.behind x.frames exact (subst (λ (u : Entry). u.frames ≡ map Pad u.cuts) one p.frames ∙ ap (map Pad) next.cuts)))
+                  (λ ne. let left = with_else start f z ne in inr record { message = p.message; padding = p.padding; frames = ap (λ (u : Entry). u.frames) left ∙ p.frames }))
+                  is.padding;
+            }))
+            (frames_grow key.identity g geometry.term_length l.start l.tail l.entries x new k.entries.tiles k.entries.are fits.among (λ z ne. with_else start f z (λ u. ne (u ∙ sym fits.here))) refl placed)
+            (all_map (λ (z : Entry). AllByRecursion (IsLegal geometry) z.frames) g l.entries (λ z a are. dite (ℕ_discrete z.start start)
+            (λ here. subst (AllByRecursion (IsLegal geometry)) (sym (with_here start f z here)) (all_pushed (IsLegal geometry) z.frames f are legal))
+            (λ ne. subst (λ (u : Entry). AllByRecursion (IsLegal geometry) u.frames) (sym (with_else start f z ne)) are)) k.entries.legal)
+            (log_step [] (record l { readers = [] }) (Commit start f) (record l { readers = []; entries = map g l.entries }) (kept_entries key s q gone l k) (record { entry = fits.entry; among = fits.among; here = fits.here; frames = fits.frames; bytes = fits.bytes }, refl)),
       )
 
   pub aborts : (start : ℕ) → StepAborts s start t → (m : Log) × LogStep [] l (Abort start) m × IsModelOf key gone t m
@@ -184,22 +181,21 @@ module _ (key : Key) (gone : List ℕ) (s t : State (Unit {0}) View) (l : Log) (
       let e : w ≡ with_work (v.work.frames ++ spelled key.identity new ∷ []) (h.front ++ h.behind) v = told ∙ ap (λ (z : FrameWords). with_work (v.work.frames ++ z ∷ []) (h.front ++ h.behind) v) made in
       let found = may_abort key gone s l q k y.id v y.turn.at start y.claim y.among y.here y.message y.cut y.single h.draft draft (sym h.position) h.inside in let may = found.0 in
       let x : Entry = may.entry in let single : x.cuts ≡ y.cut ∷ [] = may.single ∙ ap (λ (z : ℕ). z ∷ []) found.1 in
-      let placed : place_all x.start (g x).frames ≡ place_all x.start x.frames ++ new ∷ [] = ap (place_all x.start) (aborted_here start x may.here ∙ ap (map Pad) single) ∙ ap (λ (z : ℕ). record { at = z; frame = f } ∷ []) may.here ∙ ap (λ (fs : List Frame). place_all x.start fs ++ new ∷ []) (sym may.untouched) in
-      (
+      let placed : place_all x.start (g x).frames ≡ place_all x.start x.frames ++ new ∷ [] = ap (place_all x.start) (aborted_here start x may.here ∙ ap (map Pad) single) ∙ ap (λ (z : ℕ). record { at = z; frame = f } ∷ []) may.here ∙ ap (λ (fs : List Frame). place_all x.start fs ++ new ∷ []) (sym may.untouched) in (
         record l { entries = map g l.entries },
         (may, refl),
         committing y.id v w new (h.front ++ h.behind) g y.turn.at y.turn.passes (put_same s.words t.words (slot (geometry_of v) start) y.x y.turn.words (λ z. omega arith) (λ j lt z. omega arith)) e
-          (alike_map g k.entries.log l.entries k.entries.alike (λ c z a is. dite (ℕ_discrete z.start start)
-          (λ here. let one : z ≡ x = only start x z may.among a may.here here in record {
-            start = is.start;
-            owner = is.owner;
-            cuts = is.cuts;
-            padding = inr record { message = ⊎_elim (λ (p : z.padding ≡ c.padding). sym p ∙ ap (λ (u : Entry). u.padding) one ∙ may.open_message) (λ (p : IsAborted c z). p.message) is.padding; padding = padded_here start z here; frames = aborted_here start z here };
-          })
-          (λ ne. subst (IsAs c) (sym (aborted_else start z ne)) is)))
-          (frames_grow key.identity g geometry.term_length l.start l.tail l.entries x new k.entries.tiles k.entries.are may.among (λ z ne. aborted_else start z (λ u. ne (u ∙ sym may.here))) refl placed)
-          (all_map (λ (z : Entry). AllByRecursion (IsLegal geometry) z.frames) g l.entries (λ z a are. dite (ℕ_discrete z.start start)
-          (λ here. let one : z ≡ x = only start x z may.among a may.here here in subst (AllByRecursion (IsLegal geometry)) (sym (aborted_here start z here ∙ ap (map Pad) (ap (λ (u : Entry). u.cuts) one ∙ single))) (legal, tt))
-          (λ ne. subst (λ (u : Entry). AllByRecursion (IsLegal geometry) u.frames) (sym (aborted_else start z ne)) are)) k.entries.legal)
-          (log_step [] (record l { readers = [] }) (Abort start) (record l { readers = []; entries = map g l.entries }) (kept_entries key s q gone l k) (record { entry = may.entry; among = may.among; here = may.here; open_message = may.open_message; untouched = may.untouched; cut = may.cut; single = may.single }, refl)),
+            (alike_map g k.entries.log l.entries k.entries.alike (λ c z a is. dite (ℕ_discrete z.start start)
+            (λ here. let one : z ≡ x = only start x z may.among a may.here here in record {
+              start = is.start;
+              owner = is.owner;
+              cuts = is.cuts;
+              padding = inr record { message = ⊎_elim (λ (p : z.padding ≡ c.padding). sym p ∙ ap (λ (u : Entry). u.padding) one ∙ may.open_message) (λ (p : IsAborted c z). p.message) is.padding; padding = padded_here start z here; frames = aborted_here start z here };
+            })
+            (λ ne. subst (IsAs c) (sym (aborted_else start z ne)) is)))
+            (frames_grow key.identity g geometry.term_length l.start l.tail l.entries x new k.entries.tiles k.entries.are may.among (λ z ne. aborted_else start z (λ u. ne (u ∙ sym may.here))) refl placed)
+            (all_map (λ (z : Entry). AllByRecursion (IsLegal geometry) z.frames) g l.entries (λ z a are. dite (ℕ_discrete z.start start)
+            (λ here. let one : z ≡ x = only start x z may.among a may.here here in subst (AllByRecursion (IsLegal geometry)) (sym (aborted_here start z here ∙ ap (map Pad) (ap (λ (u : Entry). u.cuts) one ∙ single))) (legal, tt))
+            (λ ne. subst (λ (u : Entry). AllByRecursion (IsLegal geometry) u.frames) (sym (aborted_else start z ne)) are)) k.entries.legal)
+            (log_step [] (record l { readers = [] }) (Abort start) (record l { readers = []; entries = map g l.entries }) (kept_entries key s q gone l k) (record { entry = may.entry; among = may.among; here = may.here; open_message = may.open_message; untouched = may.untouched; cut = may.cut; single = may.single }, refl)),
       )

@@ -1,12 +1,11 @@
 -- Consumers: one goes past a frame, one joins, one leaves.
-use Rattle.std.proofs.Common.{◌≡◌, ◌≢◌, ◌⊎◌, inl, inr, ⊎_elim, ℕ, zero, suc, ◌+◌, ◌-◌, ◌*◌, ◌/◌, ◌%◌, ◌<◌, ◌≤◌, Bool, true, false, cond, List, [], ◌∷◌, ◌++◌, drop, eq-eqb, length, length-set, map, min, max, set, sym, refl, ap, ◌∙◌, subst, take, lt_of_not-le, get_or-set_other, get_or-set_same, arith}
+use Rattle.std.proofs.Common.{◌≡◌, ◌≢◌, ◌⊎◌, inl, inr, ⊎_elim, ℕ, zero, suc, ◌-◌, ◌<◌, ◌≤◌, Bool, cond, List, [], ◌∷◌, ◌++◌, drop, eq-eqb, length, length-set, map, max, set, sym, refl, ap, ◌∙◌, subst, take, get_or-set_other, get_or-set_same, arith}
 use mathlib.Core.Option.{some}
 use mathlib.Core.Logic.{dite}
-use native.Mathlib.Decide.{dec_le, ℕ_discrete}
+use native.Mathlib.Decide.{ℕ_discrete}
 use lib.ListN.{get_elem?}
-use Rattle.std.specs.List.{AllByRecursion}
 use Rattle.std.specs.Prelude.{slice_index, slice_get, slice_set, Option, None, Some}
-use Rattle.std.proofs.lemmas.Option.{none-some, slice_get_within}
+use Rattle.std.proofs.lemmas.Option.{none-some}
 use Rattle.atomic_table.specs.Table.{State}
 use Rattle.atomic_table.proofs.Lists.{at_set}
 use Rattle.theory.specs.Bytes.{Identity}
@@ -16,7 +15,7 @@ use Rattle.theory.specs.Placed.{Among, IsReached, Placed, end_of}
 use Rattle.theory.specs.Refusal.{is_closed, is_connected, limit_in}
 use Rattle.theory.proofs.Follow.{passed_along}
 use Rattle.theory.proofs.Lists.{all_at, among_cases}
-use Rattle.frame_words.specs.Words.{IsLegal, frame_words}
+use Rattle.frame_words.specs.Words.{IsLegal}
 use Rattle.publication.specs.declared.pass.FrameWords.{FrameWords}
 use Rattle.publication.specs.declared.pass.Keeping.{Keeping}
 use Rattle.publication.specs.declared.pass.Pass.{Pass}
@@ -30,7 +29,7 @@ use Rattle.log_rule.specs.Claims.Plays.{pass_in}
 use Rattle.log_rule.specs.Claims.Rule.{entry_of, weight}
 use Rattle.log_rule.specs.Claims.Sums.{total}
 use Rattle.log_rule.specs.Edges.{IsAmong}
-use Rattle.log_rule.specs.Keepings.{joined, left, newly, least_there}
+use Rattle.log_rule.specs.Keepings.{joined, left, newly}
 use Rattle.log_rule.specs.Kept.{IsReader, IsThere, reads_as, readers_of}
 use Rattle.log_rule.specs.Readings.{end_of as ends_at, moved_to, with_consumer}
 use Rattle.log_rule.specs.Table.{LogRuled}
@@ -126,8 +125,7 @@ module _ (key : Key) (gone : List ℕ) (s t : State (Unit {0}) View) (l : Log) (
       let reach : IsReached frames l.start (end_of past) = passed_along frames l.start c.at (end_of past) (past ∷ []) st.reached (begins, refl) (among, tt) in
       let reads = consumer_reads l.start l.cleaned frames l.readers v y.place r (moved_to r end) w y.is refl e in
       let keeps : (w.keeping.right ≡ 1 → (v.keeping.right ≡ 1) × (KeepsReaders l.start l.cleaned frames l.readers v.keeping → KeepsReaders l.start l.cleaned frames l.readers w.keeping)) = λ one. (let same = ap (λ (z : Pass). z.keeping) e in (ap (λ z. z.right) (sym same) ∙ one, λ z. subst (KeepsReaders l.start l.cleaned frames l.readers) (sym same) z)) in
-      subst (λ (x : ℕ). (m : Log) × LogStep [] l (Move x past) m × IsModelOf key gone t m) (sym y.number_is)
-      (
+      subst (λ (x : ℕ). (m : Log) × LogStep [] l (Move x past) m × IsModelOf key gone t m) (sym y.number_is) (
         record l { readers = readers },
         (c, was, record { among = among; here = begins }, st.heard, refl),
         reseated y.id v w (set v.reading y.place (moved_to r end)) v.keeping readers y.turn.at y.turn.passes e (word_limit s.words t.words n end long_words y.low y.turn.words) record {
@@ -138,13 +136,13 @@ module _ (key : Key) (gone : List ℕ) (s t : State (Unit {0}) View) (l : Log) (
               (put_cases l.readers n j (Some c) (Some d) x was there);
           mine = λ i u a at among' low. has_put l.readers n (Some c) d a.number was (one_reads ps l.start l.cleaned frames l.readers s.words k.readers y.id v w y.turn.at reads i u a at among' low);
           keeper = λ i u at one. (let kp = one_keeps ps l.start l.cleaned frames l.readers s.words k.readers y.id v w y.turn.at keeps i u at one in record {
-              cleaned_to = kp.cleaned_to;
-              taken = λ j low there. has_put l.readers n (Some c) d j was (kp.taken j low there);
-              free = λ j low none. dite (ℕ_discrete j n)
-                  (λ same. absurd (none-some c (same_of (sym (kp.free j low none) ∙ ap (slice_get l.readers) same ∙ was))))
-                  (λ ne. get_else l.readers n j (Some d) ne ∙ kp.free j low none);
-              seen = kp.seen;
-            });
+            cleaned_to = kp.cleaned_to;
+            taken = λ j low there. has_put l.readers n (Some c) d j was (kp.taken j low there);
+            free = λ j low none. dite (ℕ_discrete j n)
+                (λ same. absurd (none-some c (same_of (sym (kp.free j low none) ∙ ap (slice_get l.readers) same ∙ was))))
+                (λ ne. get_else l.readers n j (Some d) ne ∙ kp.free j low none);
+            seen = kp.seen;
+          });
         },
       )
     where
@@ -165,8 +163,7 @@ module _ (key : Key) (gone : List ℕ) (s t : State (Unit {0}) View) (l : Log) (
       let wide : number < length v.keeping.there = subst (λ (z : List ℕ). number < length z) (sym (knows_there key gone s l q k y.id v y.turn.at right)) (subst (λ (z : ℕ). number < z) (sym q.kept.eight) low) in
       let broad : number < length v.keeping.positions = subst (λ (z : ℕ). number < z) (sym (knows.all right)) low in
       let term : term_in l ≡ term_of v = ap (λ (i : Identity). i.geometry.term_length) (k.identity ∙ sym (q.ruled.claims.each y.id v y.turn.at).identity) in let start : l.start ≡ v.start = k.start ∙ sym (q.ruled.claims.each y.id v y.turn.at).start in
-      let readable : l.cleaned ≤ max l.start (p - term_in l) = subst (λ (z : ℕ). z ≤ max l.start (p - term_in l)) mine.cleaned_to (subst (λ (z : ℕ × ℕ). v.keeping.cleaned ≤ max z.0 (p - z.1)) (λ i. (sym start i, sym term i)) may.readable) in
-      (
+      let readable : l.cleaned ≤ max l.start (p - term_in l) = subst (λ (z : ℕ). z ≤ max l.start (p - term_in l)) mine.cleaned_to (subst (λ (z : ℕ × ℕ). v.keeping.cleaned ≤ max z.0 (p - z.1)) (λ i. (sym start i, sym term i)) may.readable) in (
         record l { readers = readers },
         (was, reach, subst (λ (z : ℕ). IsLowest [] l z) (sym y.least) (lowest key gone s l q k y.id v y.turn.at right), readable, refl),
         reseated y.id v w (take y.place v.reading ++ newly number p ∷ drop y.place v.reading) x readers y.turn.at y.turn.passes e (word_limit s.words t.words number p long_words low y.turn.words) record {
@@ -226,8 +223,7 @@ module _ (key : Key) (gone : List ℕ) (s t : State (Unit {0}) View) (l : Log) (
       let keeping : w.keeping ≡ x = ap (λ (u : Pass). u.keeping) e in
       let none_there : slice_index q'.there number ≡ 0 = ap (λ (z : List ℕ). slice_index z number) (sym ((q'.kept.each y.id w here).keeping.there (ap (λ z. z.right) keeping ∙ right))) ∙ ap (λ (z : Keeping). slice_index z.there number) keeping ∙ get_or-set_same v.keeping.there number 0 0 wide in
       let nobody : (i : ℕ) (u : Pass) (d : Reading) → get_elem? (set ps y.id w) i ≡ some u → Among d u.reading → d.number ≢ number = λ i u d at among same.
-          (let single = q'.kept.single number low in empty (reads_as number d) (total (reads_as number) u.reading) (total (readers_of number) (map pass_in t.views)) (slice_index q'.there number) (ap (λ (b : Bool). cond b 1 0) (eq-eqb d.number number same)) (among_total (reads_as number) u.reading d among) (total_at (readers_of number) (map pass_in t.views) i u (subst (λ (us : List Pass). get_elem? us i ≡ some u) (sym y.turn.passes) at)) single none_there) in
-      (
+      (let single = q'.kept.single number low in empty (reads_as number d) (total (reads_as number) u.reading) (total (readers_of number) (map pass_in t.views)) (slice_index q'.there number) (ap (λ (b : Bool). cond b 1 0) (eq-eqb d.number number same)) (among_total (reads_as number) u.reading d among) (total_at (readers_of number) (map pass_in t.views) i u (subst (λ (us : List Pass). get_elem? us i ≡ some u) (sym y.turn.passes) at)) single none_there) in (
         record l { readers = readers },
         (has.0, was, inr (may.other, other.0, may.another, other.1), refl),
         reseated y.id v w (take y.place v.reading ++ drop (suc y.place) v.reading) x readers y.turn.at y.turn.passes e (word_limit s.words t.words number 0 long_words low y.turn.words) record {

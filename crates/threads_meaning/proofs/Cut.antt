@@ -1,6 +1,5 @@
 -- The frames of an entry that are committed, beside those that its claim has.
-use Rattle.std.proofs.Common.{◌≡◌, ◌≢◌, ◌⊎◌, inl, inr, ⊎_elim, ℕ, zero, suc, ◌+◌, ◌-◌, ◌*◌, ◌/◌, ◌<◌, ◌≤◌, Bool, true, false, List, [], ◌∷◌, ◌++◌, length, map, min, sym, refl, ap, ◌∙◌, subst, arith}
-use Rattle.std.specs.List.{AllByRecursion}
+use Rattle.std.proofs.Common.{◌≡◌, ◌⊎◌, inl, inr, ⊎_elim, ℕ, ◌+◌, ◌*◌, ◌/◌, ◌≤◌, Bool, false, List, [], ◌∷◌, ◌++◌, map, refl, ap, ◌∙◌, subst, arith}
 use Rattle.std.specs.Prelude.{⊤}
 use Rattle.theory.specs.Bytes.{Identity}
 use Rattle.theory.specs.Entry.{ArePieces, Entry, IsPiece, committed, flags_of}
@@ -12,7 +11,6 @@ use Rattle.frame_words.proofs.Wordings.{words_length}
 use Rattle.publication.specs.declared.pass.FrameWords.{FrameWords}
 use Rattle.publication.specs.Steps.{Extent, extent_of, extents}
 use Rattle.log_rule.specs.Claims.Sums.{total}
-use Rattle.log_rule.specs.Edges.{begins_at, in_entry}
 use Rattle.log_rule.proofs.Claimed.Totals.{total_flat, total_map}
 use Rattle.threads_meaning.specs.Modelled.{spelled}
 

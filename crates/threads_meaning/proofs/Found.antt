@@ -1,13 +1,11 @@
 -- A frame that a pass committed is one of the model's, and which of those it is.
-use Rattle.std.proofs.Common.{◌≡◌, ◌≢◌, ◌⊎◌, inl, inr, ⊎_elim, ℕ, zero, suc, ◌+◌, ◌*◌, ◌/◌, ◌%◌, ◌<◌, ◌≤◌, List, [], ◌∷◌, ◌++◌, length, map, sym, refl, ap, ◌∙◌, subst, arith}
-use mathlib.Core.Option.{some}
-use lib.ListN.{get_elem?}
+use Rattle.std.proofs.Common.{◌≡◌, ◌≢◌, ◌⊎◌, inl, inr, ⊎_elim, ℕ, ◌+◌, ◌*◌, ◌/◌, ◌<◌, ◌≤◌, List, [], ◌∷◌, length, map, sym, refl, ap, ◌∙◌, subst, arith}
 use Rattle.std.specs.List.{AllByRecursion}
 use Rattle.theory.specs.Bytes.{Identity}
 use Rattle.theory.specs.Entry.{Entry, committed}
 use Rattle.theory.specs.Placed.{Among, Frame, Placed, end_of, frame_length, place_all}
 use Rattle.theory.specs.Position.{IsGeometry, aligned}
-use Rattle.theory.proofs.Lists.{all_append, all_at}
+use Rattle.theory.proofs.Lists.{all_append}
 use Rattle.frame_words.specs.Contents.{frame_of}
 use Rattle.frame_words.specs.Words.{IsLegal, frame_words}
 use Rattle.frame_words.proofs.Contents.{legal_said}
@@ -15,7 +13,7 @@ use Rattle.frame_words.proofs.Wordings.{words_length}
 use Rattle.publication.specs.declared.pass.FrameWords.{FrameWords}
 use Rattle.log_rule.specs.Claims.Sums.{total}
 use Rattle.log_rule.proofs.Known.{either_frame}
-use Rattle.log_rule.proofs.Sums.{HasSome, has_some}
+use Rattle.log_rule.proofs.Sums.{has_some}
 use Rattle.threads_meaning.specs.Modelled.{spelled}
 use Rattle.threads_meaning.proofs.Looking.{among_here}
 

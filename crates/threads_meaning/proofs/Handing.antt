@@ -1,26 +1,26 @@
 -- A publisher is handed over to another: the model's number is retired.
-use Rattle.std.proofs.Common.{◌≡◌, ◌≢◌, ◌⊎◌, inl, inr, ⊎_elim, ℕ, zero, suc, ◌+◌, ◌-◌, ◌*◌, ◌/◌, ◌%◌, ◌<◌, ◌≤◌, Bool, true, false, cond, eqb, List, [], ◌∷◌, ◌++◌, map, set, sym, refl, ap, ◌∙◌, subst, eq-eqb, ne_eqb, lt_of_not-le, arith}
+use Rattle.std.proofs.Common.{◌≡◌, ◌≢◌, inl, inr, ⊎_elim, ℕ, zero, suc, ◌+◌, ◌<◌, ◌≤◌, Bool, true, false, cond, eqb, List, [], ◌∷◌, ◌++◌, map, set, sym, refl, ap, ◌∙◌, subst, eq-eqb, ne_eqb, lt_of_not-le, arith}
 use mathlib.Core.Option.{some, some-injective, some-ne-none}
 use mathlib.Core.Logic.{dite}
 use native.Mathlib.Decide.{dec_le, ℕ_discrete}
 use lib.ListN.{get_elem?}
 use Rattle.std.specs.List.{AllByRecursion}
-use Rattle.std.specs.Prelude.{slice_index, slice_get, slice_set, nat_lt, ◌||◌, Option, None, Some}
+use Rattle.std.specs.Prelude.{slice_index, slice_get, slice_set, nat_lt, ◌||◌, Some}
 use Rattle.atomic_table.specs.Table.{State}
 use Rattle.atomic_table.proofs.Lists.{at_map}
 use Rattle.theory.specs.Bytes.{Identity}
 use Rattle.theory.specs.Entry.{Entry, committed}
 use Rattle.theory.specs.Placed.{Among, Placed, place_all}
 use Rattle.theory.specs.Refusal.{is_closed, is_connected, limit_in}
-use Rattle.theory.specs.Tiling.{Tiles, handed, retire}
-use Rattle.theory.proofs.Lists.{all_at, all_map}
+use Rattle.theory.specs.Tiling.{Tiles, handed}
+use Rattle.theory.proofs.Lists.{all_map}
 use Rattle.frame_words.specs.Words.{IsLegal}
 use Rattle.publication.specs.declared.pass.ClaimRange.{ClaimRange}
 use Rattle.publication.specs.declared.pass.FrameWords.{FrameWords}
 use Rattle.publication.specs.declared.pass.Pass.{Pass}
 use Rattle.log_rule.specs.declared.claims.view.View.{View}
 use Rattle.log_rule.specs.declared.rule.Key.{Key}
-use Rattle.log_rule.specs.Claims.Closing.{handed_over, handing_seats, owned_by, renamed, spent_seat}
+use Rattle.log_rule.specs.Claims.Closing.{handing_seats, owned_by, spent_seat}
 use Rattle.log_rule.specs.Claims.Events.{committed_weight}
 use Rattle.log_rule.specs.Claims.Packs.{limit_place}
 use Rattle.log_rule.specs.Claims.Plays.{pass_in}
@@ -34,12 +34,11 @@ use Rattle.log_rule.proofs.Known.{among_total}
 use Rattle.model.specs.Log.{Log, LogStep, Retire}
 use Rattle.model.proofs.LogSteps.{log_step}
 use Rattle.threads_meaning.specs.Modelled.{AreEntries, ArePublishers, AreReaders, IsAborted, IsAs, IsModelOf, armed_as, is_handed, spelled}
-use Rattle.threads_meaning.specs.Seats.{HandsOver, Takes}
+use Rattle.threads_meaning.specs.Seats.{HandsOver}
 use Rattle.threads_meaning.proofs.Alike.{alike_both}
-use Rattle.threads_meaning.proofs.Looking.{load_same}
 use Rattle.threads_meaning.proofs.Parts.{armed_none, armed_other, get_else, get_put, kept_entries}
 use Rattle.threads_meaning.proofs.Resting.{modelled}
-use Rattle.threads_meaning.proofs.Seats.{Has, has_nothing, has_of, itself, join_passes, join_readers}
+use Rattle.threads_meaning.proofs.Seats.{has_nothing, has_of, itself, join_passes, join_readers}
 use Rattle.threads_meaning.proofs.Totals.{at_other, total_join, total_none}
 
 -- ---- sums
@@ -164,30 +163,29 @@ module _ (key : Key) (gone : List ℕ) (s t : State (Unit {0}) View) (l : Log) (
       let same : committed m.entries ≡ committed l.entries = committed_handed a b l.entries in
       let armed : (n : ℕ) → total (armed_as n) qs ≡ total (armed_as n) ps = λ n. total_join (armed_as n) ps d.id d.other v w both.pass spent.pass at d.apart there (nones (armed_as n both.pass) (armed_as n spent.pass) (armed_as n v) (armed_as n w) (armed_none n both.pass y.idle.0) (armed_none n spent.pass refl) (armed_none n v y.idle.0) (armed_none n w y.idle.1)) in
       let word = ap (λ (ws : List ℕ). slice_index ws limit_place) (sym d.words) in
-      subst (λ (x : ℕ × ℕ). (m : Log) × LogStep [] l (Retire x.0 x.1) m × IsModelOf key (x.1 ∷ gone) t m) (λ i. (sym y.kept_is i, sym y.number_is i))
-      (
+      subst (λ (x : ℕ × ℕ). (m : Log) × LogStep [] l (Retire x.0 x.1) m × IsModelOf key (x.1 ∷ gone) t m) (λ i. (sym y.kept_is i, sym y.number_is i)) (
         m,
         step,
         modelled key (b ∷ gone) t m q' k.identity k.start (k.limit ∙ ap limit_in word) (k.connected ∙ ap is_connected word) (k.closed ∙ ap is_closed word)
-          (subst (λ (us : List Pass). AreEntries key us m.start m.tail m.entries) (sym passes) record {
-          log = map g k.entries.log;
-          claimed = claimed_then;
-          alike = alike_both g g k.entries.log l.entries k.entries.alike (handed_as a b);
-          frames = λ h. total_join (committed_weight h) ps d.id d.other v w both.pass spent.pass at d.apart there (frames_sum h v.work.frames w.work.frames) ∙ k.entries.frames h ∙ ap (λ (ss : List Placed). total h (map (spelled key.identity) ss)) (sym same);
-          tiles = subst (λ (i : Identity). Tiles i.geometry.term_length m.start m.tail m.entries) k.identity grown.kept.tiles;
-          are = grown.kept.entries;
-          legal = all_map (λ (e : Entry). AllByRecursion (IsLegal key.identity.geometry) e.frames) g l.entries (λ e _ is. is) k.entries.legal;
-        })
-          (subst (λ (us : List Pass). ArePublishers (b ∷ gone) us m.armed m.retired) (sym passes) record {
-          are_armed = λ n lt. k.publishers.are_armed n lt ∙ ap (λ (x : ℕ). Some (nat_lt 0 x)) (sym (armed n));
-          are_retired = λ n lt. dite (ℕ_discrete n b)
-              (λ here. ap (slice_get m.retired) here ∙ get_put l.retired b true _ live_b ∙ ap (λ (z : Bool). Some (z || is_handed gone n)) (sym (eq-eqb n b here)))
-              (λ ne. get_else l.retired b n true ne ∙ k.publishers.are_retired n lt ∙ ap (λ (z : Bool). Some (z || is_handed gone n)) (sym (ne_eqb n b ne)));
-          living = λ n lt pos. dite (ℕ_discrete n b)
-              (λ here. absurd (empty (total (armed_as n) qs) pos (armed n ∙ ap (λ (x : ℕ). total (armed_as x) ps) here ∙ none)))
-              (λ ne. ap (λ (z : Bool). z || is_handed gone n) (ne_eqb n b ne) ∙ k.publishers.living n lt (subst (λ (x : ℕ). 0 < x) (armed n) pos));
-        })
-          (subst (λ (ss : List Placed). AreReaders t.words (map pass_in t.views) l.start l.cleaned ss l.readers) (sym same) (join_readers key gone s t l q' k y.v y.w both spent d (has_of v both.pass (itself v.reading) (inl refl) w) (has_nothing v w spent.pass refl refl))),
+            (subst (λ (us : List Pass). AreEntries key us m.start m.tail m.entries) (sym passes) record {
+              log = map g k.entries.log;
+              claimed = claimed_then;
+              alike = alike_both g g k.entries.log l.entries k.entries.alike (handed_as a b);
+              frames = λ h. total_join (committed_weight h) ps d.id d.other v w both.pass spent.pass at d.apart there (frames_sum h v.work.frames w.work.frames) ∙ k.entries.frames h ∙ ap (λ (ss : List Placed). total h (map (spelled key.identity) ss)) (sym same);
+              tiles = subst (λ (i : Identity). Tiles i.geometry.term_length m.start m.tail m.entries) k.identity grown.kept.tiles;
+              are = grown.kept.entries;
+              legal = all_map (λ (e : Entry). AllByRecursion (IsLegal key.identity.geometry) e.frames) g l.entries (λ e _ is. is) k.entries.legal;
+            })
+            (subst (λ (us : List Pass). ArePublishers (b ∷ gone) us m.armed m.retired) (sym passes) record {
+              are_armed = λ n lt. k.publishers.are_armed n lt ∙ ap (λ (x : ℕ). Some (nat_lt 0 x)) (sym (armed n));
+              are_retired = λ n lt. dite (ℕ_discrete n b)
+                  (λ here. ap (slice_get m.retired) here ∙ get_put l.retired b true _ live_b ∙ ap (λ (z : Bool). Some (z || is_handed gone n)) (sym (eq-eqb n b here)))
+                  (λ ne. get_else l.retired b n true ne ∙ k.publishers.are_retired n lt ∙ ap (λ (z : Bool). Some (z || is_handed gone n)) (sym (ne_eqb n b ne)));
+              living = λ n lt pos. dite (ℕ_discrete n b)
+                  (λ here. absurd (empty (total (armed_as n) qs) pos (armed n ∙ ap (λ (x : ℕ). total (armed_as x) ps) here ∙ none)))
+                  (λ ne. ap (λ (z : Bool). z || is_handed gone n) (ne_eqb n b ne) ∙ k.publishers.living n lt (subst (λ (x : ℕ). 0 < x) (armed n) pos));
+            })
+            (subst (λ (ss : List Placed). AreReaders t.words (map pass_in t.views) l.start l.cleaned ss l.readers) (sym same) (join_readers key gone s t l q' k y.v y.w both spent d (has_of v both.pass (itself v.reading) (inl refl) w) (has_nothing v w spent.pass refl refl))),
       )
     where
       nones : (a b c d : ℕ) → a ≡ 0 → b ≡ 0 → c ≡ 0 → d ≡ 0 → a + b ≡ c + d

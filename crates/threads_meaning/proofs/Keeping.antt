@@ -1,15 +1,12 @@
 -- The keeper stores the limit's word, and cleans.
-use Rattle.std.proofs.Common.{◌≡◌, ◌≢◌, ◌⊎◌, inl, inr, ⊎_elim, ℕ, zero, suc, ◌+◌, ◌-◌, ◌*◌, ◌/◌, ◌%◌, ◌<◌, ◌≤◌, Bool, true, false, List, [], ◌∷◌, ◌++◌, length, map, min, max, set, sym, refl, ap, ◌∙◌, subst, lt_of_not-le, get_or-set_other, arith}
+use Rattle.std.proofs.Common.{◌≡◌, ◌≢◌, ⊎_elim, ℕ, ◌+◌, ◌-◌, ◌/◌, ◌%◌, ◌<◌, ◌≤◌, Bool, true, false, List, [], length, map, max, set, sym, refl, ap, ◌∙◌, subst, get_or-set_other, arith}
 use mathlib.Core.Option.{some}
-use mathlib.Core.Logic.{dite}
-use native.Mathlib.Decide.{dec_le, ℕ_discrete}
 use lib.ListN.{get_elem?}
-use Rattle.std.specs.Prelude.{slice_index, slice_get, Option, None, Some}
+use Rattle.std.specs.Prelude.{slice_index, Some}
 use Rattle.std.proofs.lemmas.Option.{slice_get_within}
 use Rattle.atomic_table.specs.Table.{State}
 use Rattle.atomic_table.proofs.Lists.{at_set}
 use Rattle.theory.specs.Bytes.{Identity}
-use Rattle.theory.specs.Consumer.{Consumer}
 use Rattle.theory.specs.Entry.{committed}
 use Rattle.theory.specs.Placed.{Among}
 use Rattle.theory.specs.Refusal.{is_closed, is_connected, limit_in}
@@ -24,15 +21,15 @@ use Rattle.log_rule.specs.Claims.Packs.{consumer_place, limit_place, slot}
 use Rattle.log_rule.specs.Claims.Plays.{pass_in}
 use Rattle.log_rule.specs.Claims.Rule.{entry_of, weight}
 use Rattle.log_rule.specs.Claims.Sums.{total}
-use Rattle.log_rule.specs.Keepings.{CleansWord, Raises, least_there, with_keeping}
+use Rattle.log_rule.specs.Keepings.{least_there, with_keeping}
 use Rattle.log_rule.specs.Table.{LogRuled}
 use Rattle.log_rule.proofs.Claimed.Whole.{first_set}
 use Rattle.model.specs.Log.{Clean, Close, Connect, IsLowest, Log, LogStep, Raise, term_of as term_in}
-use Rattle.threads_meaning.specs.Modelled.{AreEntries, ArePublishers, AreReaders, HasReader, IsModelOf, KeepsReaders, Stands, armed_as}
+use Rattle.threads_meaning.specs.Modelled.{AreEntries, ArePublishers, AreReaders, IsModelOf, KeepsReaders, armed_as}
 use Rattle.threads_meaning.specs.Steps.{ClosesBy, ConnectsBy, RaisesTo, StepCleans, StepLimits}
 use Rattle.threads_meaning.proofs.Looking.{put_same}
 use Rattle.threads_meaning.proofs.Lowest.{alone_keeper, knows_limit, lowest, whole_least}
-use Rattle.threads_meaning.proofs.Resting.{SameWords, armed_same, entries_rest, modelled, one_readers, publishers_rest}
+use Rattle.threads_meaning.proofs.Resting.{armed_same, entries_rest, modelled, one_readers, publishers_rest}
 use Rattle.threads_meaning.proofs.Totals.{total_kept}
 
 module _ (key : Key) (gone : List ℕ) (s t : State (Unit {0}) View) (l : Log) (q : LogRuled key s) (q' : LogRuled key t) (k : IsModelOf key gone s l) where
@@ -81,8 +78,7 @@ module _ (key : Key) (gone : List ℕ) (s t : State (Unit {0}) View) (l : Log) (
       let term = term_same y.id v y.turn.at in let start = start_same y.id v y.turn.at in let to = (k.readers.keeper y.id v y.turn.at right).cleaned_to in
       let was : l.limit ≡ limit_in v.keeping.limit = k.limit ∙ ap limit_in (sym old) in
       let on : l.connected ≡ true = k.connected ∙ ap is_connected (sym old) ∙ y.is.free.0 in let shut : l.closed ≡ false = k.closed ∙ ap is_closed (sym old) ∙ y.is.free.1 in
-      let raised : max l.limit (least + term_in l / 2) ≡ limit_in y.word = (λ i. max (was i) (least + term i / 2)) ∙ sym y.is.limit in
-      (
+      let raised : max l.limit (least + term_in l / 2) ≡ limit_in y.word = (λ i. max (was i) (least + term i / 2)) ∙ sym y.is.limit in (
         record l { limit = max l.limit (least + term_in l / 2) },
         (
           subst (λ (x : ℕ). x % 32 ≡ 0) (sym y.is.least_is) (whole_least key gone s l q k y.id v y.turn.at right),
@@ -103,22 +99,21 @@ module _ (key : Key) (gone : List ℕ) (s t : State (Unit {0}) View) (l : Log) (
       let mine = k.readers.keeper y.id v y.turn.at right in let to = mine.cleaned_to in let term = term_same y.id v y.turn.at in let start = start_same y.id v y.turn.at in
       let same = put_same s.words t.words (slot (geometry_of v) v.keeping.cleaned) 0 y.turn.words (λ z. omega arith) (λ j lt z. omega arith) in
       let m : Log = record l { cleaned = l.cleaned + 8 } in
-      let below : v.keeping.cleaned + 8 ≤ max v.start (least - term_of v) = subst (λ (z : ℕ). v.keeping.cleaned + 8 ≤ max v.start (z - term_of v)) (sym y.least_is) y.may.below in
-      (
+      let below : v.keeping.cleaned + 8 ≤ max v.start (least - term_of v) = subst (λ (z : ℕ). v.keeping.cleaned + 8 ≤ max v.start (z - term_of v)) (sym y.least_is) y.may.below in (
         m,
         (subst (λ (z : ℕ). IsLowest [] l z) (sym y.least_is) (lowest key gone s l q k y.id v y.turn.at right), subst (λ (z : ℕ). z + 8 ≤ max l.start (least - term_in l)) to (subst (λ (z : ℕ × ℕ). v.keeping.cleaned + 8 ≤ max z.0 (least - z.1)) (λ i. (sym start i, sym term i)) below), refl),
         modelled key gone t m q' k.identity k.start (k.limit ∙ ap limit_in (sym same.limit)) (k.connected ∙ ap is_connected (sym same.limit)) (k.closed ∙ ap is_closed (sym same.limit))
-          (keeps_entries y.id v w x y.turn.at y.turn.passes e) (keeps_publishers y.id v w x y.turn.at y.turn.passes e)
-          (subst (λ (qs : List Pass). AreReaders t.words qs m.start m.cleaned (committed m.entries) m.readers) (sym y.turn.passes) record {
-          eight = k.readers.eight;
-          standing = λ number c there. (let low : number < 8 = subst (λ (z : ℕ). number < z) k.readers.eight (slice_get_within l.readers number (Some c) there) in let st = k.readers.standing number c there in record { at = st.at ∙ sym (same.consumers number low); heard = st.heard; reached = st.reached });
-          mine = λ i u r there among low. ⊎_elim
-              (λ (z : (i ≡ y.id) × (w ≡ u)). k.readers.mine y.id v r y.turn.at (subst (λ (rs : List Reading). Among r rs) (ap (λ (p : Pass). p.reading) (sym z.1 ∙ e)) among) low)
-              (λ (z : (i ≢ y.id) × (get_elem? ps i ≡ some u)). k.readers.mine i u r z.1 among low)
-              (at_set ps y.id i w u there);
-          keeper = λ i u there one. ⊎_elim
-              (λ (z : (i ≡ y.id) × (w ≡ u)). subst (KeepsReaders m.start m.cleaned (committed m.entries) m.readers) (ap (λ (p : Pass). p.keeping) (sym e ∙ z.1)) record { cleaned_to = ap (λ (n : ℕ). n + 8) to; taken = mine.taken; free = mine.free; seen = mine.seen })
-              (λ (z : (i ≢ y.id) × (get_elem? ps i ≡ some u)). absurd (alone_keeper key gone s l q k y.id v y.turn.at right i u z.0 z.1 one))
-              (at_set ps y.id i w u there);
-        }),
+            (keeps_entries y.id v w x y.turn.at y.turn.passes e) (keeps_publishers y.id v w x y.turn.at y.turn.passes e)
+            (subst (λ (qs : List Pass). AreReaders t.words qs m.start m.cleaned (committed m.entries) m.readers) (sym y.turn.passes) record {
+              eight = k.readers.eight;
+              standing = λ number c there. (let low : number < 8 = subst (λ (z : ℕ). number < z) k.readers.eight (slice_get_within l.readers number (Some c) there) in let st = k.readers.standing number c there in record { at = st.at ∙ sym (same.consumers number low); heard = st.heard; reached = st.reached });
+              mine = λ i u r there among low. ⊎_elim
+                  (λ (z : (i ≡ y.id) × (w ≡ u)). k.readers.mine y.id v r y.turn.at (subst (λ (rs : List Reading). Among r rs) (ap (λ (p : Pass). p.reading) (sym z.1 ∙ e)) among) low)
+                  (λ (z : (i ≢ y.id) × (get_elem? ps i ≡ some u)). k.readers.mine i u r z.1 among low)
+                  (at_set ps y.id i w u there);
+              keeper = λ i u there one. ⊎_elim
+                  (λ (z : (i ≡ y.id) × (w ≡ u)). subst (KeepsReaders m.start m.cleaned (committed m.entries) m.readers) (ap (λ (p : Pass). p.keeping) (sym e ∙ z.1)) record { cleaned_to = ap (λ (n : ℕ). n + 8) to; taken = mine.taken; free = mine.free; seen = mine.seen })
+                  (λ (z : (i ≢ y.id) × (get_elem? ps i ≡ some u)). absurd (alone_keeper key gone s l q k y.id v y.turn.at right i u z.0 z.1 one))
+                  (at_set ps y.id i w u there);
+            }),
       )

@@ -13,3 +13,5 @@ mod Open
 mod Committing
 mod Seats
 mod Handing
+mod Opening
+mod Running

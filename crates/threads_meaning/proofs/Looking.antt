@@ -1,11 +1,11 @@
 -- Looks: what a pass loads makes it no other publisher, consumer or keeper.
-use Rattle.std.proofs.Common.{◌≡◌, ◌≢◌, ◌⊎◌, inl, inr, ⊎_elim, ℕ, zero, suc, ◌+◌, ◌*◌, ◌%◌, ◌<◌, ◌≤◌, Bool, cond, eqb, List, [], ◌∷◌, ◌++◌, length, map, set, sym, refl, ap, ◌∙◌, subst, lt_of_not-le, get_or-set_other, get_or-set_same, arith}
+use Rattle.std.proofs.Common.{◌≡◌, ◌≢◌, ◌⊎◌, inl, inr, ⊎_elim, ℕ, zero, suc, ◌+◌, ◌*◌, ◌%◌, ◌<◌, List, [], ◌∷◌, map, set, sym, refl, ap, ◌∙◌, subst, lt_of_not-le, get_or-set_other, get_or-set_same, arith}
 use mathlib.Core.Option.{some, some-injective, some-ne-none}
 use mathlib.Core.Logic.{dite}
 use native.Mathlib.Decide.{dec_le, ℕ_discrete}
 use lib.IntN.{ℤ_discrete}
 use lib.ListN.{get_elem?}
-use Rattle.std.specs.Prelude.{slice_index, slice_get, Option, None, Some}
+use Rattle.std.specs.Prelude.{slice_index, Option}
 use Rattle.std.proofs.lemmas.List.{set-get_or}
 use Rattle.atomic_table.specs.Table.{State}
 use Rattle.theory.specs.Consumer.{Consumer}
@@ -14,22 +14,21 @@ use Rattle.theory.specs.Placed.{Among, IsReached, Placed}
 use Rattle.theory.specs.Position.{id_of}
 use Rattle.theory.specs.Refusal.{limit_in}
 use Rattle.theory.specs.Words.{id_in, offset_in}
-use Rattle.publication.specs.declared.pass.FrameWords.{FrameWords}
 use Rattle.publication.specs.declared.pass.Pass.{Pass}
 use Rattle.publication.specs.declared.pass.Reading.{Reading}
 use Rattle.publication.specs.declared.step.WordStep.TheVariants as steps
-use Rattle.publication.specs.Steps.{Arms, Counts, ExchangesCount, Names, Nexts, Rotates, Sees, geometry_of, noted, tail_exchange, tail_step, term_of, with_begun, with_count, with_full, with_limit}
+use Rattle.publication.specs.Steps.{Arms, Counts, ExchangesCount, Nexts, Rotates, Sees, geometry_of, noted, tail_exchange, tail_step, term_of, with_begun, with_count, with_full, with_limit}
 use Rattle.log_rule.specs.declared.claims.view.View.{View}
 use Rattle.log_rule.specs.declared.rule.Key.{Key}
 use Rattle.log_rule.specs.Claims.Packs.{consumer_place, limit_place}
 use Rattle.log_rule.specs.Claims.Plays.{pass_in}
-use Rattle.log_rule.specs.Keepings.{SeesConsumer, with_keeping}
+use Rattle.log_rule.specs.Keepings.{SeesConsumer}
 use Rattle.log_rule.specs.Kept.{IsThere}
 use Rattle.log_rule.specs.Meetings.{was_shown}
-use Rattle.log_rule.specs.Readings.{IsConsumer, Looks, Rereads, knows_more, missed, with_consumer}
+use Rattle.log_rule.specs.Readings.{IsConsumer, Looks, knows_more, missed, with_consumer}
 use Rattle.log_rule.specs.Table.{LogRuled}
 use Rattle.model.specs.Log.{Log}
-use Rattle.threads_meaning.specs.Modelled.{AreReaders, HasReader, IsModelOf, KeepsReaders}
+use Rattle.threads_meaning.specs.Modelled.{AreReaders, IsModelOf, KeepsReaders}
 use Rattle.threads_meaning.specs.Steps.{IsOpen, LooksAt, Turns, load_consumer, load_count, load_here, load_limit, load_next, load_own, load_shown, load_tail, load_word}
 use Rattle.threads_meaning.proofs.Resting.{Quiet, SameWords, quiet}
 

@@ -1,28 +1,26 @@
 -- What the keeper saw of consumers: the least position is below each reader, and a whole number of units.
-use Rattle.std.proofs.Common.{◌≡◌, ◌≢◌, ◌⊎◌, inl, inr, ⊎_elim, ℕ, zero, suc, ◌+◌, ◌-◌, ◌*◌, ◌/◌, ◌%◌, ◌<◌, ◌≤◌, List, [], ◌∷◌, ◌++◌, length, map, min, max, set, sym, refl, ap, ◌∙◌, subst, lt_of_not-le, arith}
+use Rattle.std.proofs.Common.{◌≡◌, ◌≢◌, ℕ, zero, suc, ◌+◌, ◌%◌, ◌<◌, ◌≤◌, List, [], ◌∷◌, map, min, sym, refl, ap, ◌∙◌, subst, lt_of_not-le, arith}
 use mathlib.Core.Option.{some}
 use mathlib.Core.Logic.{dite}
-use native.Mathlib.Decide.{dec_le, ℕ_discrete}
+use native.Mathlib.Decide.{dec_le}
 use lib.ListN.{get_elem?}
 use Rattle.std.specs.List.{AllByRecursion, fold}
 use Rattle.std.specs.Prelude.{slice_index, slice_get, Option, None, Some}
 use Rattle.std.proofs.lemmas.Option.{none-some, slice_get_within}
 use Rattle.atomic_table.specs.Table.{State}
 use Rattle.theory.specs.Consumer.{Consumer}
-use Rattle.theory.specs.Entry.{committed}
-use Rattle.theory.specs.Numbered.{Each, IfThere}
-use Rattle.theory.specs.Placed.{IsReached}
+use Rattle.theory.specs.Numbered.{Each}
 use Rattle.publication.specs.declared.pass.Pass.{Pass}
 use Rattle.log_rule.specs.declared.claims.view.View.{View}
 use Rattle.log_rule.specs.declared.rule.Key.{Key}
-use Rattle.log_rule.specs.Claims.Packs.{consumer_place, limit_place}
+use Rattle.log_rule.specs.Claims.Packs.{limit_place}
 use Rattle.log_rule.specs.Claims.Plays.{pass_in}
 use Rattle.log_rule.specs.Keepings.{least_of, least_there, numbered}
-use Rattle.log_rule.specs.Kept.{IsThere, keepers_of}
+use Rattle.log_rule.specs.Kept.{IsThere}
 use Rattle.log_rule.specs.Table.{LogRuled}
 use Rattle.log_rule.proofs.Keeping.{least_low, not_keeper}
 use Rattle.model.specs.Log.{IsLowest, Log}
-use Rattle.threads_meaning.specs.Modelled.{AreReaders, IsModelOf, KeepsReaders}
+use Rattle.threads_meaning.specs.Modelled.{IsModelOf}
 
 -- ---- lists
 

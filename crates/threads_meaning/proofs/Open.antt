@@ -1,5 +1,5 @@
 -- The frame that a pass commits is the next of its claim's entry.
-use Rattle.std.proofs.Common.{◌≡◌, ◌≢◌, ◌⊎◌, inl, inr, ⊎_elim, ℕ, zero, suc, ◌+◌, ◌-◌, ◌*◌, ◌/◌, ◌%◌, ◌<◌, ◌≤◌, Bool, true, false, List, [], ◌∷◌, ◌++◌, length, map, min, sym, refl, ap, ◌∙◌, subst, lt_of_not-le, arith}
+use Rattle.std.proofs.Common.{◌≡◌, ◌≢◌, ◌⊎◌, inl, inr, ⊎_elim, ℕ, ◌+◌, ◌-◌, ◌*◌, ◌<◌, ◌≤◌, Bool, true, false, List, [], ◌∷◌, ◌++◌, length, map, min, sym, refl, ap, ◌∙◌, subst, lt_of_not-le, arith}
 use mathlib.Core.Option.{some}
 use mathlib.Core.Logic.{dite}
 use native.Mathlib.Decide.{dec_le, ℕ_discrete}
@@ -7,7 +7,7 @@ use lib.ListN.{get_elem?}
 use Rattle.std.specs.List.{AllByRecursion}
 use Rattle.std.specs.Prelude.{slice_index}
 use Rattle.atomic_table.specs.Table.{State}
-use Rattle.theory.specs.Entry.{ArePadding, ArePieces, Entry, HaveFrames, IsEntry, committed}
+use Rattle.theory.specs.Entry.{Entry, HaveFrames, IsEntry, committed}
 use Rattle.theory.specs.Placed.{Among, Data, Frame, Pad, Placed, frame_length, payload_of, place_all}
 use Rattle.theory.specs.Position.{Geometry, aligned, span}
 use Rattle.theory.proofs.Frames.{AreCut, are_cut}
@@ -27,14 +27,14 @@ use Rattle.log_rule.specs.Claims.Sums.{covers, total}
 use Rattle.log_rule.specs.Claims.Memory.{tail_of}
 use Rattle.log_rule.specs.Edges.{begins_at, claimed_sum, committed_sum, in_entry, open_sum, open_weight}
 use Rattle.log_rule.specs.Table.{LogRuled, now_at}
-use Rattle.log_rule.proofs.Claimed.Totals.{total_at, total_map}
+use Rattle.log_rule.proofs.Claimed.Totals.{total_at}
 use Rattle.log_rule.proofs.Known.{among_total}
 use Rattle.log_rule.proofs.Sums.{all_parted, covered, covering, has_some, parted, sum_up}
 use Rattle.model.specs.Log.{Log, MayAbort, MayCommit}
-use Rattle.threads_meaning.specs.Modelled.{IsAborted, IsAs, IsModelOf, spelled}
-use Rattle.threads_meaning.specs.Steps.{IsFrameOf, IsNextFrame, is_first}
+use Rattle.threads_meaning.specs.Modelled.{IsAborted, IsModelOf, spelled}
+use Rattle.threads_meaning.specs.Steps.{IsFrameOf, IsNextFrame}
 use Rattle.threads_meaning.proofs.Alike.{HasEntry, alike_total, entry_for}
-use Rattle.threads_meaning.proofs.Cut.{ExactCut, IsBehind, IsWithin, committed_total, extent_counts, extent_spelled, first_at, locate, not_whole, pieces_push, placed_less, placed_next, placed_push, total_less}
+use Rattle.threads_meaning.proofs.Cut.{ExactCut, IsBehind, IsWithin, committed_total, extent_counts, extent_spelled, locate, not_whole, pieces_push, placed_less, placed_next, placed_push, total_less}
 use Rattle.threads_meaning.proofs.Looking.{among_here}
 
 -- ---- a claim is told from another
@@ -228,14 +228,14 @@ module _ (key : Key) (gone : List ℕ) (s : State (Unit {0}) View) (l : Log) (q 
           let mine : 1 ≤ weight (in_entry h) v = trans 1 (h (record { start = at'; bytes = aligned y.next; cut = y.next })) (in_entry h (entry_of c)) (weight (in_entry h) v) one (subst (λ (l : List ℕ). h (record { start = at'; bytes = aligned y.next; cut = y.next }) ≤ total h (extents c.start l)) (sym (cuts ∙ whole)) (extent_counts h c.start y.done y.next rest)) (among_total (in_entry h) (entries_of v) (entry_of c) (among_mapped entry_of v.right.claims c among)) in
           let split = parted b s.words v (q.ruled.memory.each id v at) h in
           let none : total (λ f. h (extent_of f)) v.work.drafts ≡ 0 = dite (dec_le 1 (total (λ f. h (extent_of f)) v.work.drafts))
-              (λ some'. let g = has_some (λ f. h (extent_of f)) v.work.drafts some' in let starts = at_start at' g.one.start (length g.one.words) g.some in
-              absurd (clash c.start (span y.done) (span front) (aligned y.next) g.one.start starts (first g.one (among_here v.work.drafts g.place g.one g.at) (low c.start (span y.done) g.one.start starts)) (subst (λ (l : List ℕ). span y.done + aligned y.next ≤ span l) (sym y.parts) (span_more y.done y.next y.more)) (up_to y.next pos)))
-              (λ no. least (total (λ f. h (extent_of f)) v.work.drafts) (lt_of_not-le no)) in
+          (λ some'. let g = has_some (λ f. h (extent_of f)) v.work.drafts some' in let starts = at_start at' g.one.start (length g.one.words) g.some in
+          absurd (clash c.start (span y.done) (span front) (aligned y.next) g.one.start starts (first g.one (among_here v.work.drafts g.place g.one g.at) (low c.start (span y.done) g.one.start starts)) (subst (λ (l : List ℕ). span y.done + aligned y.next ≤ span l) (sym y.parts) (span_more y.done y.next y.more)) (up_to y.next pos)))
+          (λ no. least (total (λ f. h (extent_of f)) v.work.drafts) (lt_of_not-le no)) in
           let done : 1 ≤ committed_sum h ps = trans3 (weight (in_entry h) v) (committed_weight (λ f. h (extent_of f)) v) (total (λ f. h (extent_of f)) v.work.drafts) (committed_sum h ps) mine split none (total_at (committed_weight (λ f. h (extent_of f))) ps id v at) in
           let sums : committed_sum h ps ≡ total (λ z. total (λ x'. h (extent_of (spelled i x'))) (place_all z.start z.frames)) l.entries = k.entries.frames (λ f. h (extent_of f)) ∙ committed_total i (λ f. h (extent_of f)) l.entries in
           let more : total (λ z. total (λ x'. h (extent_of (spelled i x'))) (place_all z.start z.frames)) l.entries + 1 ≤ total (in_entry h) l.entries = total_less (λ z. total (λ x'. h (extent_of (spelled i x'))) (place_all z.start z.frames)) (in_entry h) l.entries x.entry 1
-              (λ z a. placed_less i h z.start z.cuts z.frames (are_cut z.padding z.cuts z.frames (all_at IsEntry z l.entries k.entries.are a).frames)) there
-              (trans' (total (λ x'. h (extent_of (spelled i x'))) (place_all x.entry.start x.entry.frames)) (h (record { start = x.entry.start + span y.done; bytes = aligned y.next; cut = y.next })) (in_entry h x.entry) (subst (λ (n : ℕ). 1 ≤ h (record { start = n + span y.done; bytes = aligned y.next; cut = y.next })) (sym begins) one) (subst (λ (l : List ℕ). total (λ x'. h (extent_of (spelled i x'))) (place_all x.entry.start x.entry.frames) + h (record { start = x.entry.start + span y.done; bytes = aligned y.next; cut = y.next }) ≤ total h (extents x.entry.start l)) (sym (parts ∙ whole)) (placed_next i h x.entry.start y.done y.next rest x.entry.frames y.exact))) in
+          (λ z a. placed_less i h z.start z.cuts z.frames (are_cut z.padding z.cuts z.frames (all_at IsEntry z l.entries k.entries.are a).frames)) there
+          (trans' (total (λ x'. h (extent_of (spelled i x'))) (place_all x.entry.start x.entry.frames)) (h (record { start = x.entry.start + span y.done; bytes = aligned y.next; cut = y.next })) (in_entry h x.entry) (subst (λ (n : ℕ). 1 ≤ h (record { start = n + span y.done; bytes = aligned y.next; cut = y.next })) (sym begins) one) (subst (λ (l : List ℕ). total (λ x'. h (extent_of (spelled i x'))) (place_all x.entry.start x.entry.frames) + h (record { start = x.entry.start + span y.done; bytes = aligned y.next; cut = y.next }) ≤ total h (extents x.entry.start l)) (sym (parts ∙ whole)) (placed_next i h x.entry.start y.done y.next rest x.entry.frames y.exact))) in
           let same : total (in_entry h) l.entries ≡ claimed_sum h ps = sym (alike_total (in_entry h) (λ a z m. λ j. total h (extents (sym m.start j) (sym m.cuts j))) k.entries.log l.entries k.entries.alike) ∙ sym (k.entries.claimed (in_entry h)) in
           many (committed_sum h ps) (total (λ z. total (λ x'. h (extent_of (spelled i x'))) (place_all z.start z.frames)) l.entries) (total (in_entry h) l.entries) (claimed_sum h ps) done sums more same (begins_once at')
         where
@@ -307,28 +307,34 @@ module _ (key : Key) (gone : List ℕ) (s : State (Unit {0}) View) (l : Log) (q 
       let place : p ≡ c.start + span n.front = n.place ∙ ap (λ (z : ℕ). z + span n.front) (sym begins) in
       let exact = next_exact key gone s l q k id v at c n.among n.front n.cut n.behind n.cuts d draft (here ∙ place) long (λ d' a le. subst (λ (z : ℕ). z ≤ d'.start) place (n.first d' a (subst (λ (z : ℕ). z ≤ d'.start) begins le))) x in
       let same = not_aborted key gone s l q k id v at c n.front n.cut n.behind n.cuts x exact in let cuts : x.entry.cuts ≡ n.front ++ n.cut ∷ n.behind = x.is.cuts ∙ n.cuts in
-      record { exact = exact; cuts = cuts; may = record {
-        entry = x.entry;
-        among = x.among;
-        here = x.is.start ∙ begins;
-        frames = subst (λ (z : List ℕ). HaveFrames x.entry.padding z (x.entry.frames ++ f ∷ [])) (sym cuts) (have_frames x.entry.padding n.front n.cut n.behind x.entry.frames f exact (subst (λ (z : List ℕ). HaveFrames x.entry.padding z x.entry.frames) cuts (all_at IsEntry x.entry l.entries k.entries.are x.among).frames) (subst (λ (b : Bool). IsFrameOf b n.front n.cut n.behind f) (sym same) n.is));
-        bytes = legal_bytes key.identity.geometry f legal;
-      } }
+      record {
+        exact = exact;
+        cuts = cuts;
+        may = record {
+          entry = x.entry;
+          among = x.among;
+          here = x.is.start ∙ begins;
+          frames = subst (λ (z : List ℕ). HaveFrames x.entry.padding z (x.entry.frames ++ f ∷ [])) (sym cuts) (have_frames x.entry.padding n.front n.cut n.behind x.entry.frames f exact (subst (λ (z : List ℕ). HaveFrames x.entry.padding z x.entry.frames) cuts (all_at IsEntry x.entry l.entries k.entries.are x.among).frames) (subst (λ (b : Bool). IsFrameOf b n.front n.cut n.behind f) (sym same) n.is));
+          bytes = legal_bytes key.identity.geometry f legal;
+        };
+      }
 
   pub may_abort : (start : ℕ) (c : ClaimRange) → Among c v.right.claims → c.start ≡ start → c.padding ≡ false → (cut : ℕ) → c.cuts ≡ cut ∷ [] → (d : FrameWords) → Among d v.work.drafts → d.start ≡ start → 0 < length d.words → (may : MayAbort l start) × (may.cut ≡ cut)
   may_abort start c among begins message cut single d draft here long =
       let x = claim_entry key gone s l q k id v at c among in
       let none : start ≡ c.start + span [] = add_none c.start start begins in
-      let exact = next_exact key gone s l q k id v at c among [] cut [] single d draft (here ∙ none) long (λ d' a le. subst (λ (z : ℕ). z ≤ d'.start) (add_none c.start c.start refl) le) x in
-      (record {
-        entry = x.entry;
-        among = x.among;
-        here = x.is.start ∙ begins;
-        open_message = not_aborted key gone s l q k id v at c [] cut [] single x exact ∙ message;
-        untouched = exact_none x.entry.frames exact;
-        cut = cut;
-        single = x.is.cuts ∙ single;
-      }, refl)
+      let exact = next_exact key gone s l q k id v at c among [] cut [] single d draft (here ∙ none) long (λ d' a le. subst (λ (z : ℕ). z ≤ d'.start) (add_none c.start c.start refl) le) x in (
+        record {
+          entry = x.entry;
+          among = x.among;
+          here = x.is.start ∙ begins;
+          open_message = not_aborted key gone s l q k id v at c [] cut [] single x exact ∙ message;
+          untouched = exact_none x.entry.frames exact;
+          cut = cut;
+          single = x.is.cuts ∙ single;
+        },
+        refl,
+      )
     where
       add_none : (c n : ℕ) → c ≡ n → n ≡ c + 0
       add_none c n e = omega arith

@@ -1,21 +1,18 @@
 -- The parts of a log of the model: its numbers, its entries as they are kept, and where its tail is open.
-use Rattle.std.proofs.Common.{◌≡◌, ◌≢◌, ◌⊎◌, inl, inr, ⊎_elim, ℕ, zero, suc, ◌+◌, ◌-◌, ◌*◌, ◌/◌, ◌%◌, ◌^◌, ◌<◌, ◌≤◌, Bool, true, false, cond, eqb, List, [], ◌∷◌, ◌++◌, length, map, set, sym, refl, ap, ◌∙◌, subst, lt_of_not-le, eq-eqb, ne_eqb, lt-ltb, arith}
-use mathlib.Core.Option.{some, some-injective, some-ne-none}
+use Rattle.std.proofs.Common.{◌≡◌, ◌≢◌, inr, ℕ, zero, suc, ◌+◌, ◌*◌, ◌/◌, ◌%◌, ◌^◌, ◌<◌, ◌≤◌, Bool, true, false, cond, eqb, List, [], ◌∷◌, map, set, sym, refl, ap, ◌∙◌, subst, lt_of_not-le, eq-eqb, ne_eqb, lt-ltb, arith}
+use mathlib.Core.Option.{some}
 use mathlib.Core.Logic.{dite}
 use native.Mathlib.Decide.{dec_le, ℕ_discrete}
 use lib.ListN.{get_elem?}
-use Rattle.std.specs.List.{AllByRecursion}
-use Rattle.std.specs.Prelude.{slice_index, slice_get, slice_set, nat_lt, Option, None, Some}
+use Rattle.std.specs.Prelude.{slice_index, slice_get, slice_set, nat_lt, Option, Some}
 use Rattle.std.proofs.lemmas.Option.{none-some}
 use Rattle.atomic_table.specs.Table.{State}
-use Rattle.atomic_table.proofs.Lists.{at_set}
 use Rattle.theory.specs.Bytes.{Identity}
 use Rattle.theory.specs.Consumer.{Consumer}
-use Rattle.theory.specs.Entry.{Entry, IsEntry, committed}
 use Rattle.theory.specs.Placed.{Among, IsReached, Placed}
-use Rattle.theory.specs.Position.{Geometry, id_of}
+use Rattle.theory.specs.Position.{Geometry}
 use Rattle.theory.specs.Tiling.{Tiles}
-use Rattle.theory.specs.Words.{id_in, offset_in}
+use Rattle.theory.specs.Words.{offset_in}
 use Rattle.theory.proofs.Lists.{all_weaker}
 use Rattle.theory.proofs.Places.{power_unit}
 use Rattle.publication.specs.declared.pass.Pass.{Pass}
@@ -24,7 +21,7 @@ use Rattle.log_rule.specs.declared.claims.view.View.{View}
 use Rattle.log_rule.specs.declared.rule.Key.{Key}
 use Rattle.log_rule.specs.Claims.Packs.{limit_place, tail_place}
 use Rattle.log_rule.specs.Claims.Plays.{pass_in}
-use Rattle.log_rule.specs.Claims.Rule.{Bounds, first_of, shape_of}
+use Rattle.log_rule.specs.Claims.Rule.{Bounds, first_of}
 use Rattle.log_rule.specs.Claims.Sums.{total}
 use Rattle.log_rule.specs.Says.{tail_shown}
 use Rattle.log_rule.specs.Table.{LogRuled, now_at}
@@ -34,7 +31,7 @@ use Rattle.log_rule.proofs.Claimed.Tails.{shows}
 use Rattle.log_rule.proofs.Owning.{one_claims}
 use Rattle.model.specs.Log.{Log}
 use Rattle.model.proofs.LogSteps.{IsSized, KeptLog}
-use Rattle.threads_meaning.specs.Modelled.{AreEntries, ArePublishers, AreReaders, IsModelOf, KeepsReaders, Stands, armed_as, is_handed}
+use Rattle.threads_meaning.specs.Modelled.{ArePublishers, AreReaders, IsModelOf, KeepsReaders, armed_as, is_handed}
 use Rattle.publication.specs.declared.pass.Keeping.{Keeping}
 use Rattle.log_rule.proofs.Claimed.Totals.{total_at}
 use Rattle.log_rule.proofs.Claimed.Whole.{set_at}

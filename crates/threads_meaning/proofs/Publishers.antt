@@ -1,52 +1,48 @@
 -- Publishers: who is armed, adds, misses, stores a word and turns the term.
-use Rattle.std.proofs.Common.{◌≡◌, ◌≢◌, ◌⊎◌, inl, inr, ⊎_elim, ℕ, zero, suc, ◌+◌, ◌-◌, ◌*◌, ◌/◌, ◌%◌, ◌^◌, ◌<◌, ◌≤◌, Bool, true, false, not, cond, eqb, List, [], ◌∷◌, ◌++◌, length, map, set, sym, refl, ap, ◌∙◌, subst, lt_of_not-le, arith}
-use mathlib.Core.Option.{some, some-injective, some-ne-none}
+use Rattle.std.proofs.Common.{◌≡◌, inl, ℕ, suc, ◌+◌, ◌-◌, ◌*◌, ◌%◌, ◌^◌, ◌<◌, ◌≤◌, Bool, true, false, not, cond, List, [], ◌∷◌, ◌++◌, map, set, sym, refl, ap, ◌∙◌, subst, lt_of_not-le, arith}
+use mathlib.Core.Option.{some}
 use mathlib.Core.Logic.{dite}
-use native.Mathlib.Decide.{dec_le, ℕ_discrete}
+use native.Mathlib.Decide.{dec_le}
 use lib.ListN.{get_elem?}
-use prog.Atomic.{either}
 use Rattle.std.specs.List.{AllByRecursion}
-use Rattle.std.specs.Prelude.{slice_index, slice_get, slice_set, nat_le, nat_lt, Option, None, Some}
+use Rattle.std.specs.Prelude.{slice_index, slice_get, slice_set, nat_le, Some}
 use Rattle.std.proofs.lemmas.Bool.{le-leb, lt-leb}
 use Rattle.std.proofs.lemmas.Nat.{mod-mul-add}
 use Rattle.atomic_table.specs.Table.{State}
 use Rattle.theory.specs.Bytes.{Identity}
-use Rattle.theory.specs.Consumer.{Consumer}
-use Rattle.theory.specs.Entry.{Entry, IsEntry, committed, entry_end}
-use Rattle.theory.specs.Placed.{Among, IsReached, Placed, place_all}
+use Rattle.theory.specs.Entry.{Entry, committed, entry_end}
+use Rattle.theory.specs.Placed.{Among, Placed, place_all}
 use Rattle.theory.specs.Position.{Geometry, IsGeometry, cuts_of, framed_length, id_of, max_message, max_position, span}
 use Rattle.theory.specs.Refusal.{is_closed, is_connected, limit_in}
-use Rattle.theory.specs.Words.{id_in, offset_in, tail_word}
+use Rattle.theory.specs.Words.{id_in, offset_in}
 use Rattle.theory.specs.Tiling.{Tiles}
 use Rattle.theory.proofs.Claims.{span_is}
 use Rattle.theory.proofs.Cuts.{long_cuts}
 use Rattle.std.proofs.Math.Nat.{mul-le-mul_left}
 use Rattle.theory.proofs.Lists.{all_append}
 use Rattle.publication.specs.declared.pass.ClaimRange.{ClaimRange}
-use Rattle.publication.specs.declared.pass.FrameWords.{FrameWords}
 use Rattle.publication.specs.declared.pass.Pass.{Pass}
 use Rattle.publication.specs.declared.pass.Reading.{Reading}
-use Rattle.publication.specs.Steps.{Adds, Arms, ExchangesCount, Rotates, Stores, addition, count_in, disarmed, geometry_of, message_at, noted, opened, padding_at, start_in, tail_step, term_of, with_armed, with_full, with_work, written}
+use Rattle.publication.specs.Steps.{addition, count_in, disarmed, geometry_of, message_at, noted, opened, padding_at, start_in, tail_step, term_of, with_armed, with_full, with_work, written}
 use Rattle.frame_words.specs.Words.{IsLegal}
 use Rattle.log_rule.specs.declared.claims.view.View.{View}
 use Rattle.log_rule.specs.declared.rule.Key.{Key}
 use Rattle.log_rule.specs.Claims.Events.{committed_weight}
-use Rattle.log_rule.specs.Claims.Packs.{consumer_place, count_place, limit_place, slot, tail_place}
+use Rattle.log_rule.specs.Claims.Packs.{count_place, limit_place, slot, tail_place}
 use Rattle.log_rule.specs.Claims.Plays.{pass_in}
-use Rattle.log_rule.specs.Claims.Rule.{Bounds, entries_of, entry_of, weight}
+use Rattle.log_rule.specs.Claims.Rule.{entries_of, entry_of, weight}
 use Rattle.log_rule.specs.Claims.Sums.{total}
-use Rattle.log_rule.specs.Says.{tail_shown}
-use Rattle.log_rule.specs.Table.{LogRuled, now_at}
+use Rattle.log_rule.specs.Table.{LogRuled}
 use Rattle.log_rule.proofs.Claimed.Memories.{maps_append}
 use Rattle.log_rule.proofs.Claimed.Totals.{total_append}
 use Rattle.log_rule.proofs.Claimed.Shown.{count_is}
-use Rattle.model.specs.Log.{Add, Arm, Log, LogStep, Look, Miss, Rotate, Store, entry_for, room, taken_cuts}
-use Rattle.model.proofs.LogSteps.{Grows, KeptLog, log_step}
-use Rattle.threads_meaning.specs.Modelled.{AreAs, AreEntries, ArePublishers, AreReaders, IsAs, IsModelOf, KeepsReaders, is_handed, spelled}
-use Rattle.threads_meaning.specs.Steps.{IsBelow, IsOpen, IsOver, StepAdds, StepArms, StepStores, StepTurns, Turns, exchange_count, exchange_next}
+use Rattle.model.specs.Log.{Add, Arm, Log, LogStep, Miss, entry_for, room}
+use Rattle.model.proofs.LogSteps.{log_step}
+use Rattle.threads_meaning.specs.Modelled.{AreEntries, ArePublishers, AreReaders, IsAs, IsModelOf, KeepsReaders, is_handed, spelled}
+use Rattle.threads_meaning.specs.Steps.{IsBelow, IsOver, StepAdds, StepArms, StepStores, StepTurns, exchange_count, exchange_next}
 use Rattle.threads_meaning.proofs.Alike.{alike_push}
 use Rattle.threads_meaning.proofs.Looking.{advances_rests, load_same, put_same, rests_as, rotates_rests}
-use Rattle.threads_meaning.proofs.Parts.{IsAtTail, armed_off, armed_on, at_tail, is_armed, is_living, kept_entries, others_idle}
+use Rattle.threads_meaning.proofs.Parts.{armed_off, armed_on, at_tail, is_armed, is_living, kept_entries, others_idle}
 use Rattle.threads_meaning.proofs.Resting.{SameWords, entries_rest, modelled, one_readers, quiet}
 use Rattle.threads_meaning.proofs.Totals.{total_kept, total_more}
 
@@ -87,8 +83,7 @@ module _ (key : Key) (gone : List ℕ) (s t : State (Unit {0}) View) (l : Log) (
       let tail : l.tail ≡ p * g.term_length + offset_in n = k.tail ∙ at.tail ∙ ap (λ (x : ℕ). x * g.term_length + offset_in n) count in
       let below : p * g.term_length + offset_in n < limit_in v.right.limit = subst (λ (i : Identity). p * i.geometry.term_length + offset_in n < limit_in v.right.limit) kn.identity o.below in
       let living : is_handed gone v.number ≡ false = subst (λ (x : ℕ). is_handed gone x ≡ false) y.number y.living in
-      let capped : limit_in v.right.limit ≤ limit_in (slice_index s.words limit_place) = kn.right.capped in let limit : l.limit ≡ limit_in (slice_index s.words limit_place) = k.limit in
-      (
+      let capped : limit_in v.right.limit ≤ limit_in (slice_index s.words limit_place) = kn.right.capped in let limit : l.limit ≡ limit_in (slice_index s.words limit_place) = k.limit in (
         record l { armed = slice_set l.armed by true },
         (
           (subst (λ (x : ℕ). x < 8) (sym y.number) kn.number, subst (λ (x : ℕ). slice_get l.retired x ≡ Some false) (sym y.number) (k.publishers.are_retired v.number kn.number ∙ ap Some living)),
@@ -97,8 +92,8 @@ module _ (key : Key) (gone : List ℕ) (s t : State (Unit {0}) View) (l : Log) (
           refl,
         ),
         subst (λ (x : ℕ). IsModelOf key gone t (record l { armed = slice_set l.armed x true })) (sym y.number)
-          (arming y.id v w (noted (tail_step v n) (with_armed v)) (slice_set l.armed v.number true) y.turn.at y.turn.passes (load_same s.words t.words (tail_place p) y.turn.words) e refl refl refl refl
-          (armed_on gone (map pass_in s.views) l.armed l.retired k.publishers y.id v w y.turn.at (ap (λ (z : Pass). z.number) e) kn.number (ap (λ (z : Pass). z.right.armed) e) living)),
+            (arming y.id v w (noted (tail_step v n) (with_armed v)) (slice_set l.armed v.number true) y.turn.at y.turn.passes (load_same s.words t.words (tail_place p) y.turn.words) e refl refl refl refl
+            (armed_on gone (map pass_in s.views) l.armed l.retired k.publishers y.id v w y.turn.at (ap (λ (z : Pass). z.number) e) kn.number (ap (λ (z : Pass). z.right.armed) e) living)),
       )
     where
       within : (seen a l c : ℕ) → seen ≡ a → a ≤ c → l ≡ c → seen ≤ l
@@ -110,13 +105,12 @@ module _ (key : Key) (gone : List ℕ) (s t : State (Unit {0}) View) (l : Log) (
   pub misses : (by bytes : ℕ) → StepAdds s by bytes IsOver t → (m : Log) × LogStep [] l (Miss by) m × IsModelOf key gone t m
   misses by bytes y =
       let v : Pass = y.v in let n : ℕ = slice_index s.words (tail_place v.seen.term) in let c = q.ruled.claims in let kn = c.each y.id v y.turn.at in let w : Pass = y.turn.after in let x : Pass = noted (addition v bytes n) (with_full (disarmed v) (count_in (geometry_of v) n)) in
-      let e : w ≡ x = y.turn.told.0.over y.turn.told.1 in
-      (
+      let e : w ≡ x = y.turn.told.0.over y.turn.told.1 in (
         record l { armed = slice_set l.armed by false },
         (subst (λ (x : ℕ). slice_get l.armed x ≡ Some true) (sym y.number) (is_armed gone (map pass_in s.views) l.armed l.retired k.publishers y.id v y.turn.at kn.number y.armed), refl),
         subst (λ (x : ℕ). IsModelOf key gone t (record l { armed = slice_set l.armed x false })) (sym y.number)
-          (arming y.id v w x (slice_set l.armed v.number false) y.turn.at y.turn.passes (put_same s.words t.words (tail_place v.seen.term) _ y.turn.words (λ e. omega arith) (λ j lt e. omega arith)) e refl refl refl refl
-          (armed_off gone (map pass_in s.views) l.armed l.retired k.publishers y.id v w y.turn.at (ap (λ (z : Pass). z.number) e) kn.number (ap (λ (z : Pass). z.right.armed) e) (others_idle key s q y.id v y.turn.at y.armed))),
+            (arming y.id v w x (slice_set l.armed v.number false) y.turn.at y.turn.passes (put_same s.words t.words (tail_place v.seen.term) _ y.turn.words (λ e. omega arith) (λ j lt e. omega arith)) e refl refl refl refl
+            (armed_off gone (map pass_in s.views) l.armed l.retired k.publishers y.id v w y.turn.at (ap (λ (z : Pass). z.number) e) kn.number (ap (λ (z : Pass). z.right.armed) e) (others_idle key s q y.id v y.turn.at y.armed))),
       )
 
 -- ---- an addition
@@ -171,16 +165,15 @@ module _ (key : Key) (gone : List ℕ) (s t : State (Unit {0}) View) (l : Log) (
         tiles = subst (λ (i : Identity). Tiles i.geometry.term_length m.start m.tail m.entries) k.identity grown.kept.tiles;
         are = grown.kept.entries;
         legal = all_append (λ (z : Entry). AllByRecursion (IsLegal key.identity.geometry) z.frames) l.entries (d ∷ []) es.legal (tt, tt);
-      } in
-      (
+      } in (
         m,
         ((kn.number, is_living gone all l.armed l.retired k.publishers id v at kn.number one), is_armed gone all l.armed l.retired k.publishers id v at kn.number one, size, low, refl),
         modelled key gone t m q' k.identity k.start (k.limit ∙ ap limit_in (sym same.limit)) (k.connected ∙ ap is_connected (sym same.limit)) (k.closed ∙ ap is_closed (sym same.limit))
-          (subst (λ (qs : List Pass). AreEntries key qs m.start m.tail m.entries) (sym passes) entries)
-          (subst (λ (qs : List Pass). ArePublishers gone qs m.armed m.retired) (sym passes) (armed_off gone all l.armed l.retired k.publishers id v w at (ap (λ (y : Pass). y.number) e ∙ number) kn.number (ap (λ (y : Pass). y.right.armed) e ∙ none) (others_idle key s q id v at one)))
-          (subst (λ (qs : List Pass). AreReaders t.words qs m.start m.cleaned (committed m.entries) m.readers) (sym passes) (subst (λ (ss : List Placed). AreReaders t.words (set all id w) l.start l.cleaned ss l.readers) (sym more) (one_readers s.words t.words all l.start l.cleaned (committed l.entries) l.readers k.readers id v w at same.consumers
-          (λ r among. (r, subst (λ (rs : List Reading). Among r rs) (ap (λ (y : Pass). y.reading) e ∙ reading) among, refl))
-          (λ right. (ap (λ z. z.right) (sym keeps) ∙ right, λ z. subst (KeepsReaders l.start l.cleaned (committed l.entries) l.readers) (sym keeps) z))))),
+            (subst (λ (qs : List Pass). AreEntries key qs m.start m.tail m.entries) (sym passes) entries)
+            (subst (λ (qs : List Pass). ArePublishers gone qs m.armed m.retired) (sym passes) (armed_off gone all l.armed l.retired k.publishers id v w at (ap (λ (y : Pass). y.number) e ∙ number) kn.number (ap (λ (y : Pass). y.right.armed) e ∙ none) (others_idle key s q id v at one)))
+            (subst (λ (qs : List Pass). AreReaders t.words qs m.start m.cleaned (committed m.entries) m.readers) (sym passes) (subst (λ (ss : List Placed). AreReaders t.words (set all id w) l.start l.cleaned ss l.readers) (sym more) (one_readers s.words t.words all l.start l.cleaned (committed l.entries) l.readers k.readers id v w at same.consumers
+            (λ r among. (r, subst (λ (rs : List Reading). Among r rs) (ap (λ (y : Pass). y.reading) e ∙ reading) among, refl))
+            (λ right. (ap (λ z. z.right) (sym keeps) ∙ right, λ z. subst (KeepsReaders l.start l.cleaned (committed l.entries) l.readers) (sym keeps) z))))),
       )
     where
       none_more : (x y : ℕ) → x + (y + 0) ≡ x + y

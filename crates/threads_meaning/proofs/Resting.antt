@@ -1,16 +1,15 @@
 -- What changes neither claims nor committed frames, nor who is armed and where consumers stand, leaves the model's log.
-use Rattle.std.proofs.Common.{◌≡◌, ◌≢◌, ◌⊎◌, inl, inr, ⊎_elim, ℕ, ◌+◌, ◌*◌, ◌<◌, ◌≤◌, Bool, cond, eqb, List, [], ◌∷◌, ◌++◌, length, map, set, sym, refl, ap, ◌∙◌, subst, arith}
+use Rattle.std.proofs.Common.{◌≡◌, ◌≢◌, ⊎_elim, ℕ, ◌<◌, Bool, cond, eqb, List, map, set, sym, ap, ◌∙◌, subst}
 use mathlib.Core.Option.{some}
 use lib.ListN.{get_elem?}
-use Rattle.std.specs.Prelude.{slice_index, nat_lt, slice_get, Option, None, Some}
+use Rattle.std.specs.Prelude.{slice_index, nat_lt, Option, Some}
 use Rattle.std.proofs.lemmas.Option.{slice_get_within}
 use Rattle.atomic_table.specs.Table.{State}
 use Rattle.atomic_table.proofs.Lists.{at_set}
 use Rattle.theory.specs.Consumer.{Consumer}
 use Rattle.theory.specs.Entry.{Entry, committed}
-use Rattle.theory.specs.Placed.{Among, IsReached, Placed}
+use Rattle.theory.specs.Placed.{Among, Placed}
 use Rattle.theory.specs.Refusal.{is_closed, is_connected, limit_in}
-use Rattle.publication.specs.declared.pass.FrameWords.{FrameWords}
 use Rattle.publication.specs.declared.pass.Pass.{Pass}
 use Rattle.publication.specs.declared.pass.Reading.{Reading}
 use Rattle.log_rule.specs.declared.claims.view.View.{View}
@@ -22,7 +21,7 @@ use Rattle.log_rule.specs.Claims.Rule.{entry_of, weight}
 use Rattle.log_rule.specs.Claims.Sums.{total}
 use Rattle.log_rule.specs.Table.{LogRuled}
 use Rattle.model.specs.Log.{Log}
-use Rattle.threads_meaning.specs.Modelled.{AreEntries, ArePublishers, AreReaders, HasReader, IsModel, IsModelOf, KeepsReaders, Stands, armed_as}
+use Rattle.threads_meaning.specs.Modelled.{AreEntries, ArePublishers, AreReaders, HasReader, IsModel, IsModelOf, KeepsReaders, armed_as}
 use Rattle.threads_meaning.proofs.Alike.{tail_ruled}
 use Rattle.threads_meaning.proofs.Totals.{total_kept}
 

@@ -1,14 +1,13 @@
 -- Passes that are dealt, told and gathered: the same is claimed and committed, the same may add, and each consumer was one before.
-use Rattle.std.proofs.Common.{◌≡◌, ◌≢◌, ◌⊎◌, inl, inr, ⊎_elim, ℕ, zero, suc, ◌+◌, ◌-◌, ◌*◌, ◌/◌, ◌%◌, ◌<◌, ◌≤◌, Bool, cond, eqb, List, [], ◌∷◌, ◌++◌, map, set, sym, refl, ap, ◌∙◌, subst, arith}
+use Rattle.std.proofs.Common.{◌≡◌, ◌≢◌, ◌⊎◌, inl, inr, ⊎_elim, ℕ, ◌+◌, ◌<◌, cond, eqb, List, [], ◌∷◌, ◌++◌, map, set, sym, refl, ap, ◌∙◌, subst, arith}
 use mathlib.Core.Option.{some}
 use lib.ListN.{get_elem?}
-use Rattle.std.specs.Prelude.{slice_index, Option, None, Some}
+use Rattle.std.specs.Prelude.{slice_index}
 use Rattle.std.proofs.lemmas.List.{map-set}
 use Rattle.atomic_table.specs.Table.{State}
 use Rattle.atomic_table.proofs.Lists.{at_map, at_set, at_snoc}
-use Rattle.theory.specs.Consumer.{Consumer}
 use Rattle.theory.specs.Entry.{Entry, committed}
-use Rattle.theory.specs.Placed.{Among, Placed}
+use Rattle.theory.specs.Placed.{Among}
 use Rattle.theory.specs.Refusal.{is_closed, is_connected, limit_in}
 use Rattle.theory.proofs.Lists.{among_cases, among_left, among_right}
 use Rattle.publication.specs.declared.pass.FrameWords.{FrameWords}
@@ -23,8 +22,8 @@ use Rattle.log_rule.specs.Claims.Packs.{consumer_place, limit_place}
 use Rattle.log_rule.specs.Claims.Plays.{dealer, dealing_seat, dealt, dealt_seat, newcomer, no_keeping, pass_in}
 use Rattle.log_rule.specs.Claims.Rule.{entries_of, entry_of, weight}
 use Rattle.log_rule.specs.Claims.Sums.{total}
-use Rattle.log_rule.specs.Meetings.{back_left, back_right, meeting, meeting_seats, was_shown}
-use Rattle.log_rule.specs.Table.{LogRuled, all_known, first_reading, keeper_left, keeper_right, knowledge_right, knows_all, new_seat, news_left, news_right, other_readings, reader_alone, reader_left, reader_right, returned_seat, told_seat}
+use Rattle.log_rule.specs.Meetings.{back_left, back_right, meeting, meeting_seats}
+use Rattle.log_rule.specs.Table.{LogRuled, all_known, first_reading, keeper_left, keeper_right, knowledge_right, knows_all, new_seat, news_left, news_right, other_readings, reader_left, reader_right, returned_seat, told_seat}
 use Rattle.log_rule.proofs.Claimed.Memories.{maps_append}
 use Rattle.log_rule.proofs.Claimed.Totals.{total_append}
 use Rattle.model.specs.Log.{Log}

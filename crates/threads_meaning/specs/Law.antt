@@ -1,5 +1,5 @@
 -- The laws: a log that opens is one of the model, and each step on its words is one event of that.
-use Rattle.std.specs.Prelude.{◌≡◌, ◌⊎◌, ℕ, ◌-◌, false, List, [], ◌∷◌, ◌++◌, map, replicate, Option, None, Some}
+use Rattle.std.specs.Prelude.{◌≡◌, ◌⊎◌, ℕ, ◌-◌, false, List, [], ◌∷◌, ◌++◌, replicate, Option, None, Some}
 use Rattle.atomic_table.specs.Table.{State}
 use Rattle.theory.specs.Consumer.{Consumer, consumer_at}
 use Rattle.theory.specs.Bytes.{IsIdentity}

@@ -3,7 +3,7 @@
 -- are looks, and so is what only tells a pass of itself. Where `publication` doesn't say it of the step, an event asks for
 -- more: that a frame is the first open one of its claim, and the one that the claim has there (`IsNextFrame`); that the
 -- limit is raised by what the keeper has cleaned; that a consumer joins at the least position.
-use Rattle.std.specs.Prelude.{◌≡◌, ◌⊎◌, ℕ, suc, ◌+◌, ◌-◌, ◌*◌, ◌/◌, ◌%◌, ◌^◌, ◌<◌, ◌≤◌, ◌==◌, Bool, true, false, max, List, [], ◌∷◌, ◌++◌, map, slice_index, slice_set}
+use Rattle.std.specs.Prelude.{◌≡◌, ℕ, ◌+◌, ◌-◌, ◌*◌, ◌/◌, ◌%◌, ◌^◌, ◌<◌, ◌≤◌, ◌==◌, Bool, true, false, max, List, [], ◌∷◌, ◌++◌, map, slice_index, slice_set}
 use mathlib.Core.Option.{some}
 use lib.ListN.{get_elem?}
 use prog.Atomic.{either}
@@ -12,7 +12,7 @@ use Rattle.theory.specs.Entry.{IsPadFrame, IsPiece, flags_of}
 use Rattle.theory.specs.Placed.{Among, Frame, Pad, Placed}
 use Rattle.theory.specs.Position.{framed_length, id_of, max_message, span}
 use Rattle.theory.specs.Refusal.{is_closed, is_connected, limit_in}
-use Rattle.theory.specs.Words.{id_before, id_in, offset_in, tail_word}
+use Rattle.theory.specs.Words.{offset_in, tail_word}
 use Rattle.frame_words.specs.Words.{IsLegal}
 use Rattle.publication.specs.declared.pass.ClaimRange.{ClaimRange}
 use Rattle.publication.specs.declared.pass.FrameWords.{FrameWords}
@@ -28,7 +28,6 @@ use Rattle.log_rule.specs.Keepings.{CleansWord, Joins, Leaves, MayClean, MayJoin
 use Rattle.log_rule.specs.Kept.{IsThere}
 use Rattle.log_rule.specs.Meetings.{was_shown}
 use Rattle.log_rule.specs.Readings.{Consumes, IsConsumer, Looks, Rereads, end_of}
-use Rattle.model.specs.Log.{Abort, Add, Arm, Clean, Close, Commit, Connect, Join, Leave, LogEvent, Look, Miss, Move, Pass as PassBy, Raise, Retire, Rotate, Store}
 use Rattle.threads_meaning.specs.Modelled.{is_handed, spelled}
 
 -- the pass with this number among the passes takes a step on the word i, which becomes f of what it was, and is told this
