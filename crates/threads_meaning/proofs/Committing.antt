@@ -1,5 +1,5 @@
 -- A frame is committed, and a claim of one frame aborted.
-use Rattle.std.proofs.Common.{◌≡◌, ◌≢◌, inl, inr, ⊎_elim, ℕ, ◌+◌, ◌<◌, ◌≤◌, Bool, true, cond, List, [], ◌∷◌, ◌++◌, map, set, sym, refl, ap, ◌∙◌, subst, eq-eqb, ne_eqb, arith}
+use Rattle.std.proofs.Common.{◌≡◌, ◌≢◌, inl, inr, ⊎_elim, ℕ, ◌+◌, ◌*◌, ◌<◌, ◌≤◌, Bool, true, cond, List, [], ◌∷◌, ◌++◌, map, set, sym, refl, ap, ◌∙◌, subst, eq-eqb, ne_eqb, arith}
 use mathlib.Core.Option.{some}
 use mathlib.Core.Logic.{dite}
 use native.Mathlib.Decide.{ℕ_discrete}
@@ -13,16 +13,14 @@ use Rattle.theory.specs.Position.{Geometry, span}
 use Rattle.theory.specs.Refusal.{is_closed, is_connected, limit_in}
 use Rattle.theory.specs.Tiling.{Tiles}
 use Rattle.theory.proofs.Lists.{all_map, all_pushed, among_right}
-use Rattle.frame_words.specs.Words.{IsLegal, frame_words}
+use Rattle.frame_words.specs.Words.{IsLegal}
 use Rattle.publication.specs.declared.pass.FrameWords.{FrameWords}
 use Rattle.publication.specs.declared.pass.Pass.{Pass}
 use Rattle.publication.specs.declared.pass.Reading.{Reading}
-use Rattle.publication.specs.Frames.{CompletesFrame}
-use Rattle.publication.specs.Steps.{geometry_of, with_work, written}
+use Rattle.publication.specs.Steps.{with_work}
 use Rattle.log_rule.specs.declared.claims.view.View.{View}
 use Rattle.log_rule.specs.declared.rule.Key.{Key}
 use Rattle.log_rule.specs.Claims.Events.{committed_weight}
-use Rattle.log_rule.specs.Claims.Packs.{slot}
 use Rattle.log_rule.specs.Claims.Plays.{pass_in}
 use Rattle.log_rule.specs.Claims.Rule.{entry_of, weight}
 use Rattle.log_rule.specs.Claims.Sums.{total}
@@ -85,6 +83,12 @@ frames_grow i g term p tail es e new t are a others begins placed h =
     none_more : (x y : ℕ) → x + (y + 0) ≡ x + y
     none_more x y = omega arith
 
+far_limit : (i : ℕ) → 208 ≤ i → i ≢ 0
+far_limit i far e = omega arith
+
+far_consumer : (i : ℕ) → 208 ≤ i → (j : ℕ) → j < 8 → i ≢ j * 16 + 80
+far_consumer i far j lt e = omega arith
+
 -- an entry elsewhere is left
 with_else : (start : ℕ) (f : Frame) (y : Entry) → y.start ≢ start → with_frame start f y ≡ y
 with_else start f y ne = ap (λ (b : Bool). record y { frames = cond b (y.frames ++ f ∷ []) y.frames }) (ne_eqb y.start start ne)
@@ -100,10 +104,6 @@ aborted_here start y e = ap (λ (b : Bool). cond b (map Pad y.cuts) y.frames) (e
 
 padded_here : (start : ℕ) (y : Entry) → y.start ≡ start → (aborted_at start y).padding ≡ true
 padded_here start y e = ap (λ (b : Bool). cond b true y.padding) (eq-eqb y.start start e)
-
--- what is committed
-made_of : (key : Key) (v : Pass) (p x : ℕ) (h : CompletesFrame v p x) → v.identity ≡ key.identity → written h.draft 0 x ≡ spelled key.identity (record { at = p; frame = h.content })
-made_of key v p x h same = (λ i. record { start = sym h.position i; cut = h.whole i; words = (h.spelt ∙ ap (λ (z : Identity). frame_words z p h.content) same) i })
 
 module _ (key : Key) (gone : List ℕ) (s t : State (Unit {0}) View) (l : Log) (q : LogRuled key s) (q' : LogRuled key t) (k : IsModelOf key gone s l) where
   -- one frame more is committed, of an entry that is changed so
@@ -135,23 +135,19 @@ module _ (key : Key) (gone : List ℕ) (s t : State (Unit {0}) View) (l : Log) (
   only : (start : ℕ) (e y : Entry) → Among e l.entries → Among y l.entries → e.start ≡ start → y.start ≡ start → y ≡ e
   only start e y a b x z = one_entry key.identity.geometry.term_length l.start l.tail l.entries y e k.entries.tiles k.entries.are b a (z ∙ sym x)
 
-  pub commits : (start : ℕ) (f : Frame) → StepCommits s start f t → (m : Log) × LogStep [] l (Commit start f) m × IsModelOf key gone t m
+  pub commits : (start : ℕ) (f : Frame) → StepCommits key s start f t → (m : Log) × LogStep [] l (Commit start f) m × IsModelOf key gone t m
   commits start f y =
-      let v : Pass = y.v in let h = y.frame in let w : Pass = y.turn.after in let n = y.next in let g : Entry → Entry = with_frame start f in let geometry : Geometry = key.identity.geometry in
-      let same : v.identity ≡ key.identity = (q.ruled.claims.each y.id v y.turn.at).identity in
+      let v : Pass = y.v in let c = y.step in let h = c.turn.told in let w : Pass = c.turn.after in let n = y.next in let g : Entry → Entry = with_frame start f in let geometry : Geometry = key.identity.geometry in
       let draft : Among h.draft v.work.drafts = subst (Among h.draft) (sym h.parts) (among_right h.draft h.front (h.draft ∷ h.behind) (inl refl)) in
-      let legal : IsLegal geometry f = subst (IsLegal geometry) y.is (subst (λ (i : Identity). IsLegal i.geometry h.content) same h.legal) in
-      let new : Placed = record { at = y.p; frame = f } in
-      let made : written h.draft 0 y.x ≡ spelled key.identity new = made_of key v y.p y.x h same ∙ ap (λ (z : Frame). spelled key.identity (record { at = y.p; frame = z })) y.is in
-      let told = y.turn.told h.front h.draft h.behind h.parts h.inside h.position in
-      let e : w ≡ with_work (v.work.frames ++ spelled key.identity new ∷ []) (h.front ++ h.behind) v = told ∙ ap (λ (z : FrameWords). with_work (v.work.frames ++ z ∷ []) (h.front ++ h.behind) v) made in
-      let next = next_fits key gone s l q k y.id v y.turn.at start y.p f n h.draft draft (sym h.position) h.inside legal in
+      let legal : IsLegal geometry f = h.legal in let new : Placed = record { at = y.p; frame = f } in
+      let e : w ≡ with_work (v.work.frames ++ spelled key.identity new ∷ []) (h.front ++ h.behind) v = h.after in
+      let next = next_fits key gone s l q k y.id v c.turn.at start y.p f n h.draft draft (sym h.position) h.inside legal in
       let fits = next.may in let x : Entry = fits.entry in let exact : ExactCut n.front x.frames = next.exact in
       let place : y.p ≡ x.start + span n.front = n.place ∙ ap (λ (z : ℕ). z + span n.front) (sym fits.here) in
       let placed : place_all x.start (g x).frames ≡ place_all x.start x.frames ++ new ∷ [] = ap (place_all x.start) (with_here start f x fits.here) ∙ placed_push x.start n.front x.frames (f ∷ []) exact ∙ ap (λ (z : ℕ). place_all x.start x.frames ++ record { at = z; frame = f } ∷ []) (sym place) in (
         record l { entries = map g l.entries },
         (fits, refl),
-        committing y.id v w new (h.front ++ h.behind) g y.turn.at y.turn.passes (put_same s.words t.words (slot (geometry_of v) y.p) y.x y.turn.words (λ z. omega arith) (λ j lt z. omega arith)) e
+        committing y.id v w new (h.front ++ h.behind) g c.turn.at c.turn.passes (put_same s.words t.words c.i c.x c.turn.words (far_limit c.i c.far) (far_consumer c.i c.far)) e
             (alike_map g k.entries.log l.entries k.entries.alike (λ c z a is. record {
               start = is.start;
               owner = is.owner;
@@ -169,22 +165,18 @@ module _ (key : Key) (gone : List ℕ) (s t : State (Unit {0}) View) (l : Log) (
             (log_step [] (record l { readers = [] }) (Commit start f) (record l { readers = []; entries = map g l.entries }) (kept_entries key s q gone l k) (record { entry = fits.entry; among = fits.among; here = fits.here; frames = fits.frames; bytes = fits.bytes }, refl)),
       )
 
-  pub aborts : (start : ℕ) → StepAborts s start t → (m : Log) × LogStep [] l (Abort start) m × IsModelOf key gone t m
+  pub aborts : (start : ℕ) → StepAborts key s start t → (m : Log) × LogStep [] l (Abort start) m × IsModelOf key gone t m
   aborts start y =
-      let v : Pass = y.v in let h = y.frame in let w : Pass = y.turn.after in let g : Entry → Entry = aborted_at start in let geometry : Geometry = key.identity.geometry in let f : Frame = Pad y.cut in
-      let same : v.identity ≡ key.identity = (q.ruled.claims.each y.id v y.turn.at).identity in
+      let v : Pass = y.v in let c = y.step in let h = c.turn.told in let w : Pass = c.turn.after in let g : Entry → Entry = aborted_at start in let geometry : Geometry = key.identity.geometry in let f : Frame = Pad y.cut in
       let draft : Among h.draft v.work.drafts = subst (Among h.draft) (sym h.parts) (among_right h.draft h.front (h.draft ∷ h.behind) (inl refl)) in
-      let legal : IsLegal geometry f = subst (IsLegal geometry) y.is (subst (λ (i : Identity). IsLegal i.geometry h.content) same h.legal) in
-      let new : Placed = record { at = start; frame = f } in
-      let made : written h.draft 0 y.x ≡ spelled key.identity new = made_of key v start y.x h same ∙ ap (λ (z : Frame). spelled key.identity (record { at = start; frame = z })) y.is in
-      let told = y.turn.told h.front h.draft h.behind h.parts h.inside h.position in
-      let e : w ≡ with_work (v.work.frames ++ spelled key.identity new ∷ []) (h.front ++ h.behind) v = told ∙ ap (λ (z : FrameWords). with_work (v.work.frames ++ z ∷ []) (h.front ++ h.behind) v) made in
-      let found = may_abort key gone s l q k y.id v y.turn.at start y.claim y.among y.here y.message y.cut y.single h.draft draft (sym h.position) h.inside in let may = found.0 in
+      let legal : IsLegal geometry f = h.legal in let new : Placed = record { at = start; frame = f } in
+      let e : w ≡ with_work (v.work.frames ++ spelled key.identity new ∷ []) (h.front ++ h.behind) v = h.after in
+      let found = may_abort key gone s l q k y.id v c.turn.at start y.claim y.among y.here y.message y.cut y.single h.draft draft (sym h.position) h.inside in let may = found.0 in
       let x : Entry = may.entry in let single : x.cuts ≡ y.cut ∷ [] = may.single ∙ ap (λ (z : ℕ). z ∷ []) found.1 in
       let placed : place_all x.start (g x).frames ≡ place_all x.start x.frames ++ new ∷ [] = ap (place_all x.start) (aborted_here start x may.here ∙ ap (map Pad) single) ∙ ap (λ (z : ℕ). record { at = z; frame = f } ∷ []) may.here ∙ ap (λ (fs : List Frame). place_all x.start fs ++ new ∷ []) (sym may.untouched) in (
         record l { entries = map g l.entries },
         (may, refl),
-        committing y.id v w new (h.front ++ h.behind) g y.turn.at y.turn.passes (put_same s.words t.words (slot (geometry_of v) start) y.x y.turn.words (λ z. omega arith) (λ j lt z. omega arith)) e
+        committing y.id v w new (h.front ++ h.behind) g c.turn.at c.turn.passes (put_same s.words t.words c.i c.x c.turn.words (far_limit c.i c.far) (far_consumer c.i c.far)) e
             (alike_map g k.entries.log l.entries k.entries.alike (λ c z a is. dite (ℕ_discrete z.start start)
             (λ here. let one : z ≡ x = only start x z may.among a may.here here in record {
               start = is.start;

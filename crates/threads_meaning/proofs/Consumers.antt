@@ -5,7 +5,7 @@ use mathlib.Core.Logic.{dite}
 use native.Mathlib.Decide.{ℕ_discrete}
 use lib.ListN.{get_elem?}
 use Rattle.std.specs.Prelude.{slice_index, slice_get, slice_set, Option, None, Some}
-use Rattle.std.proofs.lemmas.Option.{none-some}
+use Rattle.std.proofs.lemmas.Option.{none-some, slice_get_within}
 use Rattle.atomic_table.specs.Table.{State}
 use Rattle.atomic_table.proofs.Lists.{at_set}
 use Rattle.theory.specs.Bytes.{Identity}
@@ -41,7 +41,7 @@ use Rattle.model.specs.Log.{IsLowest, Join, Leave, Log, LogStep, Move, term_of a
 use Rattle.threads_meaning.specs.Modelled.{AreEntries, ArePublishers, AreReaders, HasReader, IsModelOf, KeepsReaders, Stands, armed_as, spelled}
 use Rattle.threads_meaning.specs.Steps.{StepJoins, StepLeaves, StepMoves}
 use Rattle.threads_meaning.proofs.Found.{all_legal, counted, ends_there, one_spelled}
-use Rattle.threads_meaning.proofs.Looking.{among_here, consumer_reads}
+use Rattle.threads_meaning.proofs.Looking.{Controls, among_here, consumer_reads}
 use Rattle.threads_meaning.proofs.Lowest.{alone_keeper, knows_there, lowest}
 use Rattle.threads_meaning.proofs.Parts.{get_else, get_put}
 use Rattle.threads_meaning.proofs.Resting.{armed_same, entries_rest, modelled, one_keeps, one_reads, publishers_rest}
@@ -75,17 +75,20 @@ among_drop zero xs x a = a
 among_drop (suc n) [] x a = absurd a
 among_drop (suc n) (y ∷ ys) x a = inr (among_drop n ys x a)
 
+low_seat : (readers : List (Option Consumer)) → length readers ≡ 8 → (j : ℕ) (c : Consumer) → slice_get readers j ≡ Some (Some c) → j < 8
+low_seat readers eight j c there = subst (λ (n : ℕ). j < n) eight (slice_get_within readers j (Some c) there)
+
 -- ---- the words
 
-module _ (words after : List ℕ) (number x : ℕ) (long : 208 ≤ length words) (low : number < 8) (e : after ≡ set words (consumer_place number) x) where
+module _ (words after : List ℕ) (number x : ℕ) (long : 208 ≤ length words) (low : number < 8) (e : Controls after (set words (consumer_place number) x)) where
   word_here : slice_index after (consumer_place number) ≡ x
-  word_here = ap (λ (ws : List ℕ). slice_index ws (consumer_place number)) e ∙ get_or-set_same words (consumer_place number) x 0 (omega arith)
+  word_here = e (consumer_place number) (omega arith) ∙ get_or-set_same words (consumer_place number) x 0 (omega arith)
 
-  word_else : (j : ℕ) → j ≢ number → slice_index after (consumer_place j) ≡ slice_index words (consumer_place j)
-  word_else j ne = ap (λ (ws : List ℕ). slice_index ws (consumer_place j)) e ∙ get_or-set_other words (consumer_place number) (consumer_place j) x 0 (λ z. ne (omega arith))
+  word_else : (j : ℕ) → j < 8 → j ≢ number → slice_index after (consumer_place j) ≡ slice_index words (consumer_place j)
+  word_else j less ne = e (consumer_place j) (omega arith) ∙ get_or-set_other words (consumer_place number) (consumer_place j) x 0 (λ z. ne (omega arith))
 
   word_limit : slice_index after limit_place ≡ slice_index words limit_place
-  word_limit = ap (λ (ws : List ℕ). slice_index ws limit_place) e ∙ get_or-set_other words (consumer_place number) limit_place x 0 (λ z. omega arith)
+  word_limit = e limit_place (omega arith) ∙ get_or-set_other words (consumer_place number) limit_place x 0 (λ z. omega arith)
 
 module _ (key : Key) (gone : List ℕ) (s t : State (Unit {0}) View) (l : Log) (q : LogRuled key s) (q' : LogRuled key t) (k : IsModelOf key gone s l) where
   long_words : 208 ≤ length s.words
@@ -132,7 +135,7 @@ module _ (key : Key) (gone : List ℕ) (s t : State (Unit {0}) View) (l : Log) (
           eight = length-set l.readers n (Some d) ∙ k.readers.eight;
           standing = λ j x there. ⊎_elim
               (λ (z : (j ≡ n) × (Some d ≡ Some x)). subst (λ (a : Consumer). Stands t.words l.start frames j a) (same_of z.1) record { at = sym ends ∙ sym (word_here s.words t.words n end long_words y.low y.turn.words) ∙ ap (λ (a : ℕ). slice_index t.words (consumer_place a)) (sym z.0); heard = st.heard; reached = reach })
-              (λ (z : (j ≢ n) × (slice_get l.readers j ≡ Some (Some x))). let old = k.readers.standing j x z.1 in record { at = old.at ∙ sym (word_else s.words t.words n end long_words y.low y.turn.words j z.0); heard = old.heard; reached = old.reached })
+              (λ (z : (j ≢ n) × (slice_get l.readers j ≡ Some (Some x))). let old = k.readers.standing j x z.1 in record { at = old.at ∙ sym (word_else s.words t.words n end long_words y.low y.turn.words j (low_seat l.readers k.readers.eight j _ z.1) z.0); heard = old.heard; reached = old.reached })
               (put_cases l.readers n j (Some c) (Some d) x was there);
           mine = λ i u a at among' low. has_put l.readers n (Some c) d a.number was (one_reads ps l.start l.cleaned frames l.readers s.words k.readers y.id v w y.turn.at reads i u a at among' low);
           keeper = λ i u at one. (let kp = one_keeps ps l.start l.cleaned frames l.readers s.words k.readers y.id v w y.turn.at keeps i u at one in record {
@@ -170,7 +173,7 @@ module _ (key : Key) (gone : List ℕ) (s t : State (Unit {0}) View) (l : Log) (
           eight = length-set l.readers number (Some c) ∙ k.readers.eight;
           standing = λ j d there. ⊎_elim
               (λ (z : (j ≡ number) × (Some c ≡ Some d)). subst (λ (a : Consumer). Stands t.words l.start frames j a) (same_of z.1) record { at = sym (word_here s.words t.words number p long_words low y.turn.words) ∙ ap (λ (a : ℕ). slice_index t.words (consumer_place a)) (sym z.0); heard = refl; reached = reach })
-              (λ (z : (j ≢ number) × (slice_get l.readers j ≡ Some (Some d))). let old = k.readers.standing j d z.1 in record { at = old.at ∙ sym (word_else s.words t.words number p long_words low y.turn.words j z.0); heard = old.heard; reached = old.reached })
+              (λ (z : (j ≢ number) × (slice_get l.readers j ≡ Some (Some d))). let old = k.readers.standing j d z.1 in record { at = old.at ∙ sym (word_else s.words t.words number p long_words low y.turn.words j (low_seat l.readers k.readers.eight j _ z.1) z.0); heard = old.heard; reached = old.reached })
               (put_cases l.readers number j None (Some c) d was there);
           mine = λ i u r at among less. ⊎_elim
               (λ (z : (i ≡ y.id) × (w ≡ u)). ⊎_elim
@@ -230,7 +233,7 @@ module _ (key : Key) (gone : List ℕ) (s t : State (Unit {0}) View) (l : Log) (
           eight = length-set l.readers number None ∙ k.readers.eight;
           standing = λ j d there. ⊎_elim
               (λ (z : (j ≡ number) × (None ≡ Some d)). absurd (none-some d z.1))
-              (λ (z : (j ≢ number) × (slice_get l.readers j ≡ Some (Some d))). let old = k.readers.standing j d z.1 in record { at = old.at ∙ sym (word_else s.words t.words number 0 long_words low y.turn.words j z.0); heard = old.heard; reached = old.reached })
+              (λ (z : (j ≢ number) × (slice_get l.readers j ≡ Some (Some d))). let old = k.readers.standing j d z.1 in record { at = old.at ∙ sym (word_else s.words t.words number 0 long_words low y.turn.words j (low_seat l.readers k.readers.eight j _ z.1) z.0); heard = old.heard; reached = old.reached })
               (put_cases l.readers number j (Some has.0) None d was there);
           mine = λ i u d at among less. has_else l.readers number None d.number (nobody i u d at among) (⊎_elim
               (λ (z : (i ≡ y.id) × (w ≡ u)). ⊎_elim

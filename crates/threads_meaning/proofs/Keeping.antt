@@ -48,11 +48,11 @@ module _ (key : Key) (gone : List ℕ) (s t : State (Unit {0}) View) (l : Log) (
   limited stores y limit on shut limit_is on_is shut_is =
       let ps : List Pass = map pass_in s.views in let v : Pass = y.v in let w : Pass = y.turn.after in let x : Keeping = record v.keeping { limit = y.word } in let e : w ≡ with_keeping v x = y.turn.told in
       let long : 0 < length s.words = (let z = q.ruled.claims.wide in omega arith) in
-      let word : slice_index t.words limit_place ≡ y.word = ap (λ (ws : List ℕ). slice_index ws limit_place) y.turn.words ∙ first_set s.words y.word long in
+      let word : slice_index t.words limit_place ≡ y.word = y.turn.words limit_place (omega arith) ∙ first_set s.words y.word long in
       modelled key gone t (record l { limit = limit; connected = on; closed = shut }) q' k.identity k.start (limit_is ∙ ap limit_in (sym word)) (on_is ∙ ap is_connected (sym word)) (shut_is ∙ ap is_closed (sym word))
       (keeps_entries y.id v w x y.turn.at y.turn.passes e) (keeps_publishers y.id v w x y.turn.at y.turn.passes e)
       (subst (λ (qs : List Pass). AreReaders t.words qs l.start l.cleaned (committed l.entries) l.readers) (sym y.turn.passes) (one_readers s.words t.words ps l.start l.cleaned (committed l.entries) l.readers k.readers y.id v w y.turn.at
-      (λ j lt. ap (λ (ws : List ℕ). slice_index ws (consumer_place j)) y.turn.words ∙ get_or-set_other s.words limit_place (consumer_place j) y.word 0 (λ z. omega arith))
+      (λ j lt. y.turn.words (consumer_place j) (omega arith) ∙ get_or-set_other s.words limit_place (consumer_place j) y.word 0 (λ z. omega arith))
       (λ r a. (r, subst (λ (rs : List Reading). Among r rs) (ap (λ (z : Pass). z.reading) e) a, refl))
       (λ one. (y.may.keeper, λ z. subst (KeepsReaders l.start l.cleaned (committed l.entries) l.readers) (sym (ap (λ (z : Pass). z.keeping) e)) record { cleaned_to = z.cleaned_to; taken = z.taken; free = z.free; seen = z.seen }))))
 

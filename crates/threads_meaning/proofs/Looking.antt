@@ -46,13 +46,17 @@ among_here (y ∷ ys) (suc i) x e = inr (among_here ys i x e)
 
 -- ---- words that are as they were
 
-pub load_same : (words after : List ℕ) (i : ℕ) → after ≡ set words i (slice_index words i) → SameWords words after
-load_same words after i e = let same : after ≡ words = e ∙ set-get_or words i 0 in record { limit = ap (λ (l : List ℕ). slice_index l limit_place) same; consumers = λ j lt. ap (λ (l : List ℕ). slice_index l (consumer_place j)) same }
+-- the control words are those of a list
+abbrev pub Controls : List ℕ → List ℕ → Type 0
+Controls after words = (j : ℕ) → j < 208 → slice_index after j ≡ slice_index words j
 
-pub put_same : (words after : List ℕ) (i x : ℕ) → after ≡ set words i x → i ≢ 0 → ((j : ℕ) → j < 8 → i ≢ j * 16 + 80) → SameWords words after
+pub load_same : (words after : List ℕ) (i : ℕ) → Controls after (set words i (slice_index words i)) → SameWords words after
+load_same words after i e = let same = set-get_or words i 0 in record { limit = e limit_place (omega arith) ∙ ap (λ (l : List ℕ). slice_index l limit_place) same; consumers = λ j lt. e (consumer_place j) (omega arith) ∙ ap (λ (l : List ℕ). slice_index l (consumer_place j)) same }
+
+pub put_same : (words after : List ℕ) (i x : ℕ) → Controls after (set words i x) → i ≢ 0 → ((j : ℕ) → j < 8 → i ≢ j * 16 + 80) → SameWords words after
 put_same words after i x e ne far = record {
-  limit = ap (λ (l : List ℕ). slice_index l limit_place) e ∙ get_or-set_other words i 0 x 0 (λ y. ne (sym y));
-  consumers = λ j lt. ap (λ (l : List ℕ). slice_index l (consumer_place j)) e ∙ get_or-set_other words i (j * 16 + 80) x 0 (λ y. far j lt (sym y));
+  limit = e limit_place (omega arith) ∙ get_or-set_other words i 0 x 0 (λ y. ne (sym y));
+  consumers = λ j lt. e (consumer_place j) (omega arith) ∙ get_or-set_other words i (j * 16 + 80) x 0 (λ y. far j lt (sym y));
 }
 
 -- ---- one pass

@@ -3,7 +3,7 @@
 -- are looks, and so is what only tells a pass of itself. Where `publication` doesn't say it of the step, an event asks for
 -- more: that a frame is the first open one of its claim, and the one that the claim has there (`IsNextFrame`); that the
 -- limit is raised by what the keeper has cleaned; that a consumer joins at the least position.
-use Rattle.std.specs.Prelude.{◌≡◌, ℕ, ◌+◌, ◌-◌, ◌*◌, ◌/◌, ◌%◌, ◌^◌, ◌<◌, ◌≤◌, ◌==◌, Bool, true, false, max, List, [], ◌∷◌, ◌++◌, map, slice_index, slice_set}
+use Rattle.std.specs.Prelude.{◌≡◌, ℕ, ◌+◌, ◌-◌, ◌*◌, ◌/◌, ◌%◌, ◌^◌, ◌<◌, ◌≤◌, ◌==◌, Bool, true, false, max, List, [], ◌∷◌, ◌++◌, length, map, slice_index, slice_set}
 use mathlib.Core.Option.{some}
 use lib.ListN.{get_elem?}
 use prog.Atomic.{either}
@@ -18,8 +18,7 @@ use Rattle.publication.specs.declared.pass.ClaimRange.{ClaimRange}
 use Rattle.publication.specs.declared.pass.FrameWords.{FrameWords}
 use Rattle.publication.specs.declared.pass.Pass.{Pass}
 use Rattle.publication.specs.declared.pass.Reading.{Reading}
-use Rattle.publication.specs.Frames.{CompletesFrame}
-use Rattle.publication.specs.Steps.{Adds, Arms, Commits, Counts, ExchangesCount, HasWord, Names, Nexts, Rotates, Sees, Stores, geometry_of, term_of}
+use Rattle.publication.specs.Steps.{Adds, Arms, Counts, ExchangesCount, HasWord, Names, Nexts, Rotates, Sees, Stores, geometry_of, term_of, with_work}
 use Rattle.log_rule.specs.declared.claims.view.View.{View}
 use Rattle.log_rule.specs.declared.rule.Key.{Key}
 use Rattle.log_rule.specs.Claims.Packs.{consumer_place, count_place, limit_place, slot, tail_place}
@@ -30,11 +29,11 @@ use Rattle.log_rule.specs.Meetings.{was_shown}
 use Rattle.log_rule.specs.Readings.{Consumes, IsConsumer, Looks, Rereads, end_of}
 use Rattle.threads_meaning.specs.Modelled.{is_handed, spelled}
 
--- the pass with this number among the passes takes a step on the word i, which becomes f of what it was, and is told this
+-- the pass with this number among the passes takes a step on the word i, which becomes f of what it was, and is told this. Of the words behind the control words nothing is said: they are what the rule says of them
 pub record Turns (s : State (Unit {0}) View) (id : ℕ) (v : Pass) (i : ℕ) (f : ℕ → ℕ) (tells : ℕ → Pass → Type 0) (t : State (Unit {0}) View) : Type 0 where
   pub at : get_elem? (map pass_in s.views) id ≡ some v
   pub after : Pass
-  pub words : t.words ≡ slice_set s.words i (f (slice_index s.words i))
+  pub words : (j : ℕ) → j < 208 → slice_index t.words j ≡ slice_index (slice_set s.words i (f (slice_index s.words i))) j
   pub passes : map pass_in t.views ≡ slice_set (map pass_in s.views) id after
   pub told : tells (slice_index s.words i) after
 
@@ -132,33 +131,43 @@ pub record IsNextFrame (v : Pass) (start p : ℕ) (f : Frame) : Type 0 where
   pub first : (d : FrameWords) → Among d v.work.drafts → start ≤ d.start → p ≤ d.start
   pub is : IsFrameOf claim.padding front cut behind f
 
--- the first word of an open frame is stored, which is the next of its claim then
-pub record StepCommits (s : State (Unit {0}) View) (start : ℕ) (f : Frame) (t : State (Unit {0}) View) : Type 0 where
+-- the open frame that begins at a position becomes a committed one
+pub record CommitsFrame (key : Key) (p : ℕ) (f : Frame) (v w : Pass) : Type 0 where
+  pub front : List FrameWords
+  pub draft : FrameWords
+  pub behind : List FrameWords
+  pub parts : v.work.drafts ≡ front ++ draft ∷ behind
+  pub inside : 0 < length draft.words
+  pub position : p ≡ draft.start
+  pub legal : IsLegal key.identity.geometry f
+  pub after : w ≡ with_work (v.work.frames ++ spelled key.identity (record { at = p; frame = f }) ∷ []) (front ++ behind) v
+
+-- by a step on a word that isn't a control word
+pub record CommitsAt (key : Key) (s : State (Unit {0}) View) (id : ℕ) (v : Pass) (p : ℕ) (f : Frame) (t : State (Unit {0}) View) : Type 0 where
+  pub i : ℕ
+  pub x : ℕ
+  pub far : 208 ≤ i
+  pub turn : Puts s id v i x (λ w. CommitsFrame key p f v w) t
+
+-- a frame that is the next of its claim is committed
+pub record StepCommits (key : Key) (s : State (Unit {0}) View) (start : ℕ) (f : Frame) (t : State (Unit {0}) View) : Type 0 where
   pub id : ℕ
   pub v : Pass
   pub p : ℕ
-  pub x : ℕ
-  pub frame : CompletesFrame v p x
-  pub some' : 0 < x
-  pub turn : Puts s id v (slot (geometry_of v) p) x (λ w. Commits v p x w) t
-  pub is : frame.content ≡ f
+  pub step : CommitsAt key s id v p f t
   pub next : IsNextFrame v start p f
 
--- so is that of a message's claim of one frame, which becomes a padding
-pub record StepAborts (s : State (Unit {0}) View) (start : ℕ) (t : State (Unit {0}) View) : Type 0 where
+-- a message's claim of one frame becomes a padding
+pub record StepAborts (key : Key) (s : State (Unit {0}) View) (start : ℕ) (t : State (Unit {0}) View) : Type 0 where
   pub id : ℕ
   pub v : Pass
-  pub x : ℕ
-  pub frame : CompletesFrame v start x
-  pub some' : 0 < x
-  pub turn : Puts s id v (slot (geometry_of v) start) x (λ w. Commits v start x w) t
   pub claim : ClaimRange
   pub among : Among claim v.right.claims
   pub here : claim.start ≡ start
   pub message : claim.padding ≡ false
   pub cut : ℕ
   pub single : claim.cuts ≡ cut ∷ []
-  pub is : frame.content ≡ Pad cut
+  pub step : CommitsAt key s id v start (Pad cut) t
 
 -- ---- the keeper
 
