@@ -15,3 +15,4 @@ mod Seats
 mod Handing
 mod Opening
 mod Running
+mod Order

@@ -2,3 +2,4 @@ pub mod Modelled
 pub mod Steps
 pub mod Seats
 pub mod Law
+pub mod Order

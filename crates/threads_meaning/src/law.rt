@@ -1,6 +1,7 @@
 //! The laws.
 
 ghost use Rattle.threads_meaning.specs.Law.{EachStepIsAnEvent, OpensAsModel, StepsAreARun};
+ghost use Rattle.threads_meaning.specs.Order.{OffersInOrder, SinglesAreNext, WordsCommit};
 
 /// A log that opens is an opened log of the model.
 pub fn opens_as_model()
@@ -17,4 +18,13 @@ pub fn each_step_is_an_event()
 /// by the event of each step; and the headline holds of that.
 pub fn steps_are_a_run()
     ensures { StepsAreARun }
+{}
+
+/// What a step that commits is asked for is what the calls of `publication` do: an accepted offer commits its message's frames
+/// one after the other, each the next of its claim; so is the one frame of a claim, with its message, or as a padding. By
+/// words, the store of a frame's first word is such a step.
+pub fn commits_are_in_order()
+    ensures offers { OffersInOrder }
+    ensures singles { SinglesAreNext }
+    ensures words { WordsCommit }
 {}
