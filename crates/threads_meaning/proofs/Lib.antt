@@ -16,3 +16,4 @@ mod Handing
 mod Opening
 mod Running
 mod Order
+mod Happening

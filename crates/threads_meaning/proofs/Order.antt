@@ -23,7 +23,7 @@ use Rattle.log_rule.proofs.Claimed.Totals.{total_flat, total_map}
 use Rattle.log_rule.proofs.Known.{among_total}
 use Rattle.model.proofs.Commits.{AreBytes, pieces_are, pieces_bytes, pieces_length}
 use Rattle.threads_meaning.specs.Modelled.{spelled}
-use Rattle.threads_meaning.specs.Order.{CommitsInOrder, IsSound, OffersInOrder, SinglesAreNext, WordsCommit}
+use Rattle.threads_meaning.specs.Order.{CommitsInOrder, IsSound, OffersInOrder, PassesAreSound, SinglesAreNext, WordsCommit}
 use Rattle.threads_meaning.specs.Steps.{IsFrameOf, is_first}
 use Rattle.threads_meaning.proofs.Cut.{ExactCut}
 
@@ -136,8 +136,7 @@ module _ (key : Key) (c : ClaimRange) (old : List FrameWords) (message : c.paddi
   commits_all (cut ∷ rest) [] done p v among cuts place pieces exact large legal drafts = absurd exact
   commits_all (cut ∷ rest) (f ∷ fs) done p v among cuts place pieces exact large legal drafts =
       let made : FrameWords = spelled key.identity (record { at = p; frame = f }) in let u : Pass = with_work (v.work.frames ++ made ∷ []) (old ++ blanks (p + aligned cut) rest) v in
-      let to : ℕ = p + aligned (frame_length f) in let same : aligned (frame_length f) ≡ aligned cut = ap aligned exact.0 in
-      (
+      let to : ℕ = p + aligned (frame_length f) in let same : aligned (frame_length f) ≡ aligned cut = ap aligned exact.0 in (
         u,
         record {
           front = old;
@@ -165,8 +164,8 @@ module _ (key : Key) (c : ClaimRange) (old : List FrameWords) (message : c.paddi
           is = subst (λ (b : Bool). IsFrameOf b done cut rest f) (sym message) pieces.0;
         },
         subst (CommitsInOrder key c.start to u fs) (ap (λ (frames : List FrameWords). with_work frames old v) (regroup v.work.frames made (frames_at key.identity to fs)))
-          (commits_all rest fs (done ++ cut ∷ []) to u among (cuts ∙ sym (regroup done cut rest)) (next p c.start (span done) (aligned (frame_length f)) (aligned cut) (span (done ++ cut ∷ [])) place same (span_push done cut)) (subst (λ (b : Bool). ArePieces b rest fs) (sym (first_push done cut)) pieces.1) exact.1 large.1 legal.1
-          (ap (λ (n : ℕ). old ++ blanks (p + n) rest) (sym same))),
+            (commits_all rest fs (done ++ cut ∷ []) to u among (cuts ∙ sym (regroup done cut rest)) (next p c.start (span done) (aligned (frame_length f)) (aligned cut) (span (done ++ cut ∷ [])) place same (span_push done cut)) (subst (λ (b : Bool). ArePieces b rest fs) (sym (first_push done cut)) pieces.1) exact.1 large.1 legal.1
+            (ap (λ (n : ℕ). old ++ blanks (p + n) rest) (sym same))),
       )
     where
       clash : (s d : ℕ) → d < s → s ≤ d → ⊥
@@ -222,3 +221,6 @@ offers_in_order key p between message start sound bytes claimed =
     let all = commits_all key c p.work.drafts refl below (cuts_of g (length message)) fs [] c.start between among cuts (add_none c.start) pieces exact large legal drafts in
     let frames : between.work.frames ++ frames_at key.identity c.start fs ≡ p.work.frames ++ message_frames p.identity true start message = (λ i. ap (λ (x : Pass). x.work.frames) e i ++ frames_at (sym sound.identity i) (from i) (pieces_of true (cuts_of (sym sound.identity i).geometry (length message)) message)) in
     subst (λ (n : ℕ). CommitsInOrder key n n between fs (with_work (p.work.frames ++ message_frames p.identity true start message) p.work.drafts between)) from (subst (λ (x : List FrameWords). CommitsInOrder key c.start c.start between fs (with_work x p.work.drafts between)) frames all)
+
+pub passes_are_sound : PassesAreSound
+passes_are_sound key s id v q at = let c = q.ruled.claims.each id v at in record { geometry = q.ruled.claims.sound.geometry; identity = c.identity; entries = c.entries; placed = (q.ruled.memory.each id v at).placed }

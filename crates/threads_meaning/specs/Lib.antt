@@ -3,3 +3,4 @@ pub mod Steps
 pub mod Seats
 pub mod Law
 pub mod Order
+pub mod Row

@@ -2,6 +2,9 @@
 -- frame of a claim.
 use Rattle.std.specs.Prelude.{◌≡◌, ℕ, ◌+◌, ◌<◌, false, true, List, [], ◌∷◌, ◌++◌, length, map}
 use Rattle.std.specs.List.{AllByRecursion, flat_map}
+use mathlib.Core.Option.{some}
+use lib.ListN.{get_elem?}
+use Rattle.atomic_table.specs.Table.{State}
 use Rattle.theory.specs.Entry.{IsPiece, pieces_of}
 use Rattle.theory.specs.Placed.{Among, Frame, frame_length}
 use Rattle.theory.specs.Position.{IsGeometry, aligned, cuts_of}
@@ -11,7 +14,10 @@ use Rattle.publication.specs.declared.pass.Pass.{Pass}
 use Rattle.publication.specs.Claims.{Claimed, Fills, HasBlank}
 use Rattle.publication.specs.Frames.{CompletesFrame, message_frames}
 use Rattle.publication.specs.Steps.{Commits, Extent, extent_of, frames_of, ranges_of, with_work}
+use Rattle.log_rule.specs.declared.claims.view.View.{View}
 use Rattle.log_rule.specs.declared.rule.Key.{Key}
+use Rattle.log_rule.specs.Claims.Plays.{pass_in}
+use Rattle.log_rule.specs.Table.{LogRuled}
 use Rattle.log_rule.specs.Claims.Rule.{IsClaimEntry, entries_of}
 use Rattle.log_rule.specs.Claims.Sums.{total}
 use Rattle.threads_meaning.specs.Steps.{CommitsFrame, IsNextFrame}
@@ -27,6 +33,10 @@ pub record IsSound (key : Key) (v : Pass) : Type 0 where
   pub identity : v.identity ≡ key.identity
   pub entries : AllByRecursion IsClaimEntry (entries_of v)
   pub placed : (h : Extent → ℕ) → total h (flat_map ranges_of v.right.claims) ≡ total h (map extent_of (frames_of v))
+
+-- so is each pass of a log, whatever state the rule holds of
+abbrev pub PassesAreSound : Type 0
+PassesAreSound = (key : Key) (s : State (Unit {0}) View) (id : ℕ) (v : Pass) → LogRuled key s → get_elem? (map pass_in s.views) id ≡ some v → IsSound key v
 
 -- what an accepted offer commits, between its claim and its end
 abbrev pub OffersInOrder : Type 0

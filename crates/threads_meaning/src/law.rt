@@ -1,7 +1,8 @@
 //! The laws.
 
 ghost use Rattle.threads_meaning.specs.Law.{EachStepIsAnEvent, OpensAsModel, StepsAreARun};
-ghost use Rattle.threads_meaning.specs.Order.{OffersInOrder, SinglesAreNext, WordsCommit};
+ghost use Rattle.threads_meaning.specs.Order.{OffersInOrder, PassesAreSound, SinglesAreNext, WordsCommit};
+ghost use Rattle.threads_meaning.specs.Row.{ItHappens};
 
 /// A log that opens is an opened log of the model.
 pub fn opens_as_model()
@@ -24,7 +25,14 @@ pub fn steps_are_a_run()
 /// one after the other, each the next of its claim; so is the one frame of a claim, with its message, or as a padding. By
 /// words, the store of a frame's first word is such a step.
 pub fn commits_are_in_order()
+    ensures sound { PassesAreSound }
     ensures offers { OffersInOrder }
     ensures singles { SinglesAreNext }
     ensures words { WordsCommit }
+{}
+
+/// There is such a log and there are such steps: one is connected, its limit is raised, a pass is armed and adds, and the
+/// frame of its claim is stored and committed.
+pub fn there_are_steps()
+    ensures { ItHappens }
 {}

@@ -4,4 +4,6 @@
 
 mod law;
 
-pub use law::{commits_are_in_order, each_step_is_an_event, opens_as_model, steps_are_a_run};
+pub use law::{
+    commits_are_in_order, each_step_is_an_event, opens_as_model, steps_are_a_run, there_are_steps,
+};
