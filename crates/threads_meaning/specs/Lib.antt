@@ -1,1 +1,7 @@
+pub mod Modelled
+pub mod Steps
+pub mod Seats
+pub mod Law
+pub mod Order
+pub mod Row
 pub mod Images
