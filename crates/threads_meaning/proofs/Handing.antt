@@ -5,7 +5,7 @@ use mathlib.Core.Logic.{dite}
 use native.Mathlib.Decide.{dec_le, ℕ_discrete}
 use lib.ListN.{get_elem?}
 use Rattle.std.specs.List.{AllByRecursion}
-use Rattle.std.specs.Prelude.{slice_index, slice_get, slice_set, nat_lt, ◌||◌, Some}
+use Rattle.std.specs.Prelude.{slice_get, slice_set, nat_lt, ◌||◌, Some}
 use Rattle.atomic_table.specs.Table.{State}
 use Rattle.atomic_table.proofs.Lists.{at_map}
 use Rattle.theory.specs.Bytes.{Identity}
@@ -162,7 +162,7 @@ module _ (key : Key) (gone : List ℕ) (s t : State (Unit {0}) View) (l : Log) (
       let passes = join_passes key gone s t l q' k y.v y.w both spent d in
       let same : committed m.entries ≡ committed l.entries = committed_handed a b l.entries in
       let armed : (n : ℕ) → total (armed_as n) qs ≡ total (armed_as n) ps = λ n. total_join (armed_as n) ps d.id d.other v w both.pass spent.pass at d.apart there (nones (armed_as n both.pass) (armed_as n spent.pass) (armed_as n v) (armed_as n w) (armed_none n both.pass y.idle.0) (armed_none n spent.pass refl) (armed_none n v y.idle.0) (armed_none n w y.idle.1)) in
-      let word = ap (λ (ws : List ℕ). slice_index ws limit_place) (sym d.words) in
+      let word = sym (d.words limit_place (omega arith)) in
       subst (λ (x : ℕ × ℕ). (m : Log) × LogStep [] l (Retire x.0 x.1) m × IsModelOf key (x.1 ∷ gone) t m) (λ i. (sym y.kept_is i, sym y.number_is i)) (
         m,
         step,

@@ -64,15 +64,15 @@ module _ (key : Key) (gone : List ℕ) (s t : State (Unit {0}) View) (l : Log) (
       (h.keeps one)
 
   -- with the same words and log
-  same_log : (qs : List Pass) → t.words ≡ s.words → map pass_in t.views ≡ qs → SameClaimed (map pass_in s.views) qs → SameCommitted (map pass_in s.views) qs → ((n : ℕ) → total (armed_as n) qs ≡ total (armed_as n) (map pass_in s.views))
+  same_log : (qs : List Pass) → ((j : ℕ) → j < 208 → slice_index t.words j ≡ slice_index s.words j) → map pass_in t.views ≡ qs → SameClaimed (map pass_in s.views) qs → SameCommitted (map pass_in s.views) qs → ((n : ℕ) → total (armed_as n) qs ≡ total (armed_as n) (map pass_in s.views))
       → ((i : ℕ) (u : Pass) (r : Reading) → get_elem? qs i ≡ some u → Among r u.reading → r.number < 8 → HasReader l.readers r.number) → ((i : ℕ) (u : Pass) → get_elem? qs i ≡ some u → u.keeping.right ≡ 1 → KeepsReaders l.start l.cleaned (committed l.entries) l.readers u.keeping) → IsModelOf key gone t l
   same_log qs words passes claimed frames armed mine keeper =
-      let ps : List Pass = map pass_in s.views in let word = ap (λ (ws : List ℕ). slice_index ws limit_place) (sym words) in
+      let ps : List Pass = map pass_in s.views in let word = sym (words limit_place (omega arith)) in
       modelled key gone t l q k.identity k.start (k.limit ∙ ap limit_in word) (k.connected ∙ ap is_connected word) (k.closed ∙ ap is_closed word)
       (subst (λ (us : List Pass). AreEntries key us l.start l.tail l.entries) (sym passes) (entries_rest key ps qs l.start l.tail l.entries k.entries claimed frames))
       (subst (λ (us : List Pass). ArePublishers gone us l.armed l.retired) (sym passes) (publishers_rest gone ps qs l.armed l.retired k.publishers (λ n lt. armed n)))
       (subst (λ (us : List Pass). AreReaders t.words us l.start l.cleaned (committed l.entries) l.readers) (sym passes) (readers_rest s.words t.words ps qs l.start l.cleaned (committed l.entries) l.readers k.readers record {
-        words_same = λ j lt. ap (λ (ws : List ℕ). slice_index ws (consumer_place j)) words;
+        words_same = λ j lt. words (consumer_place j) (omega arith);
         mine = mine;
         keeper = keeper;
       }))
@@ -127,7 +127,7 @@ module _ (key : Key) (gone : List ℕ) (s t : State (Unit {0}) View) (l : Log) (
       let ps : List Pass = map pass_in s.views in let at = at_map pass_in s.views d.id v d.at in let there = at_map pass_in s.views d.other w d.there in
       let qs : List Pass = set (set ps d.id b.pass) d.other spent.pass in
       subst (λ (us : List Pass). AreReaders t.words us l.start l.cleaned (committed l.entries) l.readers) (sym (join_passes v w b spent d)) (readers_rest s.words t.words ps qs l.start l.cleaned (committed l.entries) l.readers k.readers record {
-        words_same = λ j lt. ap (λ (ws : List ℕ). slice_index ws (consumer_place j)) d.words;
+        words_same = λ j lt. d.words (consumer_place j) (omega arith);
         mine = join_mine v w b spent d hb hs;
         keeper = join_keeper v w b spent d hb hs;
       })

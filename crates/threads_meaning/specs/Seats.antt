@@ -1,5 +1,5 @@
 -- How passes are dealt, told and gathered: no event of the model, but for one that is handed over.
-use Rattle.std.specs.Prelude.{◌≡◌, ℕ, ◌<◌, List, [], ◌∷◌, ◌++◌, false, slice_set}
+use Rattle.std.specs.Prelude.{◌≡◌, ℕ, ◌<◌, List, [], ◌∷◌, ◌++◌, false, slice_index, slice_set}
 use Rattle.std.specs.List.{AllByRecursion}
 use mathlib.Core.Option.{some}
 use lib.ListN.{get_elem?}
@@ -19,7 +19,7 @@ use Rattle.threads_meaning.specs.Modelled.{is_handed}
 pub record Deals (s : State (Unit {0}) View) (v left right : View) (t : State (Unit {0}) View) : Type 0 where
   pub id : ℕ
   pub at : get_elem? s.views id ≡ some v
-  pub words : t.words ≡ s.words
+  pub words : (j : ℕ) → j < 208 → slice_index t.words j ≡ slice_index s.words j
   pub views : t.views ≡ slice_set s.views id left ++ right ∷ []
 
 -- one seat takes another in, which is spent
@@ -29,7 +29,7 @@ pub record Takes (s : State (Unit {0}) View) (v w both spent : View) (t : State 
   pub at : get_elem? s.views id ≡ some v
   pub apart : other ≡ id → ⊥
   pub there : get_elem? s.views other ≡ some w
-  pub words : t.words ≡ s.words
+  pub words : (j : ℕ) → j < 208 → slice_index t.words j ≡ slice_index s.words j
   pub views : t.views ≡ slice_set (slice_set s.views id both) other spent
 
 -- the moves that are no event

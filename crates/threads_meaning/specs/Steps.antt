@@ -59,12 +59,12 @@ pub data LooksAt (s : State (Unit {0}) View) (t : State (Unit {0}) View) : Type 
   load_count : (id : ℕ) (v : Pass) → Loads s id v count_place (λ n w. Counts v n w) t → LooksAt s t
   load_tail : (id : ℕ) (v : Pass) → Loads s id v (tail_place v.seen.count) (λ n w. Arms v n w × (IsOpen v n → ⊥)) t → LooksAt s t
   load_next : (id : ℕ) (v : Pass) (k : ℕ) → Loads s id v (tail_place (k + 1)) (λ n w. Nexts v k n w) t → LooksAt s t
-  load_here : (id : ℕ) (v : Pass) (place : ℕ) (r : Reading) (i : ℕ) → IsConsumer v place r → Loads s id v i (λ n w. Looks v place n w) t → LooksAt s t
-  load_word : (id : ℕ) (v : Pass) (place p k i : ℕ) → Loads s id v i (λ n w. Rereads v place p k n w) t → LooksAt s t
+  load_here : (id : ℕ) (v : Pass) (place : ℕ) (r : Reading) (i : ℕ) → IsConsumer v place r → Loads s id v i (λ _ w. (n : ℕ) × Looks v place n w) t → LooksAt s t
+  load_word : (id : ℕ) (v : Pass) (place p k i : ℕ) → Loads s id v i (λ _ w. (n : ℕ) × Rereads v place p k n w) t → LooksAt s t
   load_consumer : (id : ℕ) (v : Pass) (number : ℕ) → IsThere v.keeping.there number → v.keeping.right ≡ 1 → Loads s id v (consumer_place number) (λ n w. SeesConsumer v number n w) t → LooksAt s t
   -- what a pass is told of itself, and a position that it is shown
-  load_own : (id : ℕ) (v : Pass) (i : ℕ) → Loads s id v i (λ n w. w ≡ v) t → LooksAt s t
-  load_shown : (id : ℕ) (v : Pass) (i : ℕ) → Loads s id v i (λ n w. (p : ℕ) × (w ≡ was_shown p v)) t → LooksAt s t
+  load_own : (id : ℕ) (v : Pass) (i : ℕ) → Loads s id v i (λ _ w. w ≡ v) t → LooksAt s t
+  load_shown : (id : ℕ) (v : Pass) (i : ℕ) → Loads s id v i (λ _ w. (p : ℕ) × (w ≡ was_shown p v)) t → LooksAt s t
 
 -- ---- a publisher
 

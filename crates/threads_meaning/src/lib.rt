@@ -1,8 +1,30 @@
-//! What a log and an image in threads mean: at any moment, between any two steps on their words, whichever threads make them,
-//! they are a log and an image of the model, and each step is one event of that, or none.
+//! What a log and an image in threads mean: between any two steps on their words, in any schedule, they are a log and an image
+//! of the model, and each step is one event of that, or none; no code. So the headline holds of them.
 //!
-//! So the headline holds of them: of a log since it opened (`steps_are_a_run`), and of an image that stores what its sender
-//! sent (`images_are_in_runs`).
+//! An image: `IsImageOf` says when the words and the seats of its table are an image of the model. A frame that is stored is one
+//! that was inserted, a position that is stored moves a consumer past a frame, all other steps are looks
+//! (`image_steps_are_events`); and where it stores frames that the sender sent it is an image of a run (`images_are_in_runs`).
+//!
+//! `IsModelOf` says when the words and the passes of a log that obeys its rule (`LogRuled`) are a log of the model: entries,
+//! committed frames, tail, limit, flags, who may add, and readers. Three laws follow: a log that opens is an opened one
+//! (`opens_as_model`), each step leads to such a log by one event (`each_step_is_an_event`), and any list of steps is a run, so
+//! that the headline holds of the log that it leads to (`steps_are_a_run`). There are such steps (`there_are_steps`).
+//!
+//! Which step is which event stands in `StepOf`. Of the words only the control words are spoken of: the limit, the active
+//! count, the raw tails and the consumers' positions. What stands behind them is what the rule says. So a log that keeps
+//! its frames elsewhere has these steps too. An event asks for what `publication` and `log_rule` say of its step, and in four places for more:
+//!
+//! - A frame that is committed is the next of its claim (`IsNextFrame`). The rule keeps any order; `publication` alone commits,
+//!   and what its contracts say of offers and claims gives this (`commits_are_in_order`).
+//! - The limit is raised as the keeper does it, after it has cleaned, and no store opens a closed log again.
+//! - A consumer joins at the least position that was seen, which no other consumer is below.
+//! - A number that was handed over isn't used again: the model retires a number for good, and a pass that has all parts may act
+//!   for any.
+//!
+//! The model's consumers may pass a frame that their assembler refused (`Pass`): no step on words is that, since an assembler
+//! is no part of the log; here each reader's assembler hears each frame. A load is a `Look`, a word of an open frame is a
+//! `Store`, and a turn of the term is a `Rotate`: the model's log stays. All consumers are the log's readers, the sender too, so
+//! events are those of a log with no other consumers.
 #![tactic(auto)]
 
 mod images;
