@@ -14,6 +14,7 @@ mod Committing
 mod Seats
 mod Handing
 mod Opening
+mod Carrying
 mod Running
 mod Order
 mod Happening

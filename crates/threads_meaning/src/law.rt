@@ -1,18 +1,22 @@
 //! The laws.
 
-ghost use Rattle.threads_meaning.specs.Law.{EachStepIsAnEvent, OpensAsModel, StepsAreARun};
+ghost use Rattle.threads_meaning.specs.Law.{EachStepIsARun, EachStepIsAnEvent, OpensAsModel, RuledAreRuled, StepsAreARun};
 ghost use Rattle.threads_meaning.specs.Order.{OffersInOrder, PassesAreSound, SinglesAreNext, WordsCommit};
 ghost use Rattle.threads_meaning.specs.Row.{ItHappens};
 
 /// A log that opens is an opened log of the model.
 pub fn opens_as_model()
-    ensures { OpensAsModel }
+    // What is said of control words and passes is said of whatever state the rule holds of.
+    ensures ruled { RuledAreRuled }
+    ensures opens { OpensAsModel }
 {}
 
 /// Each step on the words of a log, from a state that is a log of the model, is one event of that, to a log that the state
 /// after it is.
 pub fn each_step_is_an_event()
-    ensures { EachStepIsAnEvent }
+    ensures event { EachStepIsAnEvent }
+    // A step by which the keeper knows that several words are zero is that many events.
+    ensures cleaned { EachStepIsARun }
 {}
 
 /// So whatever list of steps happened since a log opened, its words and passes are a log to which a run of the model leads,
