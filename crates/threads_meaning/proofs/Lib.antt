@@ -18,3 +18,4 @@ mod Carrying
 mod Running
 mod Order
 mod Happening
+mod Boards

@@ -4,3 +4,4 @@ pub mod Seats
 pub mod Law
 pub mod Order
 pub mod Row
+pub mod Boards

@@ -1,5 +1,6 @@
 //! The laws.
 
+ghost use Rattle.threads_meaning.specs.Boards.{BoardsAreRuled, BoardsClean, BoardsCommit, BoardsTurn, FirstIsFirst};
 ghost use Rattle.threads_meaning.specs.Law.{EachStepIsARun, EachStepIsAnEvent, OpensAsModel, RuledAreRuled, StepsAreARun};
 ghost use Rattle.threads_meaning.specs.Order.{OffersInOrder, PassesAreSound, SinglesAreNext, WordsCommit};
 ghost use Rattle.threads_meaning.specs.Row.{ItHappens};
@@ -39,4 +40,15 @@ pub fn commits_are_in_order()
 /// frame of its claim is stored and committed.
 pub fn there_are_steps()
     ensures { ItHappens }
+{}
+
+/// The log that threads share keeps its frames in plain memory, and has a table of control words. So its states and steps
+/// are those that the other laws speak of: the control words and the passes are those of a stream that the rule holds of, what
+/// a step of a seat tells of its pass is what a step of a stream does, a frame is committed whole, and words are cleaned many at once.
+pub fn memory_has_these_steps()
+    ensures ruled { BoardsAreRuled }
+    ensures first { FirstIsFirst }
+    ensures steps { BoardsTurn }
+    ensures commits { BoardsCommit }
+    ensures cleans { BoardsClean }
 {}
