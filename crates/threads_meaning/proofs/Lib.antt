@@ -14,8 +14,10 @@ mod Committing
 mod Seats
 mod Handing
 mod Opening
+mod Carrying
 mod Running
 mod Order
 mod Happening
 mod Imaged
 mod ImageRows
+mod Boards

@@ -32,5 +32,6 @@ mod law;
 
 pub use images::{image_steps_are_events, images_are_in_runs};
 pub use law::{
-    commits_are_in_order, each_step_is_an_event, opens_as_model, steps_are_a_run, there_are_steps,
+    commits_are_in_order, each_step_is_an_event, memory_has_these_steps, opens_as_model, steps_are_a_run,
+    there_are_steps,
 };
