@@ -1,6 +1,4 @@
 -- The socket of a subscriber, at the one place where it is read.
-use Rattle.std.specs.Prelude.{Option, None, Some}
-use Rattle.std.specs.declared.net.SocketAddr.{SocketAddr}
 use Rattle.peer.specs.Ties.{Came, Listening, Offer, first_of, last_of, with_came}
 
 pub record Receiving : Type 0 where

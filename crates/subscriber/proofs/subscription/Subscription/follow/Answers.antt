@@ -5,7 +5,7 @@ use Rattle.subscriber.proofs.Breaking.{life_broken, life_kept}
 use Rattle.subscriber.proofs.Lived.{attended_life, life_on, told_life}
 use Rattle.subscriber.proofs.Looked.{looked_life}
 use Rattle.subscriber.proofs.Written.{writes_more}
-use Rattle.subscriber.specs.Living.{Follows, WritesLife}
+use Rattle.subscriber.specs.Living.{Follows}
 use Rattle.subscriber.specs.Watches.{JudgesEach, Seen}
 use Rattle.subscriber.specs.declared.images.session.Session.{Session}
 use Rattle.subscriber.proofs.subscription.Subscription.follow.Goals as goal
