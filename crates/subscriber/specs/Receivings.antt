@@ -1,4 +1,5 @@
 -- The socket of a subscriber, at the one place where it is read.
+use Rattle.std.specs.Prelude.{Option, None}
 use Rattle.peer.specs.Ties.{Came, Listening, Offer, first_of, last_of, with_came}
 
 pub record Receiving : Type 0 where
