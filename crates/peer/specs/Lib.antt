@@ -11,3 +11,4 @@ pub mod Screening
 pub mod Silences
 pub mod Numbering
 pub mod StatusSockets
+pub mod Peers

@@ -30,7 +30,8 @@
 //! Where receivers are known by numbers, a status message gets its receiver's for the id (`number_status`).
 //!
 //! A subscriber's socket has a second handle for another thread, which sends status messages from the same port and hears
-//! nothing; it keeps exactly the last that it was given (`Listener::status_socket`, `StatusSocket`).
+//! nothing; it keeps exactly the last that it was given (`Listener::status_socket`, `StatusSocket`). By a further one each of its
+//! sessions sends to its peer (`Listener::peer_device`, `PeerDevice`).
 #![tactic(auto)]
 
 mod attendance;
@@ -40,6 +41,7 @@ mod fault;
 mod listener;
 mod numbering;
 mod patient;
+mod peer_device;
 mod screen;
 mod silence;
 mod status_socket;
@@ -52,6 +54,7 @@ pub use fault::BindError;
 pub use listener::Listener;
 pub use numbering::{number_status, setup_in};
 pub use patient::PatientDevice;
+pub use peer_device::PeerDevice;
 pub use screen::{Bounds, Verdict, judge};
 pub use silence::Silence;
 pub use status_socket::{STATUS_BYTES, StatusSocket};

@@ -4,10 +4,12 @@ ghost use Rattle.std.specs.Prelude.{◌≡◌, ◌≢◌, ◌⊎◌, None, Ok, I
 ghost use Rattle.std.specs.IoError.{error_kind, raw_os_error};
 ghost use Rattle.theory.specs.Wire.{SM, spelling};
 ghost use Rattle.frames.specs.Frames.{status_of};
+ghost use Rattle.peer.specs.Peers.{sending_to};
 ghost use Rattle.peer.specs.StatusSockets.{unused};
 ghost use Rattle.peer.specs.Ties.{asking, giving, hearing_anybody, with_came};
 
 use crate::fault::BindError;
+use crate::peer_device::PeerDevice;
 use crate::status_socket::{STATUS_BYTES, StatusSocket};
 use endpoint::{Binding, DeviceFailed, GREATEST_DATAGRAM, OpenError, Route, is_loss};
 use frames::{Frame, Status, write_frame};
@@ -102,7 +104,7 @@ fn arrival_in(answer: io::Result<(usize, SocketAddr)>) -> Result<Option<Arrival>
 }
 
 /// What a send's answer says. One that isn't ready loses the datagram; the error comes where the system refuses the call.
-fn sent_by(answer: io::Result<usize>) -> Result<(), DeviceFailed>
+pub(crate) fn sent_by(answer: io::Result<usize>) -> Result<(), DeviceFailed>
     ensures sent { OnOk answer (IsOk result) }
     ensures not_ready { IfErr answer (λ error. (error_kind error ≡ ErrorKind.WouldBlock) ⊎ (error_kind error ≡ ErrorKind.ConnectionRefused) → IsOk result) }
     ensures refused { IfErr answer (λ error. error_kind error ≢ ErrorKind.WouldBlock → error_kind error ≢ ErrorKind.ConnectionRefused → IsErr result) }
@@ -153,6 +155,14 @@ impl Listener {
     {
         let socket = self.socket.try_clone()?;
         Ok(StatusSocket::new(socket))
+    }
+
+    /// A device that sends to this peer by a further handle of the socket. The error is the system's, where it refuses it.
+    pub fn peer_device(&self, peer: SocketAddr) -> io::Result<PeerDevice>
+        ensures { IfOk result (λ d. d ≡ sending_to peer) }
+    {
+        let socket = self.socket.try_clone()?;
+        Ok(PeerDevice::new(socket, peer))
     }
 
     /// Takes a datagram, if one has come. The error comes where the system refuses the call; then none has.

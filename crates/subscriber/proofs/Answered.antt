@@ -101,8 +101,8 @@ offered : (plan : SubscribePlan) (offer : Offer) (j k : Session) → ConsidersOf
 offered plan None j k p h = same_answered j k (ap (λ x. x.ended) p) (ap (λ x. x.follower.subscriber) p) h
 offered plan (Some offer) j k p h = considered plan offer.0 offer.1 j k p h
 
-pub attended_answered : (plan : SubscribePlan) (j k : Session) → Attends plan j k → (IsTrue j.ended → HasAnswered j.follower.subscriber) → IsTrue k.ended → HasAnswered k.follower.subscriber
-attended_answered plan j k p h =
+pub attended_answered : (plan : SubscribePlan) (others : Offer) (j k : Session) → Attends plan others j k → (IsTrue j.ended → HasAnswered j.follower.subscriber) → IsTrue k.ended → HasAnswered k.follower.subscriber
+attended_answered plan others j k p h =
     same_answered p.2 k (ap (λ (x : Session). x.ended) p.4) (ap (λ (x : Session). x.follower.subscriber) p.4)
     (offered plan p.0 (with_device j (setup_taken j.duty.device)) p.2 p.3 h)
 
@@ -142,8 +142,8 @@ has_judged s t j k h =
     }
 
 -- a turn begins, and what came of SETUPs in it is attended
-pub turn_attended : (plan : SubscribePlan) (r s : Seen) (now : ℕ) (j k : Session) → r.turns ≡ r.attended → s ≡ looking r now → HasJudged s j.watch → Attends plan j k → k.watch.turns ≡ k.watch.attended
-turn_attended plan r s now j k before looks once p =
+pub turn_attended : (plan : SubscribePlan) (others : Offer) (r s : Seen) (now : ℕ) (j k : Session) → r.turns ≡ r.attended → s ≡ looking r now → HasJudged s j.watch → Attends plan others j k → k.watch.turns ≡ k.watch.attended
+turn_attended plan others r s now j k before looks once p =
     let so = offered_within plan p.0 (with_device j (setup_taken j.duty.device)) p.2 p.3 in
     let w = ap (λ (x : Session). x.watch) p.4 in
     ap (λ x. x.turns) w ∙ so.turns ∙ once.turns ∙ ap (λ x. x.turns) looks
@@ -160,8 +160,8 @@ turn_judged r s a now before looks once =
     once.turns ∙ ap (λ x. x.turns) looks ∙ ap (λ (n : ℕ). (n + 1) % 2 ^ 64) (before ∙ sym (ap (λ x. x.judged) looks)) ∙ sym once.judged
 
 -- what comes of SETUPs is no judgement of that
-pub attended_judged : (plan : SubscribePlan) (j k : Session) → JudgesEach j.watch → Attends plan j k → JudgesEach k.watch
-attended_judged plan j k each p =
+pub attended_judged : (plan : SubscribePlan) (others : Offer) (j k : Session) → JudgesEach j.watch → Attends plan others j k → JudgesEach k.watch
+attended_judged plan others j k each p =
     let so = offered_within plan p.0 (with_device j (setup_taken j.duty.device)) p.2 p.3 in
     let w = ap (λ (x : Session). x.watch) p.4 in
     ap (λ x. x.turns) w ∙ so.turns ∙ each ∙ sym so.judged ∙ sym (ap (λ x. x.judged) w)

@@ -19,3 +19,4 @@ pub mod Looked
 pub mod Lost
 pub mod EndRows
 pub mod TurnRows
+pub mod Reading

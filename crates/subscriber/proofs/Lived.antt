@@ -257,8 +257,8 @@ offered_life plan None a b count j k p h = kept_life plan a b count j k p h
 offered_life plan (Some offer) a b count j k p h = considered_life plan offer.0 offer.1 a b count j k p h
 
 -- whatever came of the SETUP that came in a cycle
-pub attended_life : (plan : SubscribePlan) (a b : Option (List ℕ)) (count : ℕ) (j k : Session) → Attends plan j k → Follows plan a count j.images j.follower b → Follows plan a count k.images k.follower b
-attended_life plan a b count j k p h =
+pub attended_life : (plan : SubscribePlan) (others : Offer) (a b : Option (List ℕ)) (count : ℕ) (j k : Session) → Attends plan others j k → Follows plan a count j.images j.follower b → Follows plan a count k.images k.follower b
+attended_life plan others a b count j k p h =
     same_life plan a b count p.2 k (ap (λ (x : Session). x.images) p.4) (ap (λ (x : Session). x.follower) p.4)
     (offered_life plan p.0 a b count (with_device j (setup_taken j.duty.device)) p.2 p.3 h)
 

@@ -9,7 +9,8 @@ use Rattle.loss_injector.specs.Losing.{begun}
 use Rattle.options.specs.declared.ends.plans.SubscribePlan.{SubscribePlan}
 use Rattle.peer.specs.Patience.{patient}
 use Rattle.peer.specs.Setups.{TellsSetup}
-use Rattle.peer.specs.Ties.{Came, Listening, asking, tied_to}
+use Rattle.peer.specs.Peers.{sending_to}
+use Rattle.peer.specs.Ties.{Came, Listening, asking}
 use Rattle.subscriber.specs.Followers.{IsFresh}
 use Rattle.subscriber.specs.Images.{first_image}
 use Rattle.subscriber.specs.Hearings.{following}
@@ -88,12 +89,12 @@ Heeds plan None old found new = (found ≡ None) × (new ≡ old)
 Heeds plan (Some came) old found new = HeedsCall plan came old found new
 
 -- a subscriber with its first image, tied to the one whose SETUP opened it
-pub record IsJoinedBy (plan : SubscribePlan) (moment : ℕ) (m : SetupOffer) (socket : Listening) (j : Session) : Type 0 where
+pub record IsJoinedBy (plan : SubscribePlan) (moment : ℕ) (m : SetupOffer) (j : Session) : Type 0 where
   pub opening : j.opening ≡ m.opening
   pub images : j.images ≡ first_image
   pub met : HasMet plan 0 (setup_of m.setup) moment j.follower.subscriber
   pub fresh : IsFresh j.follower m.opening.session plan.end.stream
-  pub duty : j.duty ≡ record { device = following (begun (patient (tied_to socket m.from)) plan.end.rates plan.end.seed) m.opening.session plan.end.stream; mtu = 40 }
+  pub duty : j.duty ≡ record { device = following (begun (patient (sending_to m.from)) plan.end.rates plan.end.seed) m.opening.session plan.end.stream; mtu = 40 }
   pub watch : j.watch ≡ beginning moment
   pub lost : j.lost ≡ false
   pub silent : j.silent ≡ false
@@ -104,6 +105,5 @@ pub record IsJoinedBy (plan : SubscribePlan) (moment : ℕ) (m : SetupOffer) (so
 -- the SETUP opens an image for the plan, and came at the moment
 pub record IsJoined (plan : SubscribePlan) (s : Timing) (j : Session) : Type 0 where
   pub meeting : SetupOffer
-  pub socket : Listening
   pub opens : Opens plan (setup_of meeting.setup) meeting.opening
-  pub joined : IsJoinedBy plan s.moment meeting socket j
+  pub joined : IsJoinedBy plan s.moment meeting j

@@ -1,5 +1,5 @@
 -- What stands first in a datagram.
-use Rattle.std.specs.Prelude.{ℕ, List, Option, None, Some, option_map}
+use Rattle.std.specs.Prelude.{◌≡◌, ⊤, ℕ, ℤ, List, Option, None, Some, option_map}
 use Rattle.frames.specs.Frames.{header_of, setup_of}
 use Rattle.frames.specs.declared.frame.Header.{Header}
 use Rattle.frames.specs.declared.frame.Setup.{Setup}
@@ -24,3 +24,14 @@ setup_first Other = None
 pub record TellsFirst (bytes : List ℕ) (first : FirstFrame) : Type 0 where
   pub header : TellsHeader bytes (option_map header_of (header_first first))
   pub setup : TellsSetup bytes (option_map setup_of (setup_first first))
+
+-- the session that the frame in front names
+abbrev pub named_first : FirstFrame → Option ℤ
+named_first (Heard h) = Some h.session
+named_first (Whole f) = Some f.session
+named_first Other = None
+
+-- it names this one, or none
+abbrev pub NamesNoOther : Option ℤ → ℤ → Type 0
+NamesNoOther None session = ⊤
+NamesNoOther (Some named) session = named ≡ session

@@ -1,18 +1,27 @@
 -- What a device notes of what it hears of a session, and of what it is given to send.
-use Rattle.std.specs.Prelude.{◌≡◌, ◌+◌, ◌%◌, ◌^◌, ℕ, ℤ, Bool, false, ◌&&◌, nat_eq, List, length, take, Option, None, Some, option_map, if◌then◌else◌}
+use Rattle.std.specs.Prelude.{◌≡◌, ◌+◌, ◌%◌, ◌^◌, ◌++◌, ℕ, ℤ, Bool, false, ◌&&◌, nat_eq, min, List, [], ◌∷◌, length, take, Option, None, Some, option_map, if◌then◌else◌}
 use Rattle.std.specs.Ordering.{int_eq}
-use Rattle.theory.specs.Wire.{Header, Setup}
-use Rattle.frames.specs.Frames.{header_of, setup_of}
+use Rattle.theory.specs.Wire.{Header}
+use Rattle.frames.specs.Frames.{header_of}
 use Rattle.frames.specs.declared.frame.Header.{Header as Heard}
-use Rattle.endpoint.specs.Devices.{counted}
-use Rattle.peer.specs.Setups.{TellsSetup}
-use Rattle.subscriber.specs.Meetings.{TellsHeader}
+use Rattle.frames.specs.declared.frame.Setup.{Setup}
+use Rattle.endpoint.specs.Devices.{Device, counted, fresh}
+use Rattle.subscriber.specs.FirstFrames.{header_first, setup_first}
 use Rattle.subscriber.specs.declared.images.session_device.PendingStatus.{PendingStatus}
 use Rattle.subscriber.specs.declared.images.session_device.PendingStatus.TheVariants.{Nothing, Given, Cleared}
 use Rattle.subscriber.specs.declared.images.session_device.Notes.{Notes}
+use Rattle.subscriber.specs.declared.listening.first_frame.FirstFrame.{FirstFrame}
+
+-- a datagram, and what stands first in it
+pub record Routed : Type 0 where
+  pub first : FirstFrame
+  pub bytes : List ℕ
 
 pub record Following (D : Type 0) : Type 0 where
+  -- what it sends by
   pub inner : D
+  -- what was routed to it and isn't taken yet, the oldest first
+  pub inbox : List Routed
   -- whose frames it notes
   pub session : ℤ
   pub stream : ℤ
@@ -21,6 +30,8 @@ pub record Following (D : Type 0) : Type 0 where
   pub naks : ℕ
   -- what it noted of the status messages that it was given to send
   pub noted : PendingStatus
+  -- how many receives found nothing
+  pub nones : ℕ
 
 -- nothing was heard yet
 abbrev pub unheard : Notes
@@ -28,11 +39,17 @@ unheard = record { frames = 0; last = None; setup = None }
 
 -- nothing was heard of this session yet, nor sent
 abbrev pub following : {D : Type 0} → D → ℤ → ℤ → Following D
-following inner session stream = record { inner = inner; session = session; stream = stream; notes = unheard; naks = 0; noted = Nothing }
+following inner session stream = record { inner = inner; inbox = []; session = session; stream = stream; notes = unheard; naks = 0; noted = Nothing; nones = 0 }
 
 -- it turns to another session, of which it has heard nothing, and for which it was given nothing
 abbrev pub turned_to : {D : Type 0} → Following D → ℤ → Following D
-turned_to f session = record f { session = session; notes = record (f.notes) { last = None; setup = None }; noted = Cleared }
+turned_to f session = record f { inbox = []; session = session; notes = record (f.notes) { last = None; setup = None }; noted = Cleared }
+
+-- as a device: the failures are those of what it sends by, and it doesn't tell what it carried
+abbrev pub device_of : Device → ℕ → Device
+device_of inner nones = record fresh { failures = inner.failures; nones = nones }
+
+-- ---- what is noted of what it takes
 
 -- a header of the session's stream
 abbrev pub is_own : ℤ → ℤ → Option Header → Bool
@@ -52,21 +69,34 @@ abbrev pub latest : Option Setup → Option Setup → Option Setup
 latest before None = before
 latest before (Some f) = Some f
 
--- what a datagram tells of the session's stream
-pub record NotesDatagram (session stream : ℤ) (bytes : List ℕ) (old new : Notes) : Type 0 where
-  pub header : Option Heard
-  pub tells_header : TellsHeader bytes (option_map header_of header)
-  pub found : Option Setup
-  pub tells_setup : TellsSetup bytes found
-  -- a frame of the stream in front counts
-  pub frames : new.frames ≡ frames_after (is_own session stream (option_map header_of header)) old.frames
-  pub last : new.last ≡ last_after (is_own session stream (option_map header_of header)) header old.last
-  pub setup : option_map setup_of new.setup ≡ latest (option_map setup_of old.setup) found
+-- a frame of the session's stream in front counts, and a SETUP is kept
+abbrev pub notes_after : ℤ → ℤ → FirstFrame → Notes → Notes
+notes_after session stream first notes = record {
+  frames = frames_after (is_own session stream (option_map header_of (header_first first))) notes.frames;
+  last = last_after (is_own session stream (option_map header_of (header_first first))) (header_first first) notes.last;
+  setup = latest notes.setup (setup_first first);
+}
 
--- of a datagram that was found what it tells is noted
-abbrev pub HearsFound : {D : Type 0} → Following D → Option ℕ → List ℕ → Notes → Type 0
-HearsFound f None buffer new = new ≡ f.notes
-HearsFound f (Some n) buffer new = NotesDatagram f.session f.stream (take n buffer) f.notes new
+-- ---- what was routed to it
+
+-- that stands last
+abbrev pub with_routed : {D : Type 0} → Following D → Routed → Following D
+with_routed f r = record f { inbox = f.inbox ++ r ∷ [] }
+
+-- the oldest is taken: it stands at the buffer's front, as far as there is room, and what stands first in it is noted
+pub record TakesOne {D : Type 0} (f : Following D) (r : Routed) (rest : List Routed) (found : Option ℕ) (buffer : List ℕ) (g : Following D) : Type 0 where
+  pub size : found ≡ Some (min (length r.bytes) (length buffer))
+  pub front : take (min (length r.bytes) (length buffer)) buffer ≡ take (min (length r.bytes) (length buffer)) r.bytes
+  pub is : g ≡ record f { inbox = rest; notes = notes_after f.session f.stream r.first f.notes }
+
+abbrev pub TakesFrom : {D : Type 0} → Following D → List Routed → Option ℕ → List ℕ → Following D → Type 0
+TakesFrom f [] found buffer g = (found ≡ None) × (g ≡ record f { nones = counted f.nones })
+TakesFrom f (r ∷ rest) found buffer g = TakesOne f r rest found buffer g
+
+abbrev pub Takes : {D : Type 0} → Following D → Option ℕ → List ℕ → Following D → Type 0
+Takes f found buffer g = TakesFrom f f.inbox found buffer g
+
+-- ---- what it is given to send
 
 -- of what a receiver sends only a status message has 36 bytes; the last one is noted
 abbrev pub noted_after : PendingStatus → List ℕ → PendingStatus

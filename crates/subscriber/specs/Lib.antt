@@ -3,6 +3,8 @@ pub mod Meetings
 pub mod Hearings
 pub mod Images
 pub mod Watches
+pub mod Receivings
+pub mod Routing
 pub mod Offers
 pub mod Calls
 pub mod Statuses

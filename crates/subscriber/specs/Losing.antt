@@ -7,7 +7,8 @@ use Rattle.options.specs.declared.ends.plans.SubscribePlan.{SubscribePlan}
 use Rattle.receiver.specs.Lives.{Act, Lives}
 use Rattle.subscriber.specs.Images.{next}
 use Rattle.subscriber.specs.Meetings.{id_of}
-use Rattle.subscriber.specs.Offers.{SubscriberDevice, asked_by}
+use Rattle.peer.specs.Ties.{Listening, asking}
+use Rattle.subscriber.specs.Offers.{SubscriberDevice}
 use Rattle.subscriber.specs.Standing.{RebuiltTo, lacks}
 use Rattle.subscriber.specs.Watches.{IsHearing, IsWithinTurn, Seen, Timing, judging, IsBehind, noting}
 use Rattle.subscriber.specs.declared.images.session.Session.{Session}
@@ -76,10 +77,10 @@ pub record IsAskedFor (j : Session) : Type 0 where
   pub left : IsLeft j
   pub hearing : IsHearing j.watch
 
-abbrev pub Asks : SubscribePlan → Option Header → Session → Session → Type 0
-Asks plan None old new = new ≡ old
-Asks plan (Some h) old new = new ≡ with_device old (asked_by old.duty.device (asking_at (header_of h) (id_of plan (next old.images.number))))
+abbrev pub Asks : SubscribePlan → Option Header → Session → Listening → Listening → Type 0
+Asks plan None j old new = new ≡ old
+Asks plan (Some h) j old new = new ≡ asking old j.duty.device.inner.inner.inner.peer (asking_at (header_of h) (id_of plan (next j.images.number)))
 
-pub record AsksAnew (plan : SubscribePlan) (old new : Session) : Type 0 where
-  pub asks : IsAskedFor old → Asks plan old.duty.device.notes.last old new
-  pub quiet : ¬ IsAskedFor old → new ≡ old
+pub record AsksAnew (plan : SubscribePlan) (j : Session) (old new : Listening) : Type 0 where
+  pub asks : IsAskedFor j → Asks plan j.duty.device.notes.last j old new
+  pub quiet : ¬ IsAskedFor j → new ≡ old

@@ -1,11 +1,12 @@
 -- The SETUP that came in a cycle, and what is changed of a device.
 use Rattle.std.specs.Prelude.{◌≡◌, Option, None, Some}
 use Rattle.std.specs.declared.net.SocketAddr.{SocketAddr}
-use Rattle.theory.specs.Wire.{Wire}
 use Rattle.frames.specs.declared.frame.Setup.{Setup}
 use Rattle.loss_injector.specs.Losing.{Losing}
 use Rattle.peer.specs.Patience.{Patient}
-use Rattle.peer.specs.Ties.{Offer, Tied, asking, offer_given, with_peer}
+use Rattle.peer.specs.Peers.{ToPeer, to_peer}
+use Rattle.peer.specs.Ties.{Offer}
+use Rattle.subscriber.specs.Receivings.{Receiving, offer_given}
 use Rattle.subscriber.specs.Hearings.{Following}
 use Rattle.subscriber.specs.declared.images.session_device.PendingStatus.TheVariants.{Cleared, Nothing, Given}
 use Rattle.subscriber.specs.declared.images.session_device.StatusNews.{StatusNews}
@@ -14,39 +15,25 @@ use Rattle.subscriber.specs.declared.images.session_device.StatusNews.TheVariant
 
 -- a subscriber's device
 abbrev pub SubscriberDevice : Type 0
-SubscriberDevice = Following (Losing (Patient Tied))
+SubscriberDevice = Following (Losing (Patient ToPeer))
 
--- the one that the peer sent, or else the first one that its device keeps of others
-abbrev pub IsOffered : Option Setup → Tied → Offer → Type 0
-IsOffered (Some f) t o = o ≡ Some (t.peer, f)
-IsOffered None t o = o ≡ t.offer
-
--- what another than the peer offered was taken
-abbrev pub offer_taken : SubscriberDevice → SubscriberDevice
-offer_taken d = record d { inner = record (d.inner) { inner = record (d.inner.inner) { inner = offer_given d.inner.inner.inner } } }
+-- the one that the peer sent, or else the first one that is kept of others
+abbrev pub IsOffered : Option Setup → SocketAddr → Offer → Offer → Type 0
+IsOffered (Some f) peer others o = o ≡ Some (peer, f)
+IsOffered None peer others o = o ≡ others
 
 -- the peer's SETUP was taken
-abbrev pub peers_taken : SubscriberDevice → SubscriberDevice
-peers_taken d = record d { notes = record (d.notes) { setup = None } }
-
-abbrev pub taken_where : Option Setup → SubscriberDevice → SubscriberDevice
-taken_where (Some f) d = peers_taken d
-taken_where None d = offer_taken d
-
--- the one that is taken first was: another's waits where the peer has sent one
 abbrev pub setup_taken : SubscriberDevice → SubscriberDevice
-setup_taken d = taken_where d.notes.setup d
+setup_taken d = record d { notes = record (d.notes) { setup = None } }
+
+-- another's is taken where the peer has sent none; else it waits
+abbrev pub others_taken : Option Setup → Receiving → Receiving
+others_taken (Some f) r = r
+others_taken None r = offer_given r
 
 -- what was sent to the one before is of no use any more
 abbrev pub tied_anew : SubscriberDevice → SocketAddr → SubscriberDevice
-tied_anew d peer = record d { inner = record (d.inner) { inner = record (d.inner.inner) { inner = with_peer d.inner.inner.inner peer } }; noted = Cleared }
-
--- the peer is asked for a SETUP by this frame
-abbrev pub asking_peer : Tied → Wire → Tied
-asking_peer t frame = record t { socket = asking t.socket t.peer frame }
-
-abbrev pub asked_by : SubscriberDevice → Wire → SubscriberDevice
-asked_by d frame = record d { inner = record (d.inner) { inner = record (d.inner.inner) { inner = asking_peer d.inner.inner.inner frame } } }
+tied_anew d peer = record d { inner = record (d.inner) { inner = record (d.inner.inner) { inner = to_peer d.inner.inner.inner peer } }; noted = Cleared }
 
 -- what was noted of a device with this peer
 abbrev pub news_of : SocketAddr → PendingStatus → Option StatusNews

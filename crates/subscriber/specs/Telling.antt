@@ -13,13 +13,13 @@ use Rattle.subscriber.specs.declared.reporting.Totals.{Totals}
 use Rattle.subscriber.specs.Standing.{StandsHere}
 use Rattle.subscriber.specs.declared.reporting.Unfinished.{Unfinished}
 
--- what it has counted behind so many messages, of which so many are new; in all where it has counted before an image and with one
+-- what it has counted behind so many messages, of which so many are new; of failed calls those that read the socket, and its device's
 pub record AreCounts (j : Session) (s : Timing) (written more : ℕ) (c : Counts) : Type 0 where
   pub messages : c.messages ≡ written
   pub since : c.since ≡ more
   pub naks : c.naks ≡ j.duty.device.naks
   pub lost : c.lost ≡ min (s.lost + j.duty.device.inner.inner.lost) (2 ^ 64 - 1)
-  pub strangers : c.strangers ≡ min (s.strangers + j.duty.device.inner.inner.inner.strangers) (2 ^ 64 - 1)
+  pub strangers : c.strangers ≡ s.strangers
   pub refused : (r : Receiver) → RepresentsSubscriber j.follower.subscriber r → c.refused.counts ≡ r.faults
 
 -- without an image nothing is told

@@ -138,8 +138,8 @@ abbrev pub ConsidersOffer : SubscribePlan → Offer → Session → Session → 
 ConsidersOffer plan None old new = new ≡ old
 ConsidersOffer plan (Some offer) old new = Considers plan offer.0 offer.1 old new
 
-abbrev pub Attends : SubscribePlan → Session → Session → Type 0
-Attends plan old new =
-    (offer : Offer) × IsOffered old.duty.device.notes.setup old.duty.device.inner.inner.inner offer
+abbrev pub Attends : SubscribePlan → Offer → Session → Session → Type 0
+Attends plan others old new =
+    (offer : Offer) × IsOffered old.duty.device.notes.setup old.duty.device.inner.inner.inner.peer others offer
     × (considered : Session) × ConsidersOffer plan offer (with_device old (setup_taken old.duty.device)) considered
     × (new ≡ record considered { watch = attending considered.watch })

@@ -16,11 +16,11 @@ pub record Timing : Type 0 where
   pub told : ℕ
   -- how many messages were written then
   pub written : ℕ
-  -- how many datagrams of strangers there were before an image
+  -- how many datagrams of strangers there were
   pub strangers : ℕ
   -- how many datagrams before an image called for a SETUP
   pub calls : ℕ
-  -- how many calls of its socket failed before an image
+  -- how many calls that read its socket failed
   pub lost : ℕ
 
 -- it has seen its begin

@@ -9,6 +9,7 @@ pub(crate) mod follower;
 pub(crate) mod session;
 pub(crate) mod session_device;
 pub(crate) mod session_watch;
+pub(crate) mod sessions;
 
 use std::fmt;
 use std::marker::Model;

@@ -1,11 +1,13 @@
 //! A subscriber's end of a channel: `subscribe` listens until a SETUP opens an image, writes each message as soon as it is
 //! polled, and only then hears and answers, so that no status message tells of a message that isn't written.
 //!
-//! - `listening`: what a datagram is before there is an image (`Call`), which SETUP opens one (`SetupOffer`), and with which window.
-//!   A frame that the plan takes has its sender asked for a SETUP, once for each frame, and nobody else is.
-//! - `images`: a session that is followed (`Session`), its device, which counts the frames of the session and keeps the last
-//!   SETUP (`SessionDevice`), the greatest end that was told (`Follower`), and the cycle that polls, writes and hears
-//!   (`delivery`). It has ended where an end was told that isn't below what is rebuilt, and the consumer stands there: that is
+//! - `listening`: the socket, at the one place where it is read (`Reception`); what a datagram is before there is an image
+//!   (`Call`), which SETUP opens one (`SetupOffer`), and with which window. A frame that the plan takes has its sender asked for a
+//!   SETUP, once for each frame, and nobody else is.
+//! - `images`: a session that is followed (`Session`), its device, which takes what was routed to it, counts the frames of the
+//!   session and keeps its last SETUP, and sends (`SessionDevice`), the greatest end that was told (`Follower`), and the cycle that
+//!   polls, writes and hears (`delivery`). A datagram is read once for what stands first in it: it is the session's where its peer
+//!   sent it and it names no other session (`is_of`), and else passed over. It has ended where an end was told that isn't below what is rebuilt, and the consumer stands there: that is
 //!   told at once (`answer_end`). It lacks something where the last frame that was heard begins above what is rebuilt; where
 //!   nothing of that has come for ten seconds, and the session was heard in each, the image is lost (`lacks_where_lost`).
 //! - `subscription`: what a subscriber does in each turn, and what it makes of SETUPs (`attend`): a session that hasn't ended

@@ -6,34 +6,37 @@ ghost use Rattle.theory.specs.Control.{asking_at};
 ghost use Rattle.theory.specs.Wire.{IsHeader, SM};
 ghost use Rattle.loss_injector.specs.Losing.{begun};
 ghost use Rattle.peer.specs.Patience.{patient};
-ghost use Rattle.peer.specs.Ties.{tied_to};
+ghost use Rattle.peer.specs.Peers.{sending_to};
 ghost use Rattle.subscriber.specs.Hearings.{following};
 ghost use Rattle.frames.specs.Frames.{header_of, setup_of, status_of};
 ghost use Rattle.subscriber.specs.Calls.{Heeds, IsCall, IsFrameCall, IsJoined, IsJoinedBy};
 ghost use Rattle.subscriber.specs.Meetings.{Opens, id_of};
 ghost use Rattle.subscriber.specs.Texts.{waiting_counts, waiting_line};
-ghost use Rattle.subscriber.specs.Watches.{HasWaited, TellsWhereDue, after_call};
+ghost use Rattle.subscriber.specs.Watches.{HasWaited, TellsWhereDue};
 
 pub(crate) mod first_frame;
+pub(crate) mod reception;
 pub(crate) mod setup_offer;
 
+use crate::fault::SubscribeFault;
 use crate::images::follower::Follower;
 use crate::images::session::Session;
 use crate::images::session_device::{SessionDevice, SubscriberDevice};
 use crate::images::session_watch::SessionWatch;
 use crate::images::{Images, Unheard};
 use crate::listening::first_frame::first_frame;
+use crate::listening::reception::Reception;
 use crate::listening::setup_offer::{SetupOffer, id_of, meeting_of, opened, takes_session};
 use crate::reporting::{Counted, Counts, Line, NOWHERE, tell as tell_line};
 use crate::watch::Watch;
 use agents::{Duty, IdleStrategy, REPLY};
-use endpoint::{DeviceError, DeviceFailed};
+use endpoint::DeviceError;
 use frames::{FaultCounts, Header, Status};
 use loss_injector::Lossy;
 use options::SubscribePlan;
-use peer::{Listener, PatientDevice, TiedDevice};
+use peer::PatientDevice;
 use receiver::asking;
-use std::alloc::{AllocError, Global};
+use std::alloc::Global;
 use std::io;
 use std::io::Write;
 use std::net::SocketAddr;
@@ -78,16 +81,6 @@ fn call_of(plan: &SubscribePlan, from: SocketAddr, datagram: &[u8]) -> Call
     }
 }
 
-/// Notes whether a call of the socket worked.
-fn note_call(answer: Result<(), DeviceFailed>, watch: &mut Watch)
-    ensures { watch.new ≡ after_call answer watch.old }
-{
-    match answer {
-        Ok(()) => watch.work(),
-        Err(_) => watch.lose(),
-    }
-}
-
 /// The message by which the first image's receiver asks for a SETUP, with the place of a frame.
 fn first_asking(plan: &SubscribePlan, header: &Header) -> Status
     requires { IsHeader (header_of header.now) }
@@ -97,12 +90,12 @@ fn first_asking(plan: &SubscribePlan, header: &Header) -> Status
 }
 
 /// Heeds what came. The answer is the SETUP that opens an image, if it was one. The sender of a frame is asked for a SETUP.
-fn heed(plan: &SubscribePlan, listener: &mut Listener, watch: &mut Watch) -> Option<SetupOffer>
-    ensures heeds { Heeds plan.now listener.old.came (record { socket = listener.old; seen = watch.old }) result (record { socket = listener.new; seen = watch.new }) }
+fn heed(plan: &SubscribePlan, reception: &mut Reception, watch: &mut Watch) -> Option<SetupOffer>
+    ensures heeds { Heeds plan.now reception.old.socket.came (record { socket = reception.old.socket; seen = watch.old }) result (record { socket = reception.new.socket; seen = watch.new }) }
     ensures opens { IfSome result (λ m. Opens plan.now (setup_of m.setup) m.opening) }
     ensures moment { watch.new.moment ≡ watch.old.moment }
 {
-    let (from, datagram) = listener.last()?;
+    let (from, datagram) = reception.last()?;
     match call_of(plan, from, datagram) {
         Call::Opens(meeting) => {
             watch.hear();
@@ -110,7 +103,7 @@ fn heed(plan: &SubscribePlan, listener: &mut Listener, watch: &mut Watch) -> Opt
         }
         Call::Asks(header) => {
             watch.call();
-            listener.ask(from, first_asking(plan, &header));
+            reception.ask(from, first_asking(plan, &header));
             None
         }
         Call::Stranger => {
@@ -120,40 +113,39 @@ fn heed(plan: &SubscribePlan, listener: &mut Listener, watch: &mut Watch) -> Opt
     }
 }
 
-/// A device that is tied to the one who sent the SETUP.
-fn tied_duty(
+/// A device that sends to the one who sent the SETUP.
+fn session_duty(
     alloc: Global,
     plan: &SubscribePlan,
-    listener: Listener,
+    reception: &Reception,
     meeting: &SetupOffer,
-) -> Result<Duty<SubscriberDevice>, AllocError>
-    ensures { IfOk result (λ d. d ≡ record { device = following (begun (patient (tied_to listener meeting.now.from)) plan.now.end.rates plan.now.end.seed) meeting.now.opening.session plan.now.end.stream; mtu = 40 }) }
+) -> Result<Duty<SubscriberDevice>, SubscribeFault>
+    ensures made { IfOk result (λ d. d ≡ record { device = following (begun (patient (sending_to meeting.now.from)) plan.now.end.rates plan.now.end.seed) meeting.now.opening.session plan.now.end.stream; mtu = 40 }) }
 {
-    let tied = PatientDevice::new(TiedDevice::new(listener, meeting.from));
-    let lossy = Lossy::new(alloc, tied, plan.end.rates, plan.end.seed);
-    let device = SessionDevice::new(lossy, meeting.opening.session, plan.end.stream);
+    let peer = match reception.peer_device(meeting.from) {
+        Ok(device) => PatientDevice::new(device),
+        Err(error) => return Err(SubscribeFault::NoSocket(error.raw_os_error())),
+    };
+    let lossy = Lossy::new(alloc, peer, plan.end.rates, plan.end.seed);
+    let device = SessionDevice::new(alloc, lossy, meeting.opening.session, plan.end.stream);
     match Duty::new(alloc, device, REPLY) {
         Ok(duty) => Ok(duty),
-        Err(_) => Err(AllocError),
+        Err(_) => Err(SubscribeFault::Failed(DeviceError::Memory)),
     }
 }
 
-/// Opens the first image, and ties the device to the one who sent the SETUP.
+/// Opens the first image, whose peer is the one who sent the SETUP.
 fn join(
     alloc: Global,
     plan: &SubscribePlan,
-    listener: Listener,
+    reception: &Reception,
     meeting: &SetupOffer,
     now: u64,
-) -> Result<Session, DeviceError>
-    ensures { IfOk result (IsJoinedBy plan.now now meeting.now listener) }
+) -> Result<Session, SubscribeFault>
+    ensures { IfOk result (IsJoinedBy plan.now now meeting.now) }
 {
-    let Ok(subscriber) = opened(alloc, plan, 0, &meeting.setup, now) else {
-        return Err(DeviceError::Memory);
-    };
-    let Ok(duty) = tied_duty(alloc, plan, listener, meeting) else {
-        return Err(DeviceError::Memory);
-    };
+    let subscriber = opened(alloc, plan, 0, &meeting.setup, now)?;
+    let duty = session_duty(alloc, plan, reception, meeting)?;
     Ok(Session {
         opening: meeting.opening,
         images: Images::first(),
@@ -193,27 +185,28 @@ fn tell<E: Write>(plan: &SubscribePlan, errors: &mut E, watch: &mut Watch) -> io
 }
 
 /// Listens until a SETUP opens an image for the plan. There is none where no datagram came that the plan takes for as long as
-/// it says. The fault is that memory was refused, the clock can't be read, or every call of the socket failed for 5 seconds.
+/// it says. The fault is that memory or a handle of the socket was refused, the clock can't be read, or every call of the socket
+/// failed for 5 seconds.
 pub fn listen<R: Wait + Clock, E: Write>(
     rt: &R,
     alloc: Global,
     plan: &SubscribePlan,
-    mut listener: Listener,
+    reception: &mut Reception,
     errors: &mut E,
     watch: &mut Watch,
-) -> Result<Option<Session>, DeviceError>
+) -> Result<Option<Session>, SubscribeFault>
     ensures joined { IfOk result (λ found. IfSome found (IsJoined plan.now watch.new)) }
     ensures quiet { IfOk result (λ found. IfNone found (HasWaited plan.now watch.new)) }
     // For each datagram that calls for a SETUP its sender was asked.
-    ensures asks { listener.asks ≡ watch.old.calls → IfOk result (λ found. IfSome found (λ j. j.duty.device.inner.inner.inner.socket.asks ≡ watch.new.calls)) }
+    ensures asks { reception.old.socket.asks ≡ watch.old.calls → OnOk result (reception.new.socket.asks ≡ watch.new.calls) }
 {
     let mut idle = IdleStrategy::new();
     for _ in rt.forever() {
         watch.see(rt)?;
-        note_call(listener.hear(), watch);
-        let came = listener.last().is_some();
-        if let Some(meeting) = heed(plan, &mut listener, watch) {
-            return Ok(Some(join(alloc, plan, listener, &meeting, watch.moment())?));
+        reception.hear(watch);
+        let came = reception.last().is_some();
+        if let Some(meeting) = heed(plan, reception, watch) {
+            return Ok(Some(join(alloc, plan, reception, &meeting, watch.moment())?));
         }
         let _ = tell(plan, errors, watch);
         watch.check_works()?;

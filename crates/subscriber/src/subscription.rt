@@ -12,7 +12,7 @@ ghost use Rattle.subscriber.specs.Images.{has_lost};
 ghost use Rattle.subscriber.specs.Leavings.{HasEnough, IsEnding, IsQuietEnding, IsSettled, LeavesFrom, LivesUnpolled, NotesHeard, StandsStill, enough_ending, of_bind};
 ghost use Rattle.subscriber.specs.Living.{Follows, LivesOn, Writes, WritesLife, WritesLives};
 ghost use Rattle.subscriber.specs.Losing.{AsksAnew, JudgesTurn, with_device};
-ghost use Rattle.subscriber.specs.Offers.{news_taken};
+ghost use Rattle.subscriber.specs.Offers.{news_taken, others_taken};
 ghost use Rattle.subscriber.specs.Telling.{TellsCounters, TellsLine, TellsUnfinished};
 ghost use Rattle.subscriber.specs.Standing.{HasAll, Stands};
 ghost use Rattle.subscriber.specs.Texts.{nobody_line, not_whole_line, unfinished_line};
@@ -27,8 +27,10 @@ use crate::fault::SubscribeFault;
 use crate::images::delivery::{CYCLE_MESSAGES, cycle};
 use crate::images::follower::Follower;
 use crate::images::session::{Session, Stand};
+use crate::images::sessions::Sessions;
 use crate::images::{Loss, Unheard};
 use crate::listening::listen;
+use crate::listening::reception::Reception;
 use crate::listening::setup_offer::{SetupOffer, id_of, meeting_of, opened};
 use crate::repeating::repeater::StatusRepeater;
 use crate::repeating::{Repeating, Slot};
@@ -111,8 +113,8 @@ fn tell_loss<E: Write>(errors: &mut E, session: i32, loss: Option<Loss>) -> io::
 }
 
 impl Subscription<'_> {
-    /// A cycle. The answer is how many messages were written in all, and whether there was work: messages, an image that got
-    /// further, or strangers. Heartbeats and answers to them are none, so that the thread rests between them.
+    /// A cycle. The answer is how many messages were written in all, and whether there was work: messages, or an image that
+    /// got further. Heartbeats and answers to them are none, so that the thread rests between them.
     fn cycle_once<W: Write>(
         &self,
         session: &mut Session,
@@ -136,7 +138,6 @@ impl Subscription<'_> {
         ensures same { session.new ≡ record session.old { follower = session.new.follower; duty = session.new.duty; watch = session.new.watch } }
     {
         let before = session.duty.device().notes().frames;
-        let passed = session.duty.device().tied().strangers();
         let stood = session.follower.subscriber.positions();
         let most = (self.plan.messages - written).min(CYCLE_MESSAGES as u64) as usize;
         let done = cycle(
@@ -150,8 +151,7 @@ impl Subscription<'_> {
         session.note_heard(before);
         let all = written + done.messages as u64;
         let moved = session.follower.subscriber.positions() != stood;
-        let stirred = session.duty.device().tied().strangers() != passed;
-        Ok((all, (done.messages > 0) | moved | stirred))
+        Ok((all, (done.messages > 0) | moved))
     }
 
     /// A turn up to where a loss is judged: how many messages were written in all, whether there was work, and where it stands.
@@ -258,9 +258,9 @@ impl Subscription<'_> {
     }
 
     /// Asks the peer, at a frame, for a SETUP under the id of the next image, where what the image lacks doesn't come.
-    fn ask_anew(&self, session: &mut Session)
-        ensures asks { AsksAnew self.now.plan session.old session.new }
-        ensures same { session.new ≡ with_device session.old session.new.duty.device }
+    fn ask_anew(&self, session: &Session, reception: &mut Reception)
+        ensures asks { AsksAnew self.now.plan session.now reception.old.socket reception.new.socket }
+        ensures same { reception.new ≡ record reception.old { socket = reception.new.socket } }
     {
         if session.ended || !session.watch.is_behind() || !session.watch.is_hearing() {
             return;
@@ -270,7 +270,7 @@ impl Subscription<'_> {
         };
         let next = session.images.next(None);
         let status = asking(&frame.header(), id_of(&self.plan, next.number));
-        session.duty.device_mut().ask_peer(status);
+        reception.ask(session.peer(), status);
     }
 
     /// Opens a new image in the place of one, behind which this is missing.
@@ -375,15 +375,20 @@ impl Subscription<'_> {
     /// while the session isn't silent, only its peer's own does, if what the image lacks doesn't come and it lies above what is
     /// rebuilt. Of a silent session one of the same shape that isn't behind what was rebuilt makes who sent it the peer, and the
     /// image goes on; any other opens a new one. The fault is that memory was refused; then nothing was opened.
-    fn attend<E: Write>(&self, session: &mut Session, errors: &mut E) -> Result<(), SubscribeFault>
-        ensures attends { OnOk result (Attends self.now.plan session.old session.new) }
-        ensures kept { OnErr result (session.new.follower.subscriber ≡ session.old.follower.subscriber) }
-        ensures size { session.new.duty.mtu ≡ session.old.duty.mtu }
+    fn attend<E: Write>(
+        &self,
+        sessions: &mut Sessions,
+        errors: &mut E,
+    ) -> Result<(), SubscribeFault>
+        ensures attends { OnOk result (Attends self.now.plan sessions.old.reception.offer sessions.old.session sessions.new.session) }
+        ensures left { sessions.new.reception ≡ others_taken sessions.old.session.duty.device.notes.setup sessions.old.reception }
+        ensures kept { OnErr result (sessions.new.session.follower.subscriber ≡ sessions.old.session.follower.subscriber) }
+        ensures size { sessions.new.session.duty.mtu ≡ sessions.old.session.duty.mtu }
     {
-        if let Some(offer) = session.duty.device_mut().offered() {
-            self.consider(session, offer, errors)?;
+        if let Some(offer) = sessions.offered() {
+            self.consider(&mut sessions.session, offer, errors)?;
         }
-        session.watch.attend();
+        sessions.session.watch.attend();
         Ok(())
     }
 
@@ -401,42 +406,49 @@ impl Subscription<'_> {
     fn follow<R: Wait + Clock, W: Write, E: Write>(
         &self,
         rt: &R,
-        session: &mut Session,
+        sessions: &mut Sessions,
         output: &mut W,
         errors: &mut E,
         watch: &mut Watch,
     ) -> Result<(u64, Ending), SubscribeFault>
-        requires size { session.old.duty.mtu ≡ REPLY }
-        requires begun { Follows self.now.plan (W.contents output.old) 0 session.old.images session.old.follower (W.contents output.old) }
-        requires going { session.old.ended ≡ false }
-        requires fresh { session.old.watch ≡ beginning session.old.watch.moment }
-        ensures size { session.new.duty.mtu ≡ REPLY }
+        requires size { sessions.old.session.duty.mtu ≡ REPLY }
+        requires begun { Follows self.now.plan (W.contents output.old) 0 sessions.old.session.images sessions.old.session.follower (W.contents output.old) }
+        requires going { sessions.old.session.ended ≡ false }
+        requires fresh { sessions.old.session.watch ≡ beginning sessions.old.session.watch.moment }
+        ensures size { sessions.new.session.duty.mtu ≡ REPLY }
         ensures few { IfOk result (λ r. r.0 ≤ self.now.plan.messages) }
-        ensures ended { IfOk result (λ r. EndsSo self.now.plan r.0 session.new.watch session.new.follower.subscriber session.new.follower.end (has_lost session.new.lost session.new.images) r.1) }
+        ensures ended { IfOk result (λ r. EndsSo self.now.plan r.0 sessions.new.session.watch sessions.new.session.follower.subscriber sessions.new.session.follower.end (has_lost sessions.new.session.lost sessions.new.session.images) r.1) }
         ensures writes { IfOk result (λ r. Writes self.now.plan.end.form 0 (W.contents output.old) r.0 (W.contents output.new)) }
         // In each turn, but in the last one, what came of SETUPs was attended.
-        ensures attended { IfOk result (λ _. AttendsEach session.new.watch) }
+        ensures attended { IfOk result (λ _. AttendsEach sessions.new.session.watch) }
         // In each turn, the last one too, it was noted what the image lacks, and judged by that whether it is lost.
-        ensures judged { IfOk result (λ _. JudgesEach session.new.watch) }
+        ensures judged { IfOk result (λ _. JudgesEach sessions.new.session.watch) }
         // What its images gave, each in its turn.
-        ensures lives { IfOk result (λ r. Follows self.now.plan (W.contents output.old) r.0 session.new.images session.new.follower (W.contents output.new)) }
-        ensures broken { OnErr result (BreaksLife self.now.plan (W.contents output.old) session.new.follower.subscriber (W.contents output.new)) }
+        ensures lives { IfOk result (λ r. Follows self.now.plan (W.contents output.old) r.0 sessions.new.session.images sessions.new.session.follower (W.contents output.new)) }
+        ensures broken { OnErr result (BreaksLife self.now.plan (W.contents output.old) sessions.new.session.follower.subscriber (W.contents output.new)) }
     {
         let mut written: u64 = 0;
         let mut idle = IdleStrategy::new();
         for _ in rt.forever() {
             watch.see(rt)?;
-            session.watch.begin_turn(watch.moment());
-            let (all, busy, stand) = self.look(session, output, errors, watch, written)?;
+            sessions.session.watch.begin_turn(watch.moment());
+            let passed = sessions.read(self.alloc, watch)?;
+            let (all, busy, stand) = self.look(
+                &mut sessions.session,
+                output,
+                errors,
+                watch,
+                written,
+            )?;
             written = all;
-            let _ = self.tell(session, errors, watch, written);
-            if let Some(ending) = self.ending_of(session, written, &stand) {
+            let _ = self.tell(&sessions.session, errors, watch, written);
+            if let Some(ending) = self.ending_of(&sessions.session, written, &stand) {
                 return Ok((written, ending));
             }
-            self.ask_anew(session);
-            self.attend(session, errors)?;
-            self.tell_news(rt, session);
-            idle.after(rt, busy);
+            self.ask_anew(&sessions.session, &mut sessions.reception);
+            self.attend(sessions, errors)?;
+            self.tell_news(rt, &mut sessions.session);
+            idle.after(rt, busy || passed);
         }
         unreachable!()
     }
@@ -503,31 +515,32 @@ impl Subscription<'_> {
     fn follow_all<R: Wait + Clock, W: Write, E: Write>(
         &self,
         rt: &R,
-        session: &mut Session,
+        sessions: &mut Sessions,
         output: &mut W,
         errors: &mut E,
         watch: &mut Watch,
     ) -> Result<Subscribed, SubscribeFault>
-        requires size { session.old.duty.mtu ≡ REPLY }
-        requires begun { Follows self.now.plan (W.contents output.old) 0 session.old.images session.old.follower (W.contents output.old) }
-        requires going { session.old.ended ≡ false }
-        requires fresh { session.old.watch ≡ beginning session.old.watch.moment }
+        requires size { sessions.old.session.duty.mtu ≡ REPLY }
+        requires begun { Follows self.now.plan (W.contents output.old) 0 sessions.old.session.images sessions.old.session.follower (W.contents output.old) }
+        requires going { sessions.old.session.ended ≡ false }
+        requires fresh { sessions.old.session.watch ≡ beginning sessions.old.session.watch.moment }
         ensures few { IfOk result (λ s. s.messages ≤ self.now.plan.messages) }
         ensures short { IfOk result (λ s. s.ending ≡ Short → IsTrue self.now.plan.once) }
         ensures writes { IfOk result (λ s. Writes self.now.plan.end.form 0 (W.contents output.old) s.messages (W.contents output.new)) }
-        ensures lives { IfOk result (λ s. WritesLife self.now.plan (W.contents output.old) s.messages session.new.images session.new.follower.subscriber (W.contents output.new)) }
+        ensures lives { IfOk result (λ s. WritesLife self.now.plan (W.contents output.old) s.messages sessions.new.session.images sessions.new.session.follower.subscriber (W.contents output.new)) }
         ensures ended { IfOk result (λ s. EndsWithImage self.now.plan (W.contents output.old) s (W.contents output.new)) }
-        ensures broken { OnErr result (BreaksLife self.now.plan (W.contents output.old) session.new.follower.subscriber (W.contents output.new)) }
+        ensures broken { OnErr result (BreaksLife self.now.plan (W.contents output.old) sessions.new.session.follower.subscriber (W.contents output.new)) }
     {
-        let id = SessionId(session.opening.session);
-        let _ = tell(errors, Line::Joined(id, session.place()));
+        let id = SessionId(sessions.session.opening.session);
+        let _ = tell(errors, Line::Joined(id, sessions.session.place()));
         let opened = watch.moment();
-        let followed = self.follow(rt, session, output, errors, watch);
+        let followed = self.follow(rt, sessions, output, errors, watch);
+        let session = &mut sessions.session;
         self.slot.end(rt);
         let _ = tell_refused(
             errors,
             session.follower.subscriber.refused(),
-            session.strangers(watch),
+            watch.strangers(),
         );
         let (messages, ending) = followed?;
         let _ = self.tell_last(session, errors, watch, messages);
@@ -541,7 +554,7 @@ impl Subscription<'_> {
     fn listen_and_follow<R: Wait + Clock, W: Write, E: Write>(
         &self,
         rt: &R,
-        listener: Listener,
+        mut reception: Reception,
         output: &mut W,
         errors: &mut E,
         watch: &mut Watch,
@@ -553,7 +566,7 @@ impl Subscription<'_> {
         ensures short { IfOk result (λ s. s.ending ≡ Short → IsTrue self.now.plan.once) }
         ensures ended { IfOk result (λ s. HasEnded self.now.plan (W.contents output.old) s (W.contents output.new)) }
     {
-        match listen(rt, self.alloc, &self.plan, listener, errors, watch)? {
+        match listen(rt, self.alloc, &self.plan, &mut reception, errors, watch)? {
             None => {
                 let _ = tell_refused(errors, FaultCounts::new(), watch.strangers());
                 let _ = self.tell_nobody_there(errors);
@@ -562,7 +575,10 @@ impl Subscription<'_> {
                     ending: self.quiet_ending(),
                 })
             }
-            Some(mut session) => self.follow_all(rt, &mut session, output, errors, watch),
+            Some(session) => {
+                let mut sessions = Sessions { session, reception };
+                self.follow_all(rt, &mut sessions, output, errors, watch)
+            }
         }
     }
 }
@@ -610,7 +626,8 @@ pub fn subscribe<R: Threads + Wait + Clock + Net + Copy + Send + 'static, W: Wri
         plan: *plan,
         slot: repeating.slot(),
     };
-    let done = subscription.listen_and_follow(rt, listener, output, errors, &mut watch);
+    let reception = Reception::new(listener);
+    let done = subscription.listen_and_follow(rt, reception, output, errors, &mut watch);
     repeating.end(rt);
     done
 }

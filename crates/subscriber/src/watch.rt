@@ -91,14 +91,14 @@ impl Watch {
         self.moment
     }
 
-    /// How many datagrams of strangers there were before an image. At the greatest `u64` it stays.
+    /// How many datagrams of strangers there were. At the greatest `u64` it stays.
     pub fn strangers(&self) -> u64
         ensures { result ≡ self.now.strangers }
     {
         self.strangers
     }
 
-    /// How many calls of the socket failed before an image. At the greatest `u64` it stays.
+    /// How many calls that read the socket failed. At the greatest `u64` it stays.
     pub fn lost(&self) -> u64
         ensures { result ≡ self.now.lost }
     {
@@ -127,14 +127,14 @@ impl Watch {
         self.worked = self.moment;
     }
 
-    /// A call of the socket failed before an image.
+    /// A call that reads the socket failed.
     pub(crate) fn lose(&mut self)
         ensures { self.new ≡ losing self.old }
     {
         self.lost = self.lost.saturating_add(1);
     }
 
-    /// A datagram before an image was a stranger's.
+    /// A datagram was a stranger's.
     pub(crate) fn count_stranger(&mut self)
         ensures { self.new ≡ with_stranger self.old }
     {

@@ -1,6 +1,6 @@
 //! A session that a subscriber follows.
 
-ghost use Rattle.std.specs.Prelude.{◌≡◌, ◌≢◌, ◌≤◌, ◌↔◌, ◌+◌, ◌-◌, ◌^◌, min, ℕ, IfErr, IfOk, IsTrue, OnErr, OnOk};
+ghost use Rattle.std.specs.Prelude.{◌≡◌, ◌≢◌, ◌≤◌, ◌↔◌, ℕ, IfErr, IfOk, IsTrue, OnErr, OnOk};
 ghost use Rattle.std.specs.Io.KnownBytes.{Appends};
 ghost use Rattle.endpoint.specs.declared.device_error.DeviceError.TheVariants.{Device};
 ghost use Rattle.receiver.specs.Receiving.{Receiver};
@@ -140,7 +140,7 @@ impl Session {
     pub(crate) fn peer(&self) -> SocketAddr
         ensures { result ≡ self.now.duty.device.inner.inner.inner.peer }
     {
-        self.duty.device().tied().peer()
+        self.duty.device().peer()
     }
 
     /// Notes that a frame of the session came, where the device has counted another number than before.
@@ -155,14 +155,14 @@ impl Session {
         }
     }
 
-    /// How many calls of the socket have worked.
+    /// How many datagrams were sent.
     pub(crate) fn calls_worked(&self) -> u64
         ensures { result ≡ self.now.duty.device.inner.inner.worked }
     {
         self.duty.device().inner().inner().worked()
     }
 
-    /// Notes whether a call of the socket worked since so many had. The fault comes where none has for 5 seconds.
+    /// Notes whether one was sent since so many were. The fault comes where no call of the socket has worked for 5 seconds.
     pub(crate) fn check_works(&self, watch: &mut Watch, before: u64) -> Result<(), DeviceError>
         ensures noted { NotesWork before self.now.duty.device.inner.inner.worked watch.old watch.new }
         ensures moment { watch.new.moment ≡ watch.old.moment }
@@ -322,14 +322,6 @@ impl Session {
         tell(errors, Line::Another(SessionId(session), meeting.from))
     }
 
-    /// How many datagrams of strangers there were in all.
-    pub(crate) fn strangers(&self, watch: &Watch) -> u64
-        ensures { result ≡ min (watch.now.strangers + self.now.duty.device.inner.inner.inner.strangers) (2 ^ 64 - 1) }
-    {
-        let strangers = self.duty.device().tied().strangers();
-        watch.strangers().saturating_add(strangers)
-    }
-
     /// What the counters show behind so many messages, of which so many came since they were told last.
     fn counts(&self, watch: &Watch, written: u64, since: u64) -> Counts
         ensures { AreCounts self.now watch.now written since result }
@@ -341,7 +333,7 @@ impl Session {
             since,
             naks: device.naks(),
             lost: watch.lost().saturating_add(lost),
-            strangers: self.strangers(watch),
+            strangers: watch.strangers(),
             refused: self.follower.subscriber.refused(),
         }
     }

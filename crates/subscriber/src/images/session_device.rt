@@ -1,20 +1,60 @@
-//! A device that notes what it hears of a session.
+//! A device of a session: it takes what was routed to it, and sends.
 
-ghost use Rattle.std.specs.Prelude.{◌≡◌, IfOk, IfSome, OnErr, option_map};
-ghost use Rattle.theory.specs.Wire.{IsHeader, SM};
-ghost use Rattle.endpoint.specs.Calls.{Receives, Sends};
-ghost use Rattle.endpoint.specs.Devices.{NeverFall};
-ghost use Rattle.frames.specs.Frames.{header_of, setup_of, status_of};
-ghost use Rattle.subscriber.specs.Hearings.{HearsFound, NotesDatagram, after_sending, following, frames_after, is_own, last_after, latest, noted_after, turned_to};
-ghost use Rattle.subscriber.specs.Offers.{IsOffered, asked_by, news_of, news_taken, offer_taken, setup_taken, tied_anew};
+ghost use Rattle.std.specs.Prelude.{◌≡◌, ◌↔◌, length, min, take, IfOk, IfSome, IsOk, IsTrue, OnErr, OnOk, option_map};
+ghost use Rattle.theory.specs.Wire.{IsHeader};
+ghost use Rattle.endpoint.specs.Calls.{Fills, Receives, Sends};
+ghost use Rattle.endpoint.specs.Devices.{HasGrown, NeverFall, counted};
+ghost use Rattle.frames.specs.Frames.{header_of};
+ghost use Rattle.subscriber.specs.FirstFrames.{NamesNoOther, TellsFirst, named_first};
+ghost use Rattle.subscriber.specs.Hearings.{Takes, after_sending, device_of, following, frames_after, is_own, last_after, latest, noted_after, notes_after, turned_to, with_routed};
+ghost use Rattle.subscriber.specs.Offers.{news_of, news_taken, tied_anew};
+ghost use Rattle.subscriber.specs.Routing.{IsOf};
 
-use crate::listening::first_frame::{HeardFrame, first_frame};
+use crate::listening::first_frame::{FirstFrame, HeardFrame};
 use endpoint::{Datagrams, DeviceFailed};
-use frames::{Header, Setup, Status};
+use frames::{Header, Setup};
 use loss_injector::Lossy;
-use peer::{PatientDevice, STATUS_BYTES, TiedDevice};
+use peer::{PatientDevice, PeerDevice, STATUS_BYTES};
+use std::alloc::{AllocError, Global};
+use std::collections::VecDeque;
 use std::marker::Model;
 use std::net::SocketAddr;
+
+/// How many datagrams wait at the most: as many as a cycle takes.
+const MOST_WAITING: usize = 16;
+
+/// A datagram, and what stands first in it.
+#[derive(Drop)]
+pub struct RoutedDatagram {
+    first: FirstFrame,
+    bytes: Vec<u8>,
+}
+
+impl Model for RoutedDatagram {
+    ghost use Rattle.subscriber.specs.FirstFrames.{TellsFirst};
+    ghost use Rattle.subscriber.specs.Hearings.{Routed};
+
+    ghost Value = { Routed };
+
+    ghost view = { λ r. record { first = r.first; bytes = r.bytes.items } };
+
+    ghost invariant = { λ r. TellsFirst r.bytes.items r.first };
+}
+
+impl RoutedDatagram {
+    /// A copy of a datagram, in which this stands first.
+    pub fn new(
+        alloc: Global,
+        first: FirstFrame,
+        datagram: &[u8],
+    ) -> Result<RoutedDatagram, AllocError>
+        requires { TellsFirst datagram.now first }
+        ensures { IfOk result (λ r. r ≡ record { first = first; bytes = datagram.now }) }
+    {
+        let bytes = Vec::from_slice(alloc, datagram)?;
+        Ok(RoutedDatagram { first, bytes })
+    }
+}
 
 /// The bytes of a negative acknowledgement: no other frame that a receiver sends has so many.
 const NAK_BYTES: usize = 28;
@@ -26,7 +66,7 @@ pub struct Notes {
     pub frames: u64,
     /// The last of these frames.
     pub last: Option<HeardFrame>,
-    /// The last SETUP, of any session, until it is taken.
+    /// The last SETUP of its peer, until it is taken.
     pub setup: Option<Setup>,
 }
 
@@ -86,15 +126,18 @@ pub enum PendingStatus {
     Cleared,
 }
 
-/// A device that notes what it hears of a session, and what it is given to send, whether the one behind it takes that or not.
+/// A device that takes what was routed to it of a session, and notes that, and what it is given to send, whether the one by which
+/// it sends takes that or not.
 #[derive(Drop)]
 pub struct SessionDevice<D> {
     inner: D,
+    inbox: VecDeque<RoutedDatagram>,
     session: i32,
     stream: i32,
     notes: Notes,
     naks: u64,
     noted: PendingStatus,
+    nones: u64,
 }
 
 impl<D> Model for SessionDevice<D> {
@@ -102,7 +145,7 @@ impl<D> Model for SessionDevice<D> {
 
     ghost Value = { Following D };
 
-    ghost view = { λ f. record { inner = f.inner; session = f.session; stream = f.stream; notes = f.notes; naks = f.naks; noted = f.noted } };
+    ghost view = { λ f. record { inner = f.inner; inbox = f.inbox.items; session = f.session; stream = f.stream; notes = f.notes; naks = f.naks; noted = f.noted; nones = f.nones } };
 }
 
 /// Whether a header is of the session's stream.
@@ -112,6 +155,16 @@ fn is_own(session: i32, stream: i32, header: Option<Header>) -> bool
     match header {
         None => false,
         Some(header) => header.session == session && header.stream == stream,
+    }
+}
+
+/// Whether what stands first in a datagram names no other session than this one.
+fn names_no_other(first: &FirstFrame, session: i32) -> bool
+    ensures { IsTrue result ↔ NamesNoOther (named_first first.now) session }
+{
+    match first.session() {
+        None => true,
+        Some(named) => named == session,
     }
 }
 
@@ -146,31 +199,30 @@ impl Notes {
 
     /// Notes a SETUP, if one came.
     fn note_setup(&mut self, found: Option<Setup>)
-        ensures last { option_map setup_of self.new.setup ≡ latest (option_map setup_of self.old.setup) (option_map setup_of found) }
-        ensures same { self.new ≡ record self.old { setup = self.new.setup } }
+        ensures { self.new ≡ record self.old { setup = latest self.old.setup found } }
     {
         if let Some(setup) = found {
             self.setup = Some(setup);
         }
     }
 
-    /// Notes what a datagram tells of a session's stream.
-    fn note(&mut self, session: i32, stream: i32, datagram: &[u8])
-        ensures { NotesDatagram session stream datagram.now self.old self.new }
+    /// Notes what stands first in a datagram.
+    fn note(&mut self, session: i32, stream: i32, first: &FirstFrame)
+        ensures { self.new ≡ notes_after session stream first.now self.old }
     {
-        let first = first_frame(datagram);
         self.note_header(session, stream, first.header());
         self.note_setup(first.setup());
     }
 }
 
 impl<D> SessionDevice<D> {
-    /// A device round this one that has heard nothing of a session's stream yet.
-    pub fn new(inner: D, session: i32, stream: i32) -> SessionDevice<D>
+    /// A device that sends by this one, and has heard nothing of a session's stream yet.
+    pub fn new(alloc: Global, inner: D, session: i32, stream: i32) -> SessionDevice<D>
         ensures { result ≡ following inner session stream }
     {
         SessionDevice {
             inner,
+            inbox: VecDeque::new(alloc),
             session,
             stream,
             notes: Notes {
@@ -180,10 +232,11 @@ impl<D> SessionDevice<D> {
             },
             naks: 0,
             noted: PendingStatus::Nothing,
+            nones: 0,
         }
     }
 
-    /// The device behind it.
+    /// The device by which it sends.
     pub fn inner(&self) -> &D
         ensures { result.now ≡ self.now.inner }
     {
@@ -211,17 +264,59 @@ impl<D> SessionDevice<D> {
     {
         self.notes.setup.take()
     }
+
+    /// Whether no more is to be routed to it before it has taken something.
+    pub(crate) fn is_full(&self) -> bool {
+        self.inbox.len() >= MOST_WAITING
+    }
+
+    /// Gets a datagram that is the session's. Where memory is refused it's lost.
+    pub(crate) fn route(&mut self, routed: RoutedDatagram) -> Result<(), AllocError>
+        ensures routed { OnOk result (self.new ≡ with_routed self.old routed) }
+        ensures lost { OnErr result (self.new ≡ self.old) }
+    {
+        match self.inbox.push_back(routed) {
+            Ok(()) => Ok(()),
+            Err(_) => Err(AllocError),
+        }
+    }
+
+    /// Counts a receive that finds nothing.
+    fn find_none(&mut self)
+        ensures counted { self.new ≡ record self.old { nones = counted self.old.nones } }
+        ensures grown { HasGrown self.old.nones self.new.nones }
+    {
+        self.nones = self.nones.saturating_add(1);
+    }
+}
+
+/// Copies a datagram to a buffer's front, as far as there is room. How many bytes that were.
+fn copy_front(datagram: &[u8], buffer: &mut [u8]) -> usize
+    ensures size { result ≡ min (length datagram.now) (length buffer.old) }
+    ensures front { take result buffer.new ≡ take result datagram.now }
+    ensures filled { Fills result buffer.old buffer.new }
+{
+    let length = datagram.len().min(buffer.len());
+    buffer[..length].copy_from_slice(&datagram[..length]);
+    length
 }
 
 /// The device of a session.
-pub type SubscriberDevice = SessionDevice<Lossy<PatientDevice<TiedDevice>>>;
+pub type SubscriberDevice = SessionDevice<Lossy<PatientDevice<PeerDevice>>>;
 
 impl SubscriberDevice {
-    /// The device that is tied to the peer.
-    pub(crate) fn tied(&self) -> &TiedDevice
-        ensures { result.now ≡ self.now.inner.inner.inner }
+    /// Its peer.
+    pub(crate) fn peer(&self) -> SocketAddr
+        ensures { result ≡ self.now.inner.inner.inner.peer }
     {
-        self.inner.inner().inner()
+        self.inner.inner().inner().peer()
+    }
+
+    /// Whether a datagram that this one sent is of its session, by what stands first in it.
+    pub(crate) fn is_of(&self, from: SocketAddr, first: &FirstFrame) -> bool
+        ensures { IsTrue result ↔ IsOf self.now from first.now }
+    {
+        from == self.peer() && names_no_other(first, self.session)
     }
 
     /// Makes this the peer. What was sent to the one before is of no use any more.
@@ -229,8 +324,8 @@ impl SubscriberDevice {
         ensures { self.new ≡ tied_anew self.old peer }
     {
         let patient = self.inner.inner_mut();
-        let tied = patient.inner_mut();
-        tied.tie(peer);
+        let device = patient.inner_mut();
+        device.turn_to(peer);
         self.noted = PendingStatus::Cleared;
     }
 
@@ -239,39 +334,10 @@ impl SubscriberDevice {
         ensures { self.new ≡ turned_to (tied_anew self.old peer) session }
     {
         self.tie(peer);
+        self.inbox.clear();
         self.session = session;
         self.notes.last = None;
         self.notes.setup = None;
-    }
-
-    /// Asks the peer for a SETUP, with this status message.
-    pub(crate) fn ask_peer(&mut self, status: Status)
-        ensures { self.new ≡ asked_by self.old (SM 128 (status_of status)) }
-    {
-        let patient = self.inner.inner_mut();
-        let tied = patient.inner_mut();
-        tied.ask(status);
-    }
-
-    /// Takes a SETUP that came, with who sent it: the peer's last one, if one did since, else the first that is kept of others.
-    pub(crate) fn offered(&mut self) -> Option<(SocketAddr, Setup)>
-        ensures offered { IsOffered self.old.notes.setup self.old.inner.inner.inner result }
-        ensures taken { self.new ≡ setup_taken self.old }
-    {
-        match self.take_setup() {
-            Some(setup) => Some((self.tied().peer(), setup)),
-            None => self.take_offer(),
-        }
-    }
-
-    /// Takes the first SETUP that is kept of others than the peer.
-    fn take_offer(&mut self) -> Option<(SocketAddr, Setup)>
-        ensures offered { result ≡ self.old.inner.inner.inner.offer }
-        ensures taken { self.new ≡ offer_taken self.old }
-    {
-        let patient = self.inner.inner_mut();
-        let tied = patient.inner_mut();
-        tied.take_offer()
     }
 
     /// Takes what is new of its status messages since this was called last.
@@ -282,7 +348,7 @@ impl SubscriberDevice {
         let news = match self.noted {
             PendingStatus::Nothing => return None,
             PendingStatus::Given(bytes) => StatusNews::Sent(SentStatus {
-                to: self.tied().peer(),
+                to: self.peer(),
                 bytes,
             }),
             PendingStatus::Cleared => StatusNews::Cleared,
@@ -293,19 +359,18 @@ impl SubscriberDevice {
 }
 
 impl<D: Datagrams> Datagrams for SessionDevice<D> {
-    ghost device = { λ f. D.device f.inner };
+    ghost device = { λ f. device_of (D.device f.inner) f.nones };
 
-    ghost tells = { λ f. D.tells f.inner };
+    ghost tells = { λ _. ⊥ };
 
     ghost lives_still = { λ _. tt };
 
     ghost lives_on = { λ _ _ _ _ _. tt };
 
-    /// Hands a datagram to the inner device.
+    /// Hands a datagram to the device by which it sends.
     fn send(&mut self, datagram: &[u8]) -> Result<(), DeviceFailed>
-        ensures counts { NeverFall (D.device self.old.inner) (D.device self.new.inner) }
-        ensures sends { Sends (D.tells self.old.inner) (D.device self.old.inner) datagram.now result (D.device self.new.inner) }
-        ensures still_tells { D.tells self.old.inner → D.tells self.new.inner }
+        ensures counts { NeverFall (device_of (D.device self.old.inner) self.old.nones) (device_of (D.device self.new.inner) self.new.nones) }
+        ensures sends { Sends ⊥ (device_of (D.device self.old.inner) self.old.nones) datagram.now result (device_of (D.device self.new.inner) self.new.nones) }
         ensures given { self.new ≡ after_sending self.old datagram.now self.new.inner }
     {
         if datagram.len() == NAK_BYTES {
@@ -315,20 +380,20 @@ impl<D: Datagrams> Datagrams for SessionDevice<D> {
         self.inner.send(datagram)
     }
 
+    /// Takes the oldest of what was routed to it.
     fn recv(&mut self, buffer: &mut [u8]) -> Result<Option<usize>, DeviceFailed>
-        ensures counts { NeverFall (D.device self.old.inner) (D.device self.new.inner) }
-        ensures receives { Receives (D.tells self.old.inner) (D.device self.old.inner) buffer.old result buffer.new (D.device self.new.inner) }
-        ensures still_tells { D.tells self.old.inner → D.tells self.new.inner }
-        ensures hears { IfOk result (λ found. HearsFound self.old found buffer.new self.new.notes) }
-        ensures failed { OnErr result (self.new.notes ≡ self.old.notes) }
-        ensures same { self.new ≡ record self.old { inner = self.new.inner; notes = self.new.notes } }
+        ensures counts { NeverFall (device_of (D.device self.old.inner) self.old.nones) (device_of (D.device self.new.inner) self.new.nones) }
+        ensures receives { Receives ⊥ (device_of (D.device self.old.inner) self.old.nones) buffer.old result buffer.new (device_of (D.device self.new.inner) self.new.nones) }
+        ensures never_fails { IsOk result }
+        ensures takes { IfOk result (λ found. Takes self.old found buffer.new self.new) }
     {
-        let found = self.inner.recv(buffer)?;
-        if let Some(length) = found {
-            let datagram = &buffer[..length];
-            self.notes.note(self.session, self.stream, datagram);
-        }
-        Ok(found)
+        let Some(routed) = self.inbox.pop_front() else {
+            self.find_none();
+            return Ok(None);
+        };
+        let length = copy_front(routed.bytes.as_slice(), buffer);
+        self.notes.note(self.session, self.stream, &routed.first);
+        Ok(Some(length))
     }
 
     fn failures(&self) -> u64 {
@@ -336,6 +401,6 @@ impl<D: Datagrams> Datagrams for SessionDevice<D> {
     }
 
     fn nones(&self) -> u64 {
-        self.inner.nones()
+        self.nones
     }
 }

@@ -3,7 +3,7 @@
 ghost use Rattle.std.specs.Prelude.{◌≡◌, option_map, IfSome};
 ghost use Rattle.frames.specs.Frames.{header_of, setup_of, wire};
 ghost use Rattle.peer.specs.Setups.{setup_told};
-ghost use Rattle.subscriber.specs.FirstFrames.{TellsFirst, header_first, setup_first};
+ghost use Rattle.subscriber.specs.FirstFrames.{TellsFirst, header_first, named_first, setup_first};
 ghost use Rattle.subscriber.specs.Meetings.{header_told};
 ghost use Rattle.theory.specs.Wire.{IsFrame, IsHeader};
 
@@ -111,6 +111,17 @@ impl FirstFrame {
         match self {
             FirstFrame::Heard(frame) => Some(frame.header()),
             _ => None,
+        }
+    }
+
+    /// The session that it names, if it names one.
+    pub fn session(&self) -> Option<i32>
+        ensures { result ≡ named_first self.now }
+    {
+        match self {
+            FirstFrame::Heard(frame) => Some(frame.header().session),
+            FirstFrame::Setup(setup) => Some(setup.session),
+            FirstFrame::Other => None,
         }
     }
 

@@ -2,4 +2,4 @@ use Rattle.std.proofs.Common.{◌≡◌}
 use Rattle.subscriber.proofs.listening.listen.Given as goal
 
 abbrev pub invariant-loop : goal.invariant-loop
-invariant-loop g l = l.initial.listener.asks ≡ l.initial.watch.calls → l.listener.asks ≡ l.watch.calls
+invariant-loop g l = l.initial.reception.socket.asks ≡ l.initial.watch.calls → l.reception.socket.asks ≡ l.watch.calls

@@ -5,4 +5,4 @@ use Rattle.subscriber.specs.Watches.{JudgesEach}
 use Rattle.subscriber.proofs.subscription.Subscription.follow.Given as goal
 
 abbrev pub invariant-loop : goal.invariant-loop
-invariant-loop g l = (l.session.duty.mtu ≡ 40) × (l.written ≤ l.self.plan.messages) × Writes l.self.plan.end.form 0 (g.W.Write.contents l.initial.output) l.written (g.W.Write.contents l.output) × Follows l.self.plan (g.W.Write.contents l.initial.output) l.written l.session.images l.session.follower (g.W.Write.contents l.output) × (IsTrue l.session.ended → HasAnswered l.session.follower.subscriber) × (l.session.watch.turns ≡ l.session.watch.attended) × JudgesEach l.session.watch
+invariant-loop g l = (l.sessions.session.duty.mtu ≡ 40) × (l.written ≤ l.self.plan.messages) × Writes l.self.plan.end.form 0 (g.W.Write.contents l.initial.output) l.written (g.W.Write.contents l.output) × Follows l.self.plan (g.W.Write.contents l.initial.output) l.written l.sessions.session.images l.sessions.session.follower (g.W.Write.contents l.output) × (IsTrue l.sessions.session.ended → HasAnswered l.sessions.session.follower.subscriber) × (l.sessions.session.watch.turns ≡ l.sessions.session.watch.attended) × JudgesEach l.sessions.session.watch

@@ -13,12 +13,12 @@ returns-clause-lives g c =
 
 pub returns-clause-ended : goal.returns-clause-ended
 returns-clause-ended g c = record {
-  images = c.follow-followed.new.session.images;
-  newest = c.follow-followed.new.session.follower;
+  images = c.follow-followed.new.sessions.session.images;
+  newest = c.follow-followed.new.sessions.session.follower;
   follows = c.in_ok-messages.ensures.lives;
   told = told_end _ _ _ _ _ _ c.in_ok-messages.ensures.lives;
-  seen = c.follow-followed.new.session.watch;
-  lost = c.follow-followed.new.session.lost;
+  seen = c.follow-followed.new.sessions.session.watch;
+  lost = c.follow-followed.new.sessions.session.lost;
   ends = c.in_ok-messages.ensures.ended;
   unlost = whole_unlost _ _ _ _ _ _ c.in_ok-messages.ensures.lives _ _ _ c.in_ok-messages.ensures.ended;
 }
