@@ -19,3 +19,7 @@ mod Order
 mod Happening
 mod Imaged
 mod ImageRows
+mod Boards
+mod BoardSteps
+mod BoardCleanings
+mod BoardRuns

@@ -59,11 +59,11 @@ each_step_is_an_event key gone after s t e l q q' k y = one_step key gone s t l 
 
 -- ---- what the model keeps
 
-kept_run : (es : List LogEvent) (old new : Log) → IsKeptLog old → IsKeptRoom old → LogRun old es new → IsKeptLog new × IsKeptRoom new
+pub kept_run : (es : List LogEvent) (old new : Log) → IsKeptLog old → IsKeptRoom old → LogRun old es new → IsKeptLog new × IsKeptRoom new
 kept_run [] old new k r run = (subst IsKeptLog (sym run) k, subst IsKeptRoom (sym run) r)
 kept_run (e ∷ es) old new k r run = kept_run es run.0 new (log_step [] old e run.0 k run.1).kept (room_step [] old e run.0 (room_unit old k) r run.1) run.2
 
-opened_room : (l : Log) → IsOpened (alone l) → IsKeptRoom l
+pub opened_room : (l : Log) → IsOpened (alone l) → IsKeptRoom l
 opened_room l o =
     let g = l.identity.geometry in
     let claim : greatest_claim g ≤ g.term_length / 7 + 63 = claim_bound g o.geometry.mtu.unit o.geometry.mtu.least in
@@ -78,12 +78,12 @@ kept_alone l k = record {
   images = all_replicate (IfThere (KeptImage [])) 8 None tt;
 }
 
-holds : (l : Log) → IsKeptLog l → IsKeptRoom l → HeadlineHolds l
+pub holds : (l : Log) → IsKeptLog l → IsKeptRoom l → HeadlineHolds l
 holds l k r = let w = kept_alone l k in record { tiled = tiled (alone l) w; bounded = in_bounds (alone l) w; polled = polled (alone l) w; room = record { tail = r.within; limit = r.ahead } }
 
 -- ---- a list of steps
 
-steps_run : (key : Key) (es : List LogEvent) (gone after : List ℕ) (s t : State (Unit {0}) View) (l : Log) → LogRuled key s → IsModelOf key gone s l → Steps key gone s es t after → (m : Log) × LogRun l es m × IsModelOf key after t m
+pub steps_run : (key : Key) (es : List LogEvent) (gone after : List ℕ) (s t : State (Unit {0}) View) (l : Log) → LogRuled key s → IsModelOf key gone s l → Steps key gone s es t after → (m : Log) × LogRun l es m × IsModelOf key after t m
 steps_run key [] gone after s t l q k y = (l, refl, subst (λ (x : List ℕ × State (Unit {0}) View). IsModelOf key x.0 x.1 l) (λ i. (sym y.1 i, sym y.0 i)) k)
 steps_run key (e ∷ es) gone after s t l q k y =
     let one = one_step key gone s y.0 l q y.2 k y.1 e y.3 in let rest = steps_run key es y.1 after y.0 t one.0 y.2 one.2 y.4 in

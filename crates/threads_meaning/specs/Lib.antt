@@ -5,3 +5,4 @@ pub mod Law
 pub mod Order
 pub mod Row
 pub mod Images
+pub mod Running
