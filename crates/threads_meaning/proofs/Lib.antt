@@ -23,3 +23,4 @@ mod Boards
 mod BoardSteps
 mod BoardCleanings
 mod BoardRuns
+mod BoardSeats

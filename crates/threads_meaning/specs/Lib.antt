@@ -6,3 +6,4 @@ pub mod Order
 pub mod Row
 pub mod Images
 pub mod Running
+pub mod RunningSeats

@@ -35,4 +35,4 @@ pub use images::{image_steps_are_events, images_are_in_runs};
 pub use law::{
     commits_are_in_order, each_step_is_an_event, opens_as_model, steps_are_a_run, there_are_steps,
 };
-pub use running_log::running_log_is_a_model;
+pub use running_log::{running_log_is_a_model, running_seats_are_events};
