@@ -37,7 +37,7 @@ use Rattle.log_memory.specs.Steps.{Adds, AreApart, Commits, Gives, GivesRoom, Is
 use Rattle.log_memory.proofs.Facts.{pass_at}
 use Rattle.model.specs.Log.{Abort, Add, Arm, Close, Commit, Connect, Join, Leave, LogEvent, Look, Miss, Move, Raise, Rotate}
 use Rattle.threads_meaning.specs.Modelled.{is_handed, spelled}
-use Rattle.threads_meaning.specs.Running.{AddsOrMisses, ArmsOrLooks, Happen, IsOne, IsSingle, Makes, Means, MovesPast, stream_of}
+use Rattle.threads_meaning.specs.Running.{AddsOrMisses, ArmsOrLooks, Happen, IsOne, IsSingle, Makes, Means, MovesPast, Spells, stream_of}
 use Rattle.threads_meaning.specs.Steps.{ClosesBy, CommitsAt, CommitsFrame, ConnectsBy, IsNextFrame, IsOpen, RaisesTo, StepLimits, Turns, exchange_count as turn_count, exchange_next as turn_next, load_consumer, load_count as look_count, load_here, load_limit as look_limit, load_next as look_next, load_tail as look_tail}
 use Rattle.threads_meaning.proofs.Boards.{far_same, happens, is_far, load_same, looked, made, means, own, put_far, rested, turned}
 
@@ -150,9 +150,8 @@ module _ (k : StepsKeep) (t : Site) (gone : List ℕ) (id : ℕ) (m : Mine) (idl
 -- ---- a frame is committed
 
 module _ (t : Site) (p : ℕ) (ws : List ℕ) (m : Mine) (may : MayCommit t p ws m) where
-  -- it is the frame that its words spell
-  spelt : frame p may.cut ws ≡ spelled t.key.identity (record { at = p; frame = may.done.content })
-  spelt = (λ i. record { start = p; cut = may.done.whole i; words = may.done.spelt i })
+  pub spells : (f : Frame) × Spells t.key p may.cut ws f
+  spells = (may.done.content, record { legal = may.done.legal; is = (λ i. record { start = p; cut = sym may.done.whole i; words = sym may.done.spelt i }) })
 
   inside : 0 < length (blank p may.cut).words
   inside = let a = may.some in let e = may.long in omega arith
@@ -163,16 +162,16 @@ module _ (t : Site) (p : ℕ) (ws : List ℕ) (m : Mine) (may : MayCommit t p ws
       long : (n c : ℕ) → n ≡ aligned c / 8 → 0 < n → 0 < c
       long n c e pos = omega arith
 
-  commits_frame : (w : Mine) → Commits t p ws m w → CommitsFrame t.key p may.done.content m.0.view.pass w.0.view.pass
-  commits_frame w told = record {
+  commits_frame : (f : Frame) → Spells t.key p may.cut ws f → (w : Mine) → Commits t p ws m w → CommitsFrame t.key p f m.0.view.pass w.0.view.pass
+  commits_frame f words w told = record {
     front = may.front;
     draft = blank p may.cut;
     behind = may.behind;
     parts = may.drafts;
     inside = inside;
     position = refl;
-    legal = may.done.legal;
-    after = told.fills may.front may.cut may.behind some_cut may.drafts ∙ ap (λ (f : FrameWords). with_work (m.0.view.pass.work.frames ++ f ∷ []) (may.front ++ may.behind) m.0.view.pass) spelt;
+    legal = words.legal;
+    after = told.fills may.front may.cut may.behind some_cut may.drafts ∙ ap (λ (g : FrameWords). with_work (m.0.view.pass.work.frames ++ g ∷ []) (may.front ++ may.behind) m.0.view.pass) (sym words.is);
   }
 
 module _ (k : StepsKeep) (t : Site) (gone : List ℕ) (id p : ℕ) (ws : List ℕ) (m : Mine) (idle : IsIdle m.0) (may : MayCommit t p ws m) where
@@ -185,19 +184,19 @@ module _ (k : StepsKeep) (t : Site) (gone : List ℕ) (id p : ℕ) (ws : List �
   abbrev tells : ℕ → Mine → Type 0
   tells n w = Commits t p ws m w
 
-  commits_at : (s s' : Board) (y : Makes t s id m head puts tells s') → CommitsAt t.key (stream_of t s y.before) id m.0.view.pass p may.done.content (stream_of t s' y.after)
-  commits_at s s' y = record {
+  commits_at : (f : Frame) → Spells t.key p may.cut ws f → (s s' : Board) (y : Makes t s id m head puts tells s') → CommitsAt t.key (stream_of t s y.before) id m.0.view.pass p f (stream_of t s' y.after)
+  commits_at f words s s' y = record {
     i = head;
     x = slice_index ws 0;
     far = is_far (ring t) p;
-    turn = put_far t gone id m head puts tells s s' y (is_far (ring t) p) (slice_index ws 0) (λ w. CommitsFrame t.key p may.done.content m.0.view.pass w) (commits_frame t p ws m may y.mine y.told);
+    turn = put_far t gone id m head puts tells s s' y (is_far (ring t) p) (slice_index ws 0) (λ w. CommitsFrame t.key p f m.0.view.pass w) (commits_frame t p ws m may f words y.mine y.told);
   }
 
-  pub commit : (start : ℕ) → IsNextFrame m.0.view.pass start p may.done.content → Means t gone id m head puts tells (IsOne (Commit start may.done.content))
-  commit start next = means t gone id m head puts tells (k.commit t id p ws m idle may) (Commit start may.done.content) (λ s s' y. (refl, record { id = id; v = m.0.view.pass; p = p; step = commits_at s s' y; next = next }))
+  pub commit : (start : ℕ) (f : Frame) → Spells t.key p may.cut ws f → IsNextFrame m.0.view.pass start p f → Means t gone id m head puts tells (IsOne (Commit start f))
+  commit start f words next = means t gone id m head puts tells (k.commit t id p ws m idle may) (Commit start f) (λ s s' y. (refl, record { id = id; v = m.0.view.pass; p = p; step = commits_at f words s s' y; next = next }))
 
-  pub abort : (cut : ℕ) → IsSingle m.0.view.pass p cut → may.done.content ≡ Pad cut → Means t gone id m head puts tells (IsOne (Abort p))
-  abort cut one pad = means t gone id m head puts tells (k.commit t id p ws m idle may) (Abort p) (λ s s' y. (
+  pub abort : (cut : ℕ) → Spells t.key p may.cut ws (Pad cut) → IsSingle m.0.view.pass p cut → Means t gone id m head puts tells (IsOne (Abort p))
+  abort cut words one = means t gone id m head puts tells (k.commit t id p ws m idle may) (Abort p) (λ s s' y. (
     refl,
     record {
       id = id;
@@ -208,7 +207,7 @@ module _ (k : StepsKeep) (t : Site) (gone : List ℕ) (id p : ℕ) (ws : List �
       message = one.message;
       cut = cut;
       single = one.cuts;
-      step = subst (λ (f : Frame). CommitsAt t.key (stream_of t s y.before) id m.0.view.pass p f (stream_of t s' y.after)) pad (commits_at s s' y);
+      step = commits_at (Pad cut) words s s' y;
     },
   ))
 

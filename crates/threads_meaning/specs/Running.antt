@@ -6,15 +6,16 @@ use lib.ListN.{get_elem?}
 use prog.Atomic.{either}
 use Rattle.atomic_table.specs.Table.{State, opening}
 use Rattle.theory.specs.Bytes.{IsIdentity}
-use Rattle.theory.specs.Placed.{Among, Pad, Placed}
+use Rattle.theory.specs.Placed.{Among, Frame, Pad, Placed}
 use Rattle.theory.specs.Position.{framed_length, id_of, max_message}
 use Rattle.theory.specs.Refusal.{limit_in}
 use Rattle.theory.specs.Words.{id_before, id_in, tail_word}
+use Rattle.frame_words.specs.Words.{IsLegal}
 use Rattle.publication.specs.declared.pass.ClaimRange.{ClaimRange}
 use Rattle.publication.specs.declared.pass.FrameWords.{FrameWords}
 use Rattle.publication.specs.declared.pass.Pass.{Pass}
 use Rattle.publication.specs.declared.pass.Reading.{Reading}
-use Rattle.publication.specs.Steps.{geometry_of}
+use Rattle.publication.specs.Steps.{frame, geometry_of}
 use Rattle.region.specs.declared.access.Access.{Access}
 use Rattle.log_rule.specs.declared.claims.view.View.{View}
 use Rattle.log_rule.specs.declared.rule.Key.{Key}
@@ -101,6 +102,11 @@ cleanings least (suc n) = replicate (suc n) (Clean least)
 abbrev pub CleansUpTo : Pass → ℕ → ℕ → List LogEvent → Type 0
 CleansUpTo v end n events = events ≡ cleanings (least_there v.keeping.there v.keeping.positions) ((end - v.keeping.cleaned) / 8)
 
+-- the words of a frame of so many bytes, at a position, are those of this one
+pub record Spells (key : Key) (p cut : ℕ) (ws : List ℕ) (f : Frame) : Type 0 where
+  pub legal : IsLegal key.identity.geometry f
+  pub is : spelled key.identity (record { at = p; frame = f }) ≡ frame p cut ws
+
 -- a message's claim of one frame, which is so long, begins there
 pub record IsSingle (v : Pass) (p cut : ℕ) : Type 0 where
   pub claim : ClaimRange
@@ -127,10 +133,11 @@ pub record RunningSteps : Type 0 where
       → Means t gone id m count_place (λ n. either (n == k) (k + 1) n) (AdvancesCount k m) (IsOne Rotate)
   pub add : (t : Site) (gone : List ℕ) (id size : ℕ) (m : Mine) → IsIdle m.0 → 120 ≤ m.0.view.pass.right.parts → m.0.view.pass.right.armed ≡ 1 → size ≤ max_message (geometry_of m.0.view.pass)
       → Means t gone id m (tail_place m.0.view.pass.seen.term) (λ n. (n + framed_length (geometry_of m.0.view.pass) size) % 2 ^ 64) (Adds t size m) (AddsOrMisses m.0.view.pass size)
-  -- a frame that is the next of its claim is committed, or the only one of its claim as a padding
-  pub commit : (t : Site) (gone : List ℕ) (id p : ℕ) (ws : List ℕ) (m : Mine) → IsIdle m.0 → (may : MayCommit t p ws m) → (start : ℕ) → IsNextFrame m.0.view.pass start p may.done.content
-      → Means t gone id m (head_place (ring t) p) (λ _. slice_index ws 0) (λ _ w. Commits t p ws m w) (IsOne (Commit start may.done.content))
-  pub abort : (t : Site) (gone : List ℕ) (id p : ℕ) (ws : List ℕ) (m : Mine) → IsIdle m.0 → (may : MayCommit t p ws m) → (cut : ℕ) → IsSingle m.0.view.pass p cut → may.done.content ≡ Pad cut
+  -- what may be committed are a frame's words. One that is the next of its claim is committed, or the only one of its claim as a padding
+  pub spells : (t : Site) (p : ℕ) (ws : List ℕ) (m : Mine) (may : MayCommit t p ws m) → (f : Frame) × Spells t.key p may.cut ws f
+  pub commit : (t : Site) (gone : List ℕ) (id p : ℕ) (ws : List ℕ) (m : Mine) → IsIdle m.0 → (may : MayCommit t p ws m) → (start : ℕ) (f : Frame) → Spells t.key p may.cut ws f → IsNextFrame m.0.view.pass start p f
+      → Means t gone id m (head_place (ring t) p) (λ _. slice_index ws 0) (λ _ w. Commits t p ws m w) (IsOne (Commit start f))
+  pub abort : (t : Site) (gone : List ℕ) (id p : ℕ) (ws : List ℕ) (m : Mine) → IsIdle m.0 → (may : MayCommit t p ws m) → (cut : ℕ) → Spells t.key p may.cut ws (Pad cut) → IsSingle m.0.view.pass p cut
       → Means t gone id m (head_place (ring t) p) (λ _. slice_index ws 0) (λ _ w. Commits t p ws m w) (IsOne (Abort p))
   -- a consumer looks, gives back, and moves
   pub look : (t : Site) (gone : List ℕ) (id place : ℕ) (r : Reading) (m : Mine) (is : IsConsumer m.0.view.pass place r) → r.number < 8 → IsIdle m.0 → Means t gone id m (head_place (ring t) r.position) (λ n. n) (λ n w. Looks t place r m is n w) (IsOne Look)

@@ -5,10 +5,11 @@ ghost use Rattle.threads_meaning.specs.RunningSeats.{RunningSeats};
 
 use log_memory::{seats_keep, steps_keep};
 
-/// A law: so is a log that runs, whose words are the control words and one word for each unit of plain memory. A table that is
-/// under its rule is a log of the model where its stream is one; each kind of step that the running log makes may be made
-/// there, and is one event of the model, or so many where the keeper cleans; so it leads to a table that is again a log of the
-/// model, and the headline holds of it, from a log that opens, between any two steps.
+/// A law: a log that runs is a log of the model, between any two steps on its words. It has the control words, and a word for
+/// each unit of plain memory; the other words of its stream are there in proofs alone, and nothing that is said of the log
+/// depends on them. Each kind of step that it makes may be made wherever the rule holds. Wherever such a step was made, whatever
+/// came of it, it is one event of the model, or one for each word that the keeper knows to be zero by then. So it leads to a
+/// table that is again a log of the model; and from a log that opens, whatever such steps were made, the headline holds.
 pub fn running_log_is_a_model()
     ensures streams { TablesAreStreams }
     ensures steps { RunningSteps }

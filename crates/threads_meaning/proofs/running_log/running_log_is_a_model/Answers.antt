@@ -28,8 +28,9 @@ returns-clause-steps c = let k = c.steps_keep.ensures in record {
   exchange_next = λ t gone id m idle n from parts full low before. kinds.exchange_next k t gone id m idle n from parts full low before;
   exchange_count = λ t gone id m idle n parts begun. kinds.exchange_count k t gone id m idle n parts begun;
   add = λ t gone id size m idle parts armed le. kinds.add k t gone id m idle size parts armed le;
-  commit = λ t gone id p ws m idle may start next. kinds.commit k t gone id p ws m idle may start next;
-  abort = λ t gone id p ws m idle may cut one pad. kinds.abort k t gone id p ws m idle may cut one pad;
+  spells = λ t p ws m may. kinds.spells t p ws m may;
+  commit = λ t gone id p ws m idle may start f words next. kinds.commit k t gone id p ws m idle may start f words next;
+  abort = λ t gone id p ws m idle may cut words one. kinds.abort k t gone id p ws m idle may cut words one;
   look = λ t gone id place r m is low idle. kinds.look k t gone id m place r is low idle;
   reread = λ t gone id place r f m may idle. kinds.reread k t gone id m place r f may idle;
   give = λ t gone id i r f m may. kinds.give k t gone id m i r f may;
