@@ -1,5 +1,5 @@
 -- There are such steps.
-use Rattle.std.proofs.Common.{true, ◌≡◌, ◌≢◌, ◌⊎◌, inl, inr, ℕ, ◌+◌, ◌*◌, ◌%◌, ◌^◌, ◌<◌, ◌≤◌, List, [], ◌∷◌, ◌++◌, length, length-set, map, replicate, set, sym, refl, ap, ◌∙◌, subst, get_or-set_other, arith}
+use Rattle.std.proofs.Common.{◌≡◌, ◌≢◌, ◌⊎◌, inl, inr, ℕ, ◌+◌, ◌*◌, ◌%◌, ◌^◌, ◌<◌, ◌≤◌, List, [], ◌∷◌, ◌++◌, length, length-set, map, replicate, set, sym, refl, ap, ◌∙◌, subst, get_or-set_other, arith}
 use mathlib.Core.Option.{some}
 use lib.ListN.{get_elem?}
 use Rattle.std.specs.Prelude.{slice_index, pos}
@@ -35,11 +35,9 @@ use Rattle.log_rule.proofs.Claimed.Whole.{first_set}
 use Rattle.log_rule.proofs.Lifting.{Spares, lifted, load_spares, other_spares}
 use Rattle.log_rule.proofs.Looked.{others_are_looks}
 use Rattle.log_rule.proofs.Owning.{Goes, adds_goes, arms_goes, commits_goes, counts_goes, sees_goes, stores_goes}
-use Rattle.model.specs.Log.{Add, Arm, Commit, Connect, Look, Raise, Store}
 use Rattle.threads_meaning.specs.Row.{ItHappens, row_key}
 use Rattle.threads_meaning.specs.Steps.{CommitsFrame, IsBelow, IsNextFrame, IsOpen, Turns, load_count, load_limit}
 use Rattle.threads_meaning.proofs.Order.{words_commit}
-use Rattle.threads_meaning.proofs.Running.{ruled_are_ruled}
 
 -- ---- a step that the rule allows
 
@@ -353,53 +351,53 @@ it_happens = (
   (
     opened_stage.s,
     committed_stage.stage.s,
-    ruled_are_ruled row_key opened_stage.s opened_stage.ruled,
+    opened_stage.ruled,
     opened_stage.views,
     (
       connected_stage.stage.s,
       [],
-      ruled_are_ruled row_key connected_stage.stage.s connected_stage.stage.ruled,
-      inl (Connect true, refl, (refl, record { id = 0; v = pass0; word = 1; may = may_connect; is = record { limit = refl; closed = refl; connected = refl }; turn = connected_stage.turn })),
+      connected_stage.stage.ruled,
+      (refl, record { id = 0; v = pass0; word = 1; may = may_connect; is = record { limit = refl; closed = refl; connected = refl }; turn = connected_stage.turn }),
       (
         raised_stage.stage.s,
         [],
-        ruled_are_ruled row_key raised_stage.stage.s raised_stage.stage.ruled,
-        inl (Raise 0, refl, (refl, record { id = 0; v = pass1; word = 32769; may = may_raise; is = record { least_is = refl; free = (refl, refl); same = (refl, refl); cleaned = omega arith; limit = refl }; turn = raised_stage.turn })),
+        raised_stage.stage.ruled,
+        (refl, record { id = 0; v = pass1; word = 32769; may = may_raise; is = record { least_is = refl; free = (refl, refl); same = (refl, refl); cleaned = omega arith; limit = refl }; turn = raised_stage.turn }),
         (
           limit_stage.stage.s,
           [],
-          ruled_are_ruled row_key limit_stage.stage.s limit_stage.stage.ruled,
-          inl (Look, refl, (refl, inl (load_limit 0 pass2 limit_stage.turn))),
+          limit_stage.stage.ruled,
+          (refl, inl (load_limit 0 pass2 limit_stage.turn)),
           (
             count_stage.stage.s,
             [],
-            ruled_are_ruled row_key count_stage.stage.s count_stage.stage.ruled,
-            inl (Look, refl, (refl, inl (load_count 0 pass3 count_stage.turn))),
+            count_stage.stage.ruled,
+            (refl, inl (load_count 0 pass3 count_stage.turn)),
             (
               armed_stage.stage.s,
               [],
-              ruled_are_ruled row_key armed_stage.stage.s armed_stage.stage.ruled,
-              inl (Arm 7 32768, refl, (refl, record { id = 0; v = pass4; turn = told_more count_stage.stage.s armed_stage.stage.s pass4 32 first_tail (λ n. n) (λ n w. Arms pass4 n w) (λ n w. Arms pass4 n w × IsOpen pass4 n) (word_in pass4 words2 count_stage.stage 32 first_tail tail_value) (λ w told. (told, is_open)) armed_stage.turn; number = refl; limit = refl; living = refl })),
+              armed_stage.stage.ruled,
+              (refl, record { id = 0; v = pass4; turn = told_more count_stage.stage.s armed_stage.stage.s pass4 32 first_tail (λ n. n) (λ n w. Arms pass4 n w) (λ n w. Arms pass4 n w × IsOpen pass4 n) (word_in pass4 words2 count_stage.stage 32 first_tail tail_value) (λ w told. (told, is_open)) armed_stage.turn; number = refl; limit = refl; living = refl }),
               (
                 added_stage.stage.s,
                 [],
-                ruled_are_ruled row_key added_stage.stage.s added_stage.stage.ruled,
-                inl (Add 7 0, refl, (refl, record { id = 0; v = pass5; turn = told_more armed_stage.stage.s added_stage.stage.s pass5 32 first_tail adds_here (λ n w. Adds pass5 0 n w) (λ n w. Adds pass5 0 n w × IsBelow pass5 n) (word_in pass5 words2 armed_stage.stage 32 first_tail tail_value) (λ w told. (told, (let short : 0 < 65536 = omega arith in short))) added_stage.turn; armed = refl; number = refl; size = omega arith })),
+                added_stage.stage.ruled,
+                (refl, record { id = 0; v = pass5; turn = told_more armed_stage.stage.s added_stage.stage.s pass5 32 first_tail adds_here (λ n w. Adds pass5 0 n w) (λ n w. Adds pass5 0 n w × IsBelow pass5 n) (word_in pass5 words2 armed_stage.stage 32 first_tail tail_value) (λ w told. (told, (let short : 0 < 65536 = omega arith in short))) added_stage.turn; armed = refl; number = refl; size = omega arith }),
                 (
                   stored_stage.stage.s,
                   [],
-                  ruled_are_ruled row_key stored_stage.stage.s stored_stage.stage.ruled,
-                  inl (Store, refl, (refl, record { id = 0; v = pass6; p = 8; x = second_x; has = has6; turn = stored_stage.turn })),
+                  stored_stage.stage.ruled,
+                  (refl, record { id = 0; v = pass6; p = 8; x = second_x; has = has6; turn = stored_stage.turn }),
                   (
                     stored_again.stage.s,
                     [],
-                    ruled_are_ruled row_key stored_again.stage.s stored_again.stage.ruled,
-                    inl (Store, refl, (refl, record { id = 0; v = pass7; p = 16; x = third_x; has = has7; turn = stored_again.turn })),
+                    stored_again.stage.ruled,
+                    (refl, record { id = 0; v = pass7; p = 16; x = third_x; has = has7; turn = stored_again.turn }),
                     (
                       committed_stage.stage.s,
                       [],
-                      ruled_are_ruled row_key committed_stage.stage.s committed_stage.stage.ruled,
-                      inl (Commit 0 row_frame, refl, (
+                      committed_stage.stage.ruled,
+                      (
                         refl,
                         record {
                           id = 0;
@@ -408,7 +406,7 @@ it_happens = (
                           step = record { i = 208; x = first_x; far = omega arith; turn = told_more stored_again.stage.s committed_stage.stage.s pass8 208 0 (λ _. first_x) (λ _ w. Commits pass8 0 first_x w) (λ _ w. CommitsFrame row_key 0 row_frame pass8 w) (word_in pass8 words8 stored_again.stage 208 0 (get_or-set_other words7 210 208 third_x 0 (λ e. omega arith) ∙ get_or-set_other words6 209 208 second_x 0 (λ e. omega arith) ∙ data_zero 208 (omega arith))) (λ w told. words_commit row_key pass8 w 0 first_x completes refl told) committed_stage.turn };
                           next = next_row;
                         },
-                      )),
+                      ),
                       (refl, refl),
                     ),
                   ),

@@ -1,5 +1,5 @@
 -- The keeper stores the limit's word, and cleans.
-use Rattle.std.proofs.Common.{◌≡◌, ◌≢◌, ⊎_elim, ℕ, zero, suc, ◌+◌, ◌-◌, ◌*◌, ◌/◌, ◌%◌, ◌<◌, ◌≤◌, Bool, true, false, List, [], length, map, max, replicate, set, sym, refl, ap, ◌∙◌, subst, get_or-set_other, arith}
+use Rattle.std.proofs.Common.{◌≡◌, ◌≢◌, ⊎_elim, ℕ, ◌+◌, ◌-◌, ◌/◌, ◌%◌, ◌<◌, ◌≤◌, Bool, true, false, List, [], length, map, max, set, sym, refl, ap, ◌∙◌, subst, get_or-set_other, arith}
 use mathlib.Core.Option.{some}
 use lib.ListN.{get_elem?}
 use Rattle.std.specs.Prelude.{slice_index, Some}
@@ -8,8 +8,6 @@ use Rattle.atomic_table.specs.Table.{State}
 use Rattle.atomic_table.proofs.Lists.{at_set}
 use Rattle.theory.specs.Bytes.{Identity}
 use Rattle.theory.specs.Entry.{committed}
-use Rattle.std.specs.List.{AllByRecursion}
-use Rattle.theory.specs.Numbered.{Each}
 use Rattle.theory.specs.Placed.{Among}
 use Rattle.theory.specs.Refusal.{is_closed, is_connected, limit_in}
 use Rattle.publication.specs.declared.pass.Keeping.{Keeping}
@@ -28,17 +26,11 @@ use Rattle.log_rule.specs.Table.{LogRuled}
 use Rattle.log_rule.proofs.Claimed.Whole.{first_set}
 use Rattle.model.specs.Log.{Clean, Close, Connect, IsLowest, Log, LogStep, Raise, term_of as term_in}
 use Rattle.threads_meaning.specs.Modelled.{AreEntries, ArePublishers, AreReaders, IsModelOf, KeepsReaders, armed_as}
-use Rattle.threads_meaning.specs.Steps.{ClosesBy, ConnectsBy, RaisesTo, StepCleans, StepCleansAll, StepLimits}
-use Rattle.threads_meaning.specs.Law.{LogRun}
-use Rattle.threads_meaning.proofs.Looking.{load_same, put_same}
+use Rattle.threads_meaning.specs.Steps.{ClosesBy, ConnectsBy, RaisesTo, StepCleans, StepLimits}
+use Rattle.threads_meaning.proofs.Looking.{put_same}
 use Rattle.threads_meaning.proofs.Lowest.{alone_keeper, knows_limit, lowest, whole_least}
-use Rattle.threads_meaning.proofs.Resting.{SameWords, armed_same, entries_rest, modelled, one_readers, publishers_rest}
+use Rattle.threads_meaning.proofs.Resting.{armed_same, entries_rest, modelled, one_readers, publishers_rest}
 use Rattle.threads_meaning.proofs.Totals.{total_kept}
-
--- word by word
-clean_run : (n : ℕ) (l : Log) (least to : ℕ) → to ≡ l.cleaned + 8 * n → AllByRecursion (λ p. least ≤ p) [] → Each (λ r. least ≤ r.at) l.readers → to ≤ max l.start (least - term_in l) → LogRun l (replicate n (Clean least)) (record l { cleaned = to })
-clean_run zero l least to e others readers le = ap (λ (x : ℕ). record l { cleaned = x }) (let same : to ≡ l.cleaned = omega arith in same)
-clean_run (suc n) l least to e others readers le = (record l { cleaned = l.cleaned + 8 }, (record { others_above = others; readers_above = readers }, (let within : l.cleaned + 8 ≤ max l.start (least - term_in l) = omega arith in within), refl), clean_run n (record l { cleaned = l.cleaned + 8 }) least to (omega arith) others readers le)
 
 module _ (key : Key) (gone : List ℕ) (s t : State (Unit {0}) View) (l : Log) (q : LogRuled key s) (q' : LogRuled key t) (k : IsModelOf key gone s l) where
   -- of a pass that knows other things as the keeper, and is the same else
@@ -99,48 +91,29 @@ module _ (key : Key) (gone : List ℕ) (s t : State (Unit {0}) View) (l : Log) (
         limited (RaisesTo least) y (max l.limit (least + term_in l / 2)) l.connected l.closed raised (on ∙ sym y.is.same.0) (shut ∙ sym y.is.same.1),
       )
 
-  -- ---- words are cleaned
-
-  cleaned : (id : ℕ) (v w : Pass) (n : ℕ) → get_elem? (map pass_in s.views) id ≡ some v → map pass_in t.views ≡ set (map pass_in s.views) id w → SameWords s.words t.words → v.keeping.right ≡ 1 → w ≡ with_keeping v (record v.keeping { cleaned = v.keeping.cleaned + n }) → IsModelOf key gone t (record l { cleaned = l.cleaned + n })
-  cleaned id v w n at passes same right e =
-      let ps : List Pass = map pass_in s.views in let x : Keeping = record v.keeping { cleaned = v.keeping.cleaned + n } in
-      let mine = k.readers.keeper id v at right in let to = mine.cleaned_to in let m : Log = record l { cleaned = l.cleaned + n } in
-      modelled key gone t m q' k.identity k.start (k.limit ∙ ap limit_in (sym same.limit)) (k.connected ∙ ap is_connected (sym same.limit)) (k.closed ∙ ap is_closed (sym same.limit))
-      (keeps_entries id v w x at passes e) (keeps_publishers id v w x at passes e)
-      (subst (λ (qs : List Pass). AreReaders t.words qs m.start m.cleaned (committed m.entries) m.readers) (sym passes) record {
-        eight = k.readers.eight;
-        standing = λ number c there. (let low : number < 8 = subst (λ (z : ℕ). number < z) k.readers.eight (slice_get_within l.readers number (Some c) there) in let st = k.readers.standing number c there in record { at = st.at ∙ sym (same.consumers number low); heard = st.heard; reached = st.reached });
-        mine = λ i u r there among low. ⊎_elim
-            (λ (z : (i ≡ id) × (w ≡ u)). k.readers.mine id v r at (subst (λ (rs : List Reading). Among r rs) (ap (λ (p : Pass). p.reading) (sym z.1 ∙ e)) among) low)
-            (λ (z : (i ≢ id) × (get_elem? ps i ≡ some u)). k.readers.mine i u r z.1 among low)
-            (at_set ps id i w u there);
-        keeper = λ i u there one. ⊎_elim
-            (λ (z : (i ≡ id) × (w ≡ u)). subst (KeepsReaders m.start m.cleaned (committed m.entries) m.readers) (ap (λ (p : Pass). p.keeping) (sym e ∙ z.1)) record { cleaned_to = ap (λ (a : ℕ). a + n) to; taken = mine.taken; free = mine.free; seen = mine.seen })
-            (λ (z : (i ≢ id) × (get_elem? ps i ≡ some u)). absurd (alone_keeper key gone s l q k id v at right i u z.0 z.1 one))
-            (at_set ps id i w u there);
-      })
-
-  -- so much may be cleaned
-  may_clean : (id : ℕ) (v : Pass) (least n : ℕ) → get_elem? (map pass_in s.views) id ≡ some v → v.keeping.right ≡ 1 → v.keeping.cleaned + n ≤ max v.start (least - term_of v) → l.cleaned + n ≤ max l.start (least - term_in l)
-  may_clean id v least n at right below =
-      let to = (k.readers.keeper id v at right).cleaned_to in let term = term_same id v at in let start = start_same id v at in
-      subst (λ (z : ℕ). z + n ≤ max l.start (least - term_in l)) to (subst (λ (z : ℕ × ℕ). v.keeping.cleaned + n ≤ max z.0 (least - z.1)) (λ i. (sym start i, sym term i)) below)
+  -- ---- a word is cleaned
 
   pub cleans : (least : ℕ) → StepCleans s least t → (m : Log) × LogStep [] l (Clean least) m × IsModelOf key gone t m
   cleans least y =
-      let v : Pass = y.v in let right = y.may.keeper in
-      let below : v.keeping.cleaned + 8 ≤ max v.start (least - term_of v) = subst (λ (z : ℕ). v.keeping.cleaned + 8 ≤ max v.start (z - term_of v)) (sym y.least_is) y.may.below in
-      (
-        record l { cleaned = l.cleaned + 8 },
-        (subst (λ (z : ℕ). IsLowest [] l z) (sym y.least_is) (lowest key gone s l q k y.id v y.turn.at right), may_clean y.id v least 8 y.turn.at right below, refl),
-        cleaned y.id v y.turn.after 8 y.turn.at y.turn.passes (put_same s.words t.words (slot (geometry_of v) v.keeping.cleaned) 0 y.turn.words (λ z. omega arith) (λ j lt z. omega arith)) right y.turn.told,
-      )
-
-  pub cleans_all : (least n : ℕ) → StepCleansAll s least n t → (m : Log) × LogRun l (replicate n (Clean least)) m × IsModelOf key gone t m
-  cleans_all least n y =
-      let v : Pass = y.v in let right = y.keeper in let low : IsLowest [] l least = subst (λ (z : ℕ). IsLowest [] l z) (sym y.least_is) (lowest key gone s l q k y.id v y.turn.at right) in
-      (
-        record l { cleaned = l.cleaned + 8 * n },
-        clean_run n l least (l.cleaned + 8 * n) refl low.others_above low.readers_above (may_clean y.id v least (8 * n) y.turn.at right y.below),
-        cleaned y.id v y.turn.after (8 * n) y.turn.at y.turn.passes (load_same s.words t.words y.i y.turn.words) right y.turn.told,
+      let ps : List Pass = map pass_in s.views in let v : Pass = y.v in let w : Pass = y.turn.after in let x : Keeping = record v.keeping { cleaned = v.keeping.cleaned + 8 } in let e : w ≡ with_keeping v x = y.turn.told in let right = y.may.keeper in
+      let mine = k.readers.keeper y.id v y.turn.at right in let to = mine.cleaned_to in let term = term_same y.id v y.turn.at in let start = start_same y.id v y.turn.at in
+      let same = put_same s.words t.words (slot (geometry_of v) v.keeping.cleaned) 0 y.turn.words (λ z. omega arith) (λ j lt z. omega arith) in
+      let m : Log = record l { cleaned = l.cleaned + 8 } in
+      let below : v.keeping.cleaned + 8 ≤ max v.start (least - term_of v) = subst (λ (z : ℕ). v.keeping.cleaned + 8 ≤ max v.start (z - term_of v)) (sym y.least_is) y.may.below in (
+        m,
+        (subst (λ (z : ℕ). IsLowest [] l z) (sym y.least_is) (lowest key gone s l q k y.id v y.turn.at right), subst (λ (z : ℕ). z + 8 ≤ max l.start (least - term_in l)) to (subst (λ (z : ℕ × ℕ). v.keeping.cleaned + 8 ≤ max z.0 (least - z.1)) (λ i. (sym start i, sym term i)) below), refl),
+        modelled key gone t m q' k.identity k.start (k.limit ∙ ap limit_in (sym same.limit)) (k.connected ∙ ap is_connected (sym same.limit)) (k.closed ∙ ap is_closed (sym same.limit))
+            (keeps_entries y.id v w x y.turn.at y.turn.passes e) (keeps_publishers y.id v w x y.turn.at y.turn.passes e)
+            (subst (λ (qs : List Pass). AreReaders t.words qs m.start m.cleaned (committed m.entries) m.readers) (sym y.turn.passes) record {
+              eight = k.readers.eight;
+              standing = λ number c there. (let low : number < 8 = subst (λ (z : ℕ). number < z) k.readers.eight (slice_get_within l.readers number (Some c) there) in let st = k.readers.standing number c there in record { at = st.at ∙ sym (same.consumers number low); heard = st.heard; reached = st.reached });
+              mine = λ i u r there among low. ⊎_elim
+                  (λ (z : (i ≡ y.id) × (w ≡ u)). k.readers.mine y.id v r y.turn.at (subst (λ (rs : List Reading). Among r rs) (ap (λ (p : Pass). p.reading) (sym z.1 ∙ e)) among) low)
+                  (λ (z : (i ≢ y.id) × (get_elem? ps i ≡ some u)). k.readers.mine i u r z.1 among low)
+                  (at_set ps y.id i w u there);
+              keeper = λ i u there one. ⊎_elim
+                  (λ (z : (i ≡ y.id) × (w ≡ u)). subst (KeepsReaders m.start m.cleaned (committed m.entries) m.readers) (ap (λ (p : Pass). p.keeping) (sym e ∙ z.1)) record { cleaned_to = ap (λ (n : ℕ). n + 8) to; taken = mine.taken; free = mine.free; seen = mine.seen })
+                  (λ (z : (i ≢ y.id) × (get_elem? ps i ≡ some u)). absurd (alone_keeper key gone s l q k y.id v y.turn.at right i u z.0 z.1 one))
+                  (at_set ps y.id i w u there);
+            }),
       )

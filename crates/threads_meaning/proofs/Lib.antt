@@ -14,10 +14,14 @@ mod Committing
 mod Seats
 mod Handing
 mod Opening
-mod Carrying
 mod Running
 mod Order
 mod Happening
 mod Imaged
 mod ImageRows
 mod Boards
+mod BoardSteps
+mod BoardCleanings
+mod BoardRuns
+mod BoardSeats
+mod Telling

@@ -24,7 +24,7 @@ use Rattle.log_rule.specs.Kept.{IsReader}
 use Rattle.log_rule.specs.Table.{LogRuled, consumers_at, first_there, whole_pass, whole_seat}
 use Rattle.log_rule.proofs.Beginning.{first_flag, first_is}
 use Rattle.model.specs.World.{IsOpened}
-use Rattle.threads_meaning.specs.Law.{alone, opened_log, opened_readers}
+use Rattle.threads_meaning.specs.Law.{OpensAsModel, alone, opened_log, opened_readers}
 use Rattle.threads_meaning.specs.Modelled.{AreEntries, ArePublishers, AreReaders, HasReader, IsModel, KeepsReaders, armed_as}
 use Rattle.threads_meaning.proofs.Parts.{armed_none}
 use Rattle.threads_meaning.proofs.Resting.{modelled}
@@ -197,5 +197,5 @@ module _ (key : Key) (s : State (Unit {0}) View) (identity : IsIdentity key.iden
       add_none : (n : ℕ) → n ≡ 0 → n + 0 ≡ 0
       add_none n e = omega arith
 
-pub opened_is_model : (key : Key) (s : State (Unit {0}) View) → IsIdentity key.identity → LogRuled key s → s.views ≡ whole_seat key ∷ [] → IsOpened (alone (opened_log key)) × IsModel key [] s.words (map pass_in s.views) (opened_log key)
-opened_is_model = opens_model
+pub opens_as_model : OpensAsModel
+opens_as_model = opens_model

@@ -1,5 +1,5 @@
 -- Each step, and any list of them.
-use Rattle.std.proofs.Common.{map, ◌++◌, replicate, ◌≡◌, ⊎_elim, ℕ, ◌+◌, ◌*◌, ◌/◌, ◌≤◌, List, [], ◌∷◌, length, refl, sym, ap, subst, arith}
+use Rattle.std.proofs.Common.{◌≡◌, ⊎_elim, ℕ, ◌+◌, ◌*◌, ◌/◌, ◌≤◌, List, [], ◌∷◌, length, refl, sym, ap, subst, arith}
 use Rattle.std.specs.List.{count_by}
 use Rattle.std.specs.Prelude.{None}
 use Rattle.atomic_table.specs.Table.{State}
@@ -9,24 +9,22 @@ use Rattle.theory.proofs.Claims.{claim_bound}
 use Rattle.theory.proofs.Lists.{all_replicate}
 use Rattle.log_rule.specs.declared.claims.view.View.{View}
 use Rattle.log_rule.specs.declared.rule.Key.{Key}
-use Rattle.log_rule.specs.Claims.Plays.{pass_in}
 use Rattle.log_rule.specs.Table.{LogRuled}
 use Rattle.model.specs.Log.{Abort, Add, Arm, Clean, Close, Commit, Connect, Join, Leave, Log, LogEvent, LogStep, Look, Miss, Move, Pass as PassBy, Raise, Retire, Rotate, Store}
 use Rattle.model.specs.World.{IsOpened}
 use Rattle.model.proofs.LogSteps.{IsKeptLog, log_step, room_unit}
 use Rattle.model.proofs.Room.{IsKeptRoom, room_step}
 use Rattle.model.proofs.WorldSteps.{KeptImage, KeptWorld, in_bounds, opened, polled, tiled}
-use Rattle.threads_meaning.specs.Law.{EachStepIsARun, EachStepIsAnEvent, HeadlineHolds, IsRuledBy, LogRun, OpensAsModel, RuledAreRuled, StepOf, Steps, StepsAreARun, all_of, alone, opened_log}
+use Rattle.threads_meaning.specs.Law.{EachStepIsAnEvent, HeadlineHolds, LogRun, StepOf, Steps, StepsAreARun, alone, opened_log}
 use Rattle.threads_meaning.specs.Modelled.{IsModelOf}
 use Rattle.threads_meaning.specs.Seats.{SeatsMove}
-use Rattle.threads_meaning.specs.Steps.{LooksAt, StepCleansAll}
-use Rattle.threads_meaning.proofs.Carrying.{cleans_carried, model_carried, step_carried}
+use Rattle.threads_meaning.specs.Steps.{LooksAt}
 use Rattle.threads_meaning.proofs.Committing.{aborts, commits}
 use Rattle.threads_meaning.proofs.Consumers.{joins, leaves, moves}
 use Rattle.threads_meaning.proofs.Handing.{hands_over}
-use Rattle.threads_meaning.proofs.Keeping.{cleans, cleans_all, closes, connects, raises}
+use Rattle.threads_meaning.proofs.Keeping.{cleans, closes, connects, raises}
 use Rattle.threads_meaning.proofs.Looking.{looks}
-use Rattle.threads_meaning.proofs.Opening.{opened_is_model}
+use Rattle.threads_meaning.proofs.Opening.{opens_as_model}
 use Rattle.threads_meaning.proofs.Publishers.{adds, arms, misses, stores, turns}
 use Rattle.threads_meaning.proofs.Seats.{seats}
 
@@ -56,46 +54,16 @@ module _ (key : Key) (gone : List ℕ) (s t : State (Unit {0}) View) (l : Log) (
   one_step after (PassBy number past) y = absurd y
   one_step after (Retire kept number) y = let r = hands_over key gone s t l q q' k kept number y.1 in (r.0, r.1, subst (λ (g : List ℕ). IsModelOf key g t r.0) (sym y.0) r.2)
 
--- ---- by the control words
-
-pub ruled_are_ruled : RuledAreRuled
-ruled_are_ruled key s q = record {
-  stream = s.words;
-  rule = record { cleaned = q.cleaned; there = q.there; ruled = q.ruled; kept = q.kept; sure = q.sure; numbered = q.numbered };
-  wide = (let z = q.ruled.claims.wide in omega arith);
-  controls = λ i lt. refl;
-}
-
-stream_long : (key : Key) (s : State (Unit {0}) View) (r : IsRuledBy key s) → 208 ≤ length r.stream
-stream_long key s r = let z = r.rule.ruled.claims.wide in omega arith
-
 pub each_step_is_an_event : EachStepIsAnEvent
-each_step_is_an_event key gone after s t e l q q' k y =
-    let a : State (Unit {0}) View = record { words = q.stream; homes = []; views = s.views } in let b : State (Unit {0}) View = record { words = q'.stream; homes = []; views = t.views } in
-    let r = one_step key gone a b l q.rule q'.rule (model_carried key gone s.words q.stream (map pass_in s.views) l (λ j lt. sym (q.controls j lt)) k) after e (step_carried key gone s t q.stream q'.stream q.wide (stream_long key s q) q.controls q'.controls after e y) in
-    (r.0, r.1, model_carried key after q'.stream t.words (map pass_in t.views) r.0 q'.controls r.2)
-
-pub each_step_is_a_run : EachStepIsARun
-each_step_is_a_run key gone after s t events l q q' k y = ⊎_elim
-    (λ (x : (e : LogEvent) × (events ≡ e ∷ []) × StepOf key gone s e t after). let r = each_step_is_an_event key gone after s t x.0 l q q' k x.2 in subst (λ (es : List LogEvent). (m : Log) × LogRun l es m × IsModelOf key after t m) (sym x.1) (r.0, (r.0, r.1, refl), r.2))
-    (λ (x : (after ≡ gone) × ((least : ℕ) × (n : ℕ) × (events ≡ replicate n (Clean least)) × StepCleansAll s least n t)).
-    let a : State (Unit {0}) View = record { words = q.stream; homes = []; views = s.views } in let b : State (Unit {0}) View = record { words = q'.stream; homes = []; views = t.views } in
-    let r = cleans_all key gone a b l q.rule q'.rule (model_carried key gone s.words q.stream (map pass_in s.views) l (λ j lt. sym (q.controls j lt)) k) x.1.0 x.1.1 (cleans_carried key gone s t q.stream q'.stream q.wide (stream_long key s q) q.controls q'.controls x.1.0 x.1.1 x.1.3) in
-    subst (λ (es : List LogEvent). (m : Log) × LogRun l es m × IsModelOf key after t m) (sym x.1.2) (r.0, r.1, subst (λ (g : List ℕ). IsModelOf key g t r.0) (sym x.0) (model_carried key gone q'.stream t.words (map pass_in t.views) r.0 q'.controls r.2)))
-    y
-
-pub opens_by_controls : OpensAsModel
-opens_by_controls key s identity q views =
-    let r = opened_is_model key (record { words = q.stream; homes = []; views = s.views }) identity q.rule views in
-    (r.0, model_carried key [] q.stream s.words (map pass_in s.views) (opened_log key) q.controls r.1)
+each_step_is_an_event key gone after s t e l q q' k y = one_step key gone s t l q q' k after e y
 
 -- ---- what the model keeps
 
-kept_run : (es : List LogEvent) (old new : Log) → IsKeptLog old → IsKeptRoom old → LogRun old es new → IsKeptLog new × IsKeptRoom new
+pub kept_run : (es : List LogEvent) (old new : Log) → IsKeptLog old → IsKeptRoom old → LogRun old es new → IsKeptLog new × IsKeptRoom new
 kept_run [] old new k r run = (subst IsKeptLog (sym run) k, subst IsKeptRoom (sym run) r)
 kept_run (e ∷ es) old new k r run = kept_run es run.0 new (log_step [] old e run.0 k run.1).kept (room_step [] old e run.0 (room_unit old k) r run.1) run.2
 
-opened_room : (l : Log) → IsOpened (alone l) → IsKeptRoom l
+pub opened_room : (l : Log) → IsOpened (alone l) → IsKeptRoom l
 opened_room l o =
     let g = l.identity.geometry in
     let claim : greatest_claim g ≤ g.term_length / 7 + 63 = claim_bound g o.geometry.mtu.unit o.geometry.mtu.least in
@@ -110,23 +78,19 @@ kept_alone l k = record {
   images = all_replicate (IfThere (KeptImage [])) 8 None tt;
 }
 
-holds : (l : Log) → IsKeptLog l → IsKeptRoom l → HeadlineHolds l
+pub holds : (l : Log) → IsKeptLog l → IsKeptRoom l → HeadlineHolds l
 holds l k r = let w = kept_alone l k in record { tiled = tiled (alone l) w; bounded = in_bounds (alone l) w; polled = polled (alone l) w; room = record { tail = r.within; limit = r.ahead } }
 
 -- ---- a list of steps
 
-run_on : (es more : List LogEvent) (l m n : Log) → LogRun l es m → LogRun m more n → LogRun l (es ++ more) n
-run_on [] more l m n a b = subst (λ (x : Log). LogRun x more n) a b
-run_on (e ∷ es) more l m n a b = (a.0, a.1, run_on es more a.0 m n a.2 b)
-
-steps_run : (key : Key) (more : List (List LogEvent)) (gone after : List ℕ) (s t : State (Unit {0}) View) (l : Log) → IsRuledBy key s → IsModelOf key gone s l → Steps key gone s more t after → (m : Log) × LogRun l (all_of more) m × IsModelOf key after t m
+pub steps_run : (key : Key) (es : List LogEvent) (gone after : List ℕ) (s t : State (Unit {0}) View) (l : Log) → LogRuled key s → IsModelOf key gone s l → Steps key gone s es t after → (m : Log) × LogRun l es m × IsModelOf key after t m
 steps_run key [] gone after s t l q k y = (l, refl, subst (λ (x : List ℕ × State (Unit {0}) View). IsModelOf key x.0 x.1 l) (λ i. (sym y.1 i, sym y.0 i)) k)
-steps_run key (es ∷ more) gone after s t l q k y =
-    let one = each_step_is_a_run key gone y.1 s y.0 es l q y.2 k y.3 in let rest = steps_run key more y.1 after y.0 t one.0 y.2 one.2 y.4 in
-    (rest.0, run_on es (all_of more) l one.0 rest.0 one.1 rest.1, rest.2)
+steps_run key (e ∷ es) gone after s t l q k y =
+    let one = one_step key gone s y.0 l q y.2 k y.1 e y.3 in let rest = steps_run key es y.1 after y.0 t one.0 y.2 one.2 y.4 in
+    (rest.0, (one.0, one.1, rest.1), rest.2)
 
 pub steps_are_a_run : StepsAreARun
 steps_are_a_run key after s t events identity q views y =
-    let begun = opens_by_controls key s identity q views in let run = steps_run key events [] after s t (opened_log key) q begun.1 y in
-    let kept = kept_run (all_of events) (opened_log key) run.0 (opened (alone (opened_log key)) begun.0).log (opened_room (opened_log key) begun.0) run.1 in
+    let begun = opens_as_model key s identity q views in let run = steps_run key events [] after s t (opened_log key) q begun.1 y in
+    let kept = kept_run events (opened_log key) run.0 (opened (alone (opened_log key)) begun.0).log (opened_room (opened_log key) begun.0) run.1 in
     (run.0, run.1, run.2, holds run.0 kept.0 kept.1)

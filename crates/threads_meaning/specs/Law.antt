@@ -1,30 +1,28 @@
 -- The laws: a log that opens is one of the model, and each step on its words is one event of that.
-use Rattle.std.specs.Prelude.{◌≡◌, ◌⊎◌, ℕ, ◌-◌, ◌<◌, ◌≤◌, length, slice_index, false, List, [], ◌∷◌, ◌++◌, replicate, Option, None, Some}
+use Rattle.std.specs.Prelude.{◌≡◌, ◌⊎◌, ℕ, ◌-◌, false, List, [], ◌∷◌, ◌++◌, map, replicate, Option, None, Some}
+use mathlib.Core.Option.{some}
+use lib.ListN.{get_elem?}
 use Rattle.atomic_table.specs.Table.{State}
 use Rattle.theory.specs.Consumer.{Consumer, consumer_at}
 use Rattle.theory.specs.Bytes.{IsIdentity}
+use Rattle.theory.specs.Entry.{committed}
+use Rattle.theory.specs.Placed.{Among, Placed}
+use Rattle.theory.specs.Tiling.{share_of}
+use Rattle.publication.specs.declared.pass.FrameWords.{FrameWords}
+use Rattle.publication.specs.declared.pass.Pass.{Pass}
 use Rattle.log_rule.specs.declared.claims.view.View.{View}
 use Rattle.log_rule.specs.declared.rule.Key.{Key}
+use Rattle.log_rule.specs.Claims.Plays.{pass_in}
+use Rattle.log_rule.specs.Claims.Rule.{weight}
+use Rattle.log_rule.specs.Claims.Sums.{total}
+use Rattle.log_rule.specs.Shares.{owner_bytes}
 use Rattle.log_rule.specs.Table.{LogRuled, whole_seat}
 use Rattle.model.specs.Headline.{HasItsRoom, IsBounded, IsPrefixPolled, IsTiled}
 use Rattle.model.specs.Log.{Abort, Add, Arm, Clean, Close, Commit, Connect, Join, Leave, Log, LogEvent, LogStep, Look, Miss, Move, Pass as PassBy, Raise, Retire, Rotate, Store}
 use Rattle.model.specs.World.{IsOpened, World, opened_sender}
-use Rattle.threads_meaning.specs.Modelled.{IsModelOf}
+use Rattle.threads_meaning.specs.Modelled.{IsModelOf, spelled}
 use Rattle.threads_meaning.specs.Seats.{HandsOver, SeatsMove}
-use Rattle.threads_meaning.specs.Steps.{ClosesBy, ConnectsBy, IsBelow, IsOver, LooksAt, RaisesTo, StepAborts, StepAdds, StepArms, StepCleans, StepCleansAll, StepCommits, StepJoins, StepLeaves, StepLimits, StepMoves, StepStores, StepTurns}
-
--- ---- a state
-
--- of which the control words and the passes are those of a stream that the rule holds of; its other words may be any
-pub record IsRuledBy (key : Key) (s : State (Unit {0}) View) : Type 0 where
-  pub stream : List ℕ
-  pub rule : LogRuled key (record { words = stream; homes = []; views = s.views })
-  pub wide : 208 ≤ length s.words
-  pub controls : (i : ℕ) → i < 208 → slice_index s.words i ≡ slice_index stream i
-
--- whatever state the rule holds of
-abbrev pub RuledAreRuled : Type 0
-RuledAreRuled = (key : Key) (s : State (Unit {0}) View) → LogRuled key s → IsRuledBy key s
+use Rattle.threads_meaning.specs.Steps.{ClosesBy, ConnectsBy, IsBelow, IsOver, LooksAt, RaisesTo, StepAborts, StepAdds, StepArms, StepCleans, StepCommits, StepJoins, StepLeaves, StepLimits, StepMoves, StepStores, StepTurns}
 
 -- ---- one step
 
@@ -50,7 +48,7 @@ StepOf key gone s (Retire kept number) t after = (after ≡ number ∷ gone) × 
 
 -- the log after it is one of the model again, to which that event leads
 abbrev pub EachStepIsAnEvent : Type 0
-EachStepIsAnEvent = (key : Key) (gone after : List ℕ) (s t : State (Unit {0}) View) (e : LogEvent) (l : Log) → IsRuledBy key s → IsRuledBy key t → IsModelOf key gone s l → StepOf key gone s e t after
+EachStepIsAnEvent = (key : Key) (gone after : List ℕ) (s t : State (Unit {0}) View) (e : LogEvent) (l : Log) → LogRuled key s → LogRuled key t → IsModelOf key gone s l → StepOf key gone s e t after
     → (m : Log) × LogStep [] l e m × IsModelOf key after t m
 
 -- ---- a log that opens
@@ -79,32 +77,30 @@ alone l = record { log = l; sender = opened_sender l.start None; images = replic
 
 -- in whatever state the first seat is the only one
 abbrev pub OpensAsModel : Type 0
-OpensAsModel = (key : Key) (s : State (Unit {0}) View) → IsIdentity key.identity → IsRuledBy key s → s.views ≡ whole_seat key ∷ [] → IsOpened (alone (opened_log key)) × IsModelOf key [] s (opened_log key)
+OpensAsModel = (key : Key) (s : State (Unit {0}) View) → IsIdentity key.identity → LogRuled key s → s.views ≡ whole_seat key ∷ [] → IsOpened (alone (opened_log key)) × IsModelOf key [] s (opened_log key)
+
+-- ---- what it says of the passes
+
+-- each share is what the passes claimed under that number
+abbrev pub SharesAreClaimed : Type 0
+SharesAreClaimed = (key : Key) (gone : List ℕ) (s : State (Unit {0}) View) (l : Log) → IsModelOf key gone s l → (number : ℕ) → share_of number l.entries ≡ total (weight (owner_bytes number)) (map pass_in s.views)
+
+-- each frame that a pass committed is one of the log's, as it is spelled
+abbrev pub FramesAreCommitted : Type 0
+FramesAreCommitted = (key : Key) (gone : List ℕ) (s : State (Unit {0}) View) (l : Log) → IsModelOf key gone s l → (id : ℕ) (v : Pass) (f : FrameWords) → get_elem? (map pass_in s.views) id ≡ some v → Among f v.work.frames
+    → (p : Placed) × Among p (committed l.entries) × (spelled key.identity p ≡ f)
 
 -- ---- any list of steps
+
+-- each from a state that the rule holds of to one that it holds of
+abbrev pub Steps : Key → List ℕ → State (Unit {0}) View → List LogEvent → State (Unit {0}) View → List ℕ → Type 0
+Steps key gone s [] t after = (t ≡ s) × (after ≡ gone)
+Steps key gone s (e ∷ es) t after = (u : State (Unit {0}) View) × (between : List ℕ) × LogRuled key u × StepOf key gone s e u between × Steps key between u es t after
 
 -- events of a log all of whose consumers are its readers
 abbrev pub LogRun : Log → List LogEvent → Log → Type 0
 LogRun old [] new = new ≡ old
 LogRun old (e ∷ es) new = (mid : Log) × LogStep [] old e mid × LogRun mid es new
-
--- a step is one event, or cleans so many words, each of which is one
-abbrev pub AStep : Key → List ℕ → State (Unit {0}) View → List LogEvent → State (Unit {0}) View → List ℕ → Type 0
-AStep key gone s events t after = ((e : LogEvent) × (events ≡ e ∷ []) × StepOf key gone s e t after) ⊎ ((after ≡ gone) × ((least : ℕ) × (n : ℕ) × (events ≡ replicate n (Clean least)) × StepCleansAll s least n t))
-
-abbrev pub EachStepIsARun : Type 0
-EachStepIsARun = (key : Key) (gone after : List ℕ) (s t : State (Unit {0}) View) (events : List LogEvent) (l : Log) → IsRuledBy key s → IsRuledBy key t → IsModelOf key gone s l → AStep key gone s events t after
-    → (m : Log) × LogRun l events m × IsModelOf key after t m
-
--- each from a state that the rule holds of to one that it holds of; the events of each
-abbrev pub Steps : Key → List ℕ → State (Unit {0}) View → List (List LogEvent) → State (Unit {0}) View → List ℕ → Type 0
-Steps key gone s [] t after = (t ≡ s) × (after ≡ gone)
-Steps key gone s (events ∷ more) t after = (u : State (Unit {0}) View) × (between : List ℕ) × IsRuledBy key u × AStep key gone s events u between × Steps key between u more t after
-
--- those of all, one after the other
-abbrev pub all_of : List (List LogEvent) → List LogEvent
-all_of [] = []
-all_of (events ∷ more) = events ++ all_of more
 
 -- what the headline says of the log in a world
 pub record HeadlineHolds (l : Log) : Type 0 where
@@ -115,5 +111,5 @@ pub record HeadlineHolds (l : Log) : Type 0 where
 
 -- from a log that opens, any list of such steps is a run of the model to a log that the words and passes are, and the headline holds of it
 abbrev pub StepsAreARun : Type 0
-StepsAreARun = (key : Key) (after : List ℕ) (s t : State (Unit {0}) View) (events : List (List LogEvent)) → IsIdentity key.identity → IsRuledBy key s → s.views ≡ whole_seat key ∷ [] → Steps key [] s events t after
-    → (l : Log) × LogRun (opened_log key) (all_of events) l × IsModelOf key after t l × HeadlineHolds l
+StepsAreARun = (key : Key) (after : List ℕ) (s t : State (Unit {0}) View) (events : List LogEvent) → IsIdentity key.identity → LogRuled key s → s.views ≡ whole_seat key ∷ [] → Steps key [] s events t after
+    → (l : Log) × LogRun (opened_log key) events l × IsModelOf key after t l × HeadlineHolds l

@@ -5,4 +5,5 @@ pub mod Law
 pub mod Order
 pub mod Row
 pub mod Images
-pub mod Boards
+pub mod Running
+pub mod RunningSeats

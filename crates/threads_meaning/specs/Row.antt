@@ -6,9 +6,9 @@ use Rattle.theory.specs.Bytes.{IsIdentity}
 use Rattle.theory.specs.Placed.{Data}
 use Rattle.log_rule.specs.declared.claims.view.View.{View}
 use Rattle.log_rule.specs.declared.rule.Key.{Key}
-use Rattle.log_rule.specs.Table.{whole_seat}
+use Rattle.log_rule.specs.Table.{LogRuled, whole_seat}
 use Rattle.model.specs.Log.{Add, Arm, Commit, Connect, LogEvent, Look, Raise, Store}
-use Rattle.threads_meaning.specs.Law.{IsRuledBy, Steps}
+use Rattle.threads_meaning.specs.Law.{Steps}
 
 -- with one consumer
 abbrev pub row_key : Key
@@ -19,8 +19,8 @@ row_key = record {
 }
 
 -- a message of no bytes
-abbrev pub row_events : List (List LogEvent)
-row_events = (Connect true ∷ []) ∷ (Raise 0 ∷ []) ∷ (Look ∷ []) ∷ (Look ∷ []) ∷ (Arm 7 32768 ∷ []) ∷ (Add 7 0 ∷ []) ∷ (Store ∷ []) ∷ (Store ∷ []) ∷ (Commit 0 (Data 192 []) ∷ []) ∷ []
+abbrev pub row_events : List LogEvent
+row_events = Connect true ∷ Raise 0 ∷ Look ∷ Look ∷ Arm 7 32768 ∷ Add 7 0 ∷ Store ∷ Store ∷ Commit 0 (Data 192 []) ∷ []
 
 abbrev pub ItHappens : Type 0
-ItHappens = IsIdentity row_key.identity × ((s : State (Unit {0}) View) × (t : State (Unit {0}) View) × IsRuledBy row_key s × (s.views ≡ whole_seat row_key ∷ []) × Steps row_key [] s row_events t [])
+ItHappens = IsIdentity row_key.identity × ((s : State (Unit {0}) View) × (t : State (Unit {0}) View) × LogRuled row_key s × (s.views ≡ whole_seat row_key ∷ []) × Steps row_key [] s row_events t [])

@@ -23,7 +23,7 @@ use Rattle.log_rule.specs.declared.claims.view.View.{View}
 use Rattle.log_rule.specs.declared.rule.Key.{Key}
 use Rattle.log_rule.specs.Claims.Packs.{consumer_place, count_place, limit_place, slot, tail_place}
 use Rattle.log_rule.specs.Claims.Plays.{pass_in}
-use Rattle.log_rule.specs.Keepings.{CleansWord, Joins, Leaves, MayClean, MayJoin, MayLeave, MayRaise, Raises, SeesConsumer, least_there, with_keeping}
+use Rattle.log_rule.specs.Keepings.{CleansWord, Joins, Leaves, MayClean, MayJoin, MayLeave, MayRaise, Raises, SeesConsumer, least_there}
 use Rattle.log_rule.specs.Kept.{IsThere}
 use Rattle.log_rule.specs.Meetings.{was_shown}
 use Rattle.log_rule.specs.Readings.{Consumes, IsConsumer, Looks, Rereads, end_of}
@@ -178,16 +178,6 @@ pub record StepCleans (s : State (Unit {0}) View) (least : ℕ) (t : State (Unit
   pub may : MayClean v
   pub least_is : least ≡ least_there v.keeping.there v.keeping.positions
   pub turn : Puts s id v (slot (geometry_of v) v.keeping.cleaned) 0 (λ w. CleansWord v w) t
-
--- at a load the keeper knows that so many words more are zero, each a term or more below each consumer that is there
-pub record StepCleansAll (s : State (Unit {0}) View) (least n : ℕ) (t : State (Unit {0}) View) : Type 0 where
-  pub id : ℕ
-  pub v : Pass
-  pub i : ℕ
-  pub keeper : v.keeping.right ≡ 1
-  pub least_is : least ≡ least_there v.keeping.there v.keeping.positions
-  pub below : v.keeping.cleaned + 8 * n ≤ max v.start (least - term_of v)
-  pub turn : Loads s id v i (λ _ w. w ≡ with_keeping v (record v.keeping { cleaned = v.keeping.cleaned + 8 * n })) t
 
 -- the limit's word is stored, of which this is so
 pub record StepLimits (s : State (Unit {0}) View) (stores : Pass → ℕ → Type 0) (t : State (Unit {0}) View) : Type 0 where

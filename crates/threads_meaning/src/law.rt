@@ -1,23 +1,25 @@
 //! The laws.
 
-ghost use Rattle.threads_meaning.specs.Boards.{BoardsAreRuled, BoardsClean, BoardsCommit, BoardsTurn, FirstIsFirst};
-ghost use Rattle.threads_meaning.specs.Law.{EachStepIsARun, EachStepIsAnEvent, OpensAsModel, RuledAreRuled, StepsAreARun};
+ghost use Rattle.threads_meaning.specs.Law.{EachStepIsAnEvent, FramesAreCommitted, OpensAsModel, SharesAreClaimed, StepsAreARun};
 ghost use Rattle.threads_meaning.specs.Order.{OffersInOrder, PassesAreSound, SinglesAreNext, WordsCommit};
 ghost use Rattle.threads_meaning.specs.Row.{ItHappens};
 
 /// A log that opens is an opened log of the model.
 pub fn opens_as_model()
-    // What is said of control words and passes is said of whatever state the rule holds of.
-    ensures ruled { RuledAreRuled }
-    ensures opens { OpensAsModel }
+    ensures { OpensAsModel }
 {}
 
 /// Each step on the words of a log, from a state that is a log of the model, is one event of that, to a log that the state
 /// after it is.
 pub fn each_step_is_an_event()
-    ensures event { EachStepIsAnEvent }
-    // A step by which the keeper knows that several words are zero is that many events.
-    ensures cleaned { EachStepIsARun }
+    ensures { EachStepIsAnEvent }
+{}
+
+/// What a publisher's share of the log is: what the passes claimed under its number. And each frame that a pass has committed is
+/// one of the log's.
+pub fn shares_are_claimed()
+    ensures shares { SharesAreClaimed }
+    ensures frames { FramesAreCommitted }
 {}
 
 /// So whatever list of steps happened since a log opened, its words and passes are a log to which a run of the model leads,
@@ -40,15 +42,4 @@ pub fn commits_are_in_order()
 /// frame of its claim is stored and committed.
 pub fn there_are_steps()
     ensures { ItHappens }
-{}
-
-/// The log that threads share keeps its frames in plain memory, and has a table of control words. So its states and steps
-/// are those that the other laws speak of: the control words and the passes are those of a stream that the rule holds of, what
-/// a step of a seat tells of its pass is what a step of a stream does, a frame is committed whole, and words are cleaned many at once.
-pub fn memory_has_these_steps()
-    ensures ruled { BoardsAreRuled }
-    ensures first { FirstIsFirst }
-    ensures steps { BoardsTurn }
-    ensures commits { BoardsCommit }
-    ensures cleans { BoardsClean }
 {}

@@ -21,6 +21,15 @@
 //! - A number that was handed over isn't used again: the model retires a number for good, and a pass that has all parts may act
 //!   for any.
 //!
+//! A log that runs keeps its frames in plain memory, under the rule of `log_memory`. `IsRunning` says of its own words and
+//! seats when it is a log of the model: that is so where its stream is one, whose other words are there in proofs alone. Each
+//! kind of step of `steps_keep` may be made wherever the rule holds, and wherever it was made, it is the events that are said
+//! (`running_log_is_a_model`): the table leads to one that is again a log of the model, by those, and the headline holds of it
+//! from a log that opens. Its premises are those of `steps_keep`, and those above. Where memory goes to and fro, and where
+//! its word for a unit is loaded or made zero, that is a look; where the keeper knows how far all is zero, so many words are
+//! cleaned, one event each. Seats are dealt and joined as those of its stream (`running_seats_are_events`). Payloads are bytes
+//! in memory, which only one seat may write, and no step.
+//!
 //! The model's consumers may pass a frame that their assembler refused (`Pass`): no step on words is that, since an assembler
 //! is no part of the log; here each reader's assembler hears each frame. A load is a `Look`, a word of an open frame is a
 //! `Store`, and a turn of the term is a `Rotate`: the model's log stays. All consumers are the log's readers, the sender too, so
@@ -29,9 +38,11 @@
 
 mod images;
 mod law;
+mod running_log;
 
 pub use images::{image_steps_are_events, images_are_in_runs};
 pub use law::{
-    commits_are_in_order, each_step_is_an_event, memory_has_these_steps, opens_as_model, steps_are_a_run,
-    there_are_steps,
+    commits_are_in_order, each_step_is_an_event, opens_as_model, shares_are_claimed,
+    steps_are_a_run, there_are_steps,
 };
+pub use running_log::{running_log_is_a_model, running_seats_are_events};
