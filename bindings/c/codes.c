@@ -132,6 +132,90 @@ static void calls(void) {
     IS(pv_clean_and_limit(&keeper, &position), PV_EMPTY_HANDLE);
 }
 
+/* Whole messages: of several frames, longer than the room, and longer than the greatest. */
+static void messages(void) {
+    pv_log log = PV_EMPTY;
+    pv_publisher publisher = PV_EMPTY;
+    pv_reader reader = PV_EMPTY, second = PV_EMPTY;
+    pv_messages read = PV_EMPTY, other = PV_EMPTY;
+    pv_keeper keeper = PV_EMPTY;
+    static uint8_t message[5001], room[5000];
+    size_t length = 7;
+    uint64_t position = 99;
+    pv_frame frame;
+    for (size_t k = 0; k < sizeof message; k++) message[k] = (uint8_t)(k % 251);
+    IS(pv_next_message(&read, room, sizeof room, &length), PV_EMPTY_HANDLE);
+    IS(pv_messages_position(&read, &position), PV_EMPTY_HANDLE);
+    IS(pv_open_messages(&reader, 5000, &read), PV_EMPTY_HANDLE);
+    IS(pv_open(&good, &log), PV_DONE);
+    IS(pv_take_publisher(&log, &publisher), PV_DONE);
+    IS(pv_take_reader(&log, &reader), PV_DONE);
+    IS(pv_take_keeper(&log, &keeper), PV_DONE);
+    IS(pv_set_connected(&keeper, true), PV_DONE);
+    IS(pv_clean_and_limit(&keeper, &position), PV_DONE);
+    IS(pv_join(&keeper, &second), PV_DONE);
+    IS(pv_open_messages((pv_reader *)&keeper, 5000, &read), PV_WRONG_HANDLE);
+    IS(pv_next_message((pv_messages *)&reader, room, sizeof room, &length), PV_WRONG_HANDLE);
+    IS(pv_messages_position((pv_messages *)&reader, &position), PV_WRONG_HANDLE);
+
+    /* a reader that has looked and found none has read nothing; one that found a frame has */
+    IS(pv_next(&reader, room, sizeof room, &frame), PV_DONE);
+    IS(pv_open_messages(&reader, 5000, &read), PV_DONE);
+    IS(pv_next(&reader, room, sizeof room, &frame), PV_EMPTY_HANDLE);
+    IS(pv_offer(&publisher, message, 3, &position), PV_DONE);
+    IS(pv_next(&second, room, 2, &frame), PV_ROOM_TOO_SMALL);
+    IS(pv_open_messages(&second, 5000, &other), PV_HAS_READ);
+    IS(pv_next(&second, room, sizeof room, &frame), PV_FRAME);
+    IS(pv_open_messages(&second, 5000, &other), PV_HAS_READ);
+    IS(pv_advance(&second), PV_FRAME);
+    IS(pv_open_messages(&second, 5000, &other), PV_HAS_READ);
+    IS(pv_advance(&second), PV_DONE);
+
+    IS(length, 7);
+    room[0] = 99;
+    IS(pv_next_message(&read, room, 2, &length), PV_ROOM_TOO_SMALL);
+    IS(length, 3);
+    IS(room[0], 99);
+    IS(pv_messages_position(&read, &position), PV_DONE);
+    IS(position, 128);
+    IS(pv_next_message(&read, room, 0, &length), PV_ROOM_TOO_SMALL);
+    IS(pv_next_message(&read, room, 3, &length), PV_FRAME);
+    IS(length, 3);
+    IS(memcmp(room, message, 3), 0);
+    length = 7;
+    IS(pv_next_message(&read, room, sizeof room, &length), PV_DONE);
+    IS(length, 7);
+
+    /* four frames; one too many bytes; none; and a claim that is aborted, which is no message */
+    IS(pv_offer(&publisher, message, 5000, &position), PV_DONE);
+    IS(pv_offer(&publisher, message, 5001, &position), PV_DONE);
+    IS(pv_offer(&publisher, message, 0, &position), PV_DONE);
+    IS(pv_claim(&publisher, 10, &position), PV_DONE);
+    IS(pv_abort(&publisher, &position), PV_DONE);
+    IS(pv_next_message(&read, room, 4999, &length), PV_ROOM_TOO_SMALL);
+    IS(length, 5000);
+    IS(pv_next_message(&read, room, sizeof room, &length), PV_FRAME);
+    IS(length, 5000);
+    IS(memcmp(room, message, 5000), 0);
+    IS(pv_next_message(&read, room, sizeof room, &length), PV_MESSAGE_TOO_LONG);
+    IS(length, 5000);
+    IS(pv_next_message(&read, room, 0, &length), PV_FRAME);
+    IS(length, 0);
+    IS(pv_next_message(&read, room, sizeof room, &length), PV_DONE);
+    uint64_t stands;
+    IS(pv_messages_position(&read, &stands), PV_DONE);
+    IS(stands, position);
+
+    pv_free_log(&log);
+    pv_free_publisher(&publisher);
+    pv_free_messages(&read);
+    pv_free_messages(&read);
+    pv_free_messages(&other);
+    pv_free_reader(&reader);
+    pv_free_reader(&second);
+    pv_free_keeper(&keeper);
+}
+
 static void cores(void) {
     pv_log log = PV_EMPTY;
     pv_publisher publisher = PV_EMPTY;
@@ -227,6 +311,7 @@ static void cores(void) {
 int main(void) {
     opening();
     calls();
+    messages();
     cores();
     if (!wrong) puts("codes as told");
     return wrong;

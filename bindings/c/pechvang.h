@@ -1,5 +1,5 @@
-/* A log that threads share without a lock: publishers offer messages or claim room for them, readers read frames, a keeper
-   cleans behind the readers and raises the limit. A sender and a subscriber carry its stream over a network: the caller brings
+/* A log that threads share without a lock: publishers offer messages or claim room for them, readers read frames or whole
+   messages, a keeper cleans behind the readers and raises the limit. A sender and a subscriber carry its stream over a network: the caller brings
    sockets and a clock. docs/LIBRARY.md tells how to link it and what is proved of it.
 
    Handles. A handle begins as PV_EMPTY and is the library's from then on: its fields are neither read nor written. It is moved,
@@ -9,7 +9,8 @@
 
    Threads. A handle is used by one call at a time. Different handles of one log are used from any threads at once, with no
    lock. A handle goes to another thread by that thread's start or join, by a lock, or by a sequentially consistent atomic. No
-   call blocks, and of the log's none but pv_open, pv_take_.., pv_join and pv_free_.. takes or gives back memory.
+   call blocks, and of the log's none but pv_open, pv_take_.., pv_join, pv_open_messages, pv_next_message and pv_free_.. takes or
+   gives back memory.
 
    Pointers are not null, valid for the call, and no two arguments of a call overlap. No call is made from a signal handler, nor in
    the child of a process with threads after fork. malloc, realloc and free are one allocator, aligned to 16 bytes. */
@@ -39,6 +40,7 @@ typedef struct pv_handle {
 typedef struct pv_log { pv_handle handle; } pv_log;
 typedef struct pv_publisher { pv_handle handle; } pv_publisher;
 typedef struct pv_reader { pv_handle handle; } pv_reader;
+typedef struct pv_messages { pv_handle handle; } pv_messages;
 typedef struct pv_keeper { pv_handle handle; } pv_keeper;
 typedef struct pv_subscriber { pv_handle handle; } pv_subscriber;
 typedef struct pv_sender { pv_handle handle; } pv_sender;
@@ -48,8 +50,8 @@ typedef struct pv_sender { pv_handle handle; } pv_sender;
 /* ---- codes */
 
 typedef enum pv_code {
-    PV_DONE = 0,                /* done; pv_next, pv_poll, pv_.._next: none there yet; pv_advance: none was read */
-    PV_FRAME = 1,               /* a frame was read or passed; pv_poll: a message; pv_.._next: a datagram to send */
+    PV_DONE = 0,                /* done; pv_next, pv_next_message, pv_poll, pv_.._next: none there yet; pv_advance: none was read */
+    PV_FRAME = 1,               /* a frame was read or passed; pv_next_message, pv_poll: a message; pv_.._next: a datagram to send */
     PV_NOT_CONNECTED = -1,      /* nobody is connected, and the tail is at the limit */
     PV_BACK_PRESSURED = -2,     /* the tail is at the limit */
     PV_ADMIN_ACTION = -3,       /* a term came to its end: offer again */
@@ -72,7 +74,8 @@ typedef enum pv_code {
     PV_BAD_START = -22,         /* not a multiple of 32, or not below the greatest position */
     PV_BAD_CONSUMERS = -23,     /* not from 1 to 8 */
     PV_FULL = -24,              /* eight readers are there */
-    PV_BAD_GROUP = -25          /* more than 8 receivers */
+    PV_BAD_GROUP = -25,         /* more than 8 receivers */
+    PV_HAS_READ = -26           /* the reader has found a frame already */
 } pv_code;
 
 static inline const char *pv_code_text(int32_t code) {
@@ -102,6 +105,7 @@ static inline const char *pv_code_text(int32_t code) {
     case PV_BAD_CONSUMERS: return "there are from 1 to 8 consumers";
     case PV_FULL: return "eight readers are there";
     case PV_BAD_GROUP: return "a group has at most 8 receivers";
+    case PV_HAS_READ: return "the reader has found a frame already";
     default: return "no code of this library";
     }
 }
@@ -160,6 +164,20 @@ int32_t pv_next(pv_reader *reader, uint8_t *room, size_t size, pv_frame *frame);
 
 /* PV_FRAME: the reader stands behind the frame that it read. PV_DONE: it had read none. */
 int32_t pv_advance(pv_reader *reader);
+
+/* ---- whole messages, in place of frames */
+
+/* The reader, for which pv_next has answered nothing but PV_DONE, becomes that of its log's messages from where it stands on, each
+   of at most so many bytes, and its handle is empty then. Where it is declined the reader stays. */
+int32_t pv_open_messages(pv_reader *reader, size_t greatest, pv_messages *messages);
+
+/* PV_FRAME: a whole message stands at the front of the room, the next one. PV_DONE: none is whole yet. PV_ROOM_TOO_SMALL: `length` has
+   the length that the room has to have, and the message waits for the next call. After PV_MESSAGE_TOO_LONG and PV_NO_MEMORY that
+   message is lost, and the next call goes on behind it. */
+int32_t pv_next_message(pv_messages *messages, uint8_t *room, size_t size, size_t *length);
+
+/* PV_DONE, and the position behind all that was given, and behind a message that waits. */
+int32_t pv_messages_position(pv_messages *messages, uint64_t *position);
 
 /* ---- the keeper */
 
@@ -259,6 +277,7 @@ void pv_free(pv_handle *handle);
 static inline void pv_free_log(pv_log *log) { pv_free(&log->handle); }
 static inline void pv_free_publisher(pv_publisher *publisher) { pv_free(&publisher->handle); }
 static inline void pv_free_reader(pv_reader *reader) { pv_free(&reader->handle); }
+static inline void pv_free_messages(pv_messages *messages) { pv_free(&messages->handle); }
 static inline void pv_free_keeper(pv_keeper *keeper) { pv_free(&keeper->handle); }
 static inline void pv_free_subscriber(pv_subscriber *subscriber) { pv_free(&subscriber->handle); }
 static inline void pv_free_sender(pv_sender *sender) { pv_free(&sender->handle); }

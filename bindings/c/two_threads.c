@@ -1,4 +1,4 @@
-/* One thread publishes, the other reads and keeps the log. */
+/* One thread publishes, the other reads the messages and keeps the log. */
 #include "pechvang.h"
 #include <pthread.h>
 #include <sched.h>
@@ -15,14 +15,18 @@ static void must(int32_t code, int32_t wanted, const char *what) {
     }
 }
 
+/* Some have one frame, and some four. */
+static size_t length_of(uint32_t count) { return count % 16 ? 4 + count % 64 : 5000; }
+
 static void *publish(void *at) {
     pv_publisher *publisher = at;
     for (uint32_t count = 0; count < MESSAGES; count++) {
-        uint8_t message[4];
+        static uint8_t message[5000];
+        size_t length = length_of(count);
         uint64_t position;
         int32_t code;
         memcpy(message, &count, 4);
-        while ((code = pv_offer(publisher, message, sizeof message, &position)) != PV_DONE) {
+        while ((code = pv_offer(publisher, message, length, &position)) != PV_DONE) {
             if (code < PV_ADMIN_ACTION) must(code, PV_DONE, "pv_offer");
             sched_yield();
         }
@@ -36,11 +40,13 @@ int main(void) {
     pv_log log = PV_EMPTY;
     pv_publisher publisher = PV_EMPTY;
     pv_reader reader = PV_EMPTY;
+    pv_messages messages = PV_EMPTY;
     pv_keeper keeper = PV_EMPTY;
     uint64_t limit;
     must(pv_open(&config, &log), PV_DONE, "pv_open");
     must(pv_take_publisher(&log, &publisher), PV_DONE, "pv_take_publisher");
     must(pv_take_reader(&log, &reader), PV_DONE, "pv_take_reader");
+    must(pv_open_messages(&reader, 5000, &messages), PV_DONE, "pv_open_messages");
     must(pv_take_keeper(&log, &keeper), PV_DONE, "pv_take_keeper");
     pv_free_log(&log);
     must(pv_set_connected(&keeper, true), PV_DONE, "pv_set_connected");
@@ -49,25 +55,24 @@ int main(void) {
     pthread_t thread;
     if (pthread_create(&thread, NULL, publish, &publisher) != 0) return 1;
     for (uint32_t wanted = 0; wanted < MESSAGES;) {
-        uint8_t room[1408];
-        pv_frame frame;
-        int32_t code = pv_next(&reader, room, sizeof room, &frame);
+        static uint8_t room[5000];
+        size_t length;
+        int32_t code = pv_next_message(&messages, room, sizeof room, &length);
         if (code == PV_DONE) {
             pv_clean_and_limit(&keeper, &limit);
             sched_yield();
             continue;
         }
-        must(code, PV_FRAME, "pv_next");
+        must(code, PV_FRAME, "pv_next_message");
         uint32_t count;
         memcpy(&count, room, 4);
-        if (frame.is_data && (frame.length != 4 || count != wanted++)) {
-            fprintf(stderr, "message %u of %zu bytes\n", (unsigned)count, frame.length);
+        if (count != wanted || length != length_of(wanted++)) {
+            fprintf(stderr, "message %u of %zu bytes\n", (unsigned)count, length);
             return 1;
         }
-        must(pv_advance(&reader), PV_FRAME, "pv_advance");
     }
     pthread_join(thread, NULL);
-    pv_free_reader(&reader);
+    pv_free_messages(&messages);
     pv_free_keeper(&keeper);
     printf("%d messages\n", MESSAGES);
     return 0;

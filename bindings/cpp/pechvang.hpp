@@ -101,6 +101,33 @@ public:
     }
 };
 
+// Whole messages, in place of a reader's frames.
+class Messages : public Handle<pv_messages> {
+public:
+    // Of a reader that has found no frame yet, from where it stands on, each of at most so many bytes. Where it is declined, the reader
+    // stays as it was.
+    explicit Messages(Reader &&reader, std::size_t greatest) { must(pv_open_messages(reader.get(), greatest, get())); }
+    // The message at the front of the room, or nothing where none is whole yet. One that is longer than the room waits: the fault is
+    // PV_ROOM_TOO_SMALL, and `waiting` is its length.
+    std::optional<std::size_t> next(std::span<std::uint8_t> room) {
+        std::size_t length = 0;
+        std::int32_t code = pv_next_message(get(), room.data(), room.size(), &length);
+        waiting_ = code == PV_ROOM_TOO_SMALL ? length : 0;
+        must(code);
+        return code == PV_FRAME ? std::optional(length) : std::nullopt;
+    }
+    std::size_t waiting() const { return waiting_; }
+    // Behind all that was given, and behind a message that waits.
+    std::uint64_t position() {
+        std::uint64_t position = 0;
+        must(pv_messages_position(get(), &position));
+        return position;
+    }
+
+private:
+    std::size_t waiting_ = 0;
+};
+
 class Keeper : public Handle<pv_keeper> {
 public:
     std::uint64_t clean_and_limit() {

@@ -1,4 +1,4 @@
-// Two publishers in threads of their own, one of which claims; a reader that keeps the log; and a fault that is thrown.
+// Two publishers in threads of their own, one of which claims; who reads their messages and keeps the log; and faults that are thrown.
 #include "pechvang.hpp"
 
 #include <array>
@@ -26,9 +26,24 @@ void publish(pechvang::Publisher publisher, std::uint32_t number) {
     }
 }
 
+// A message of several frames, which waits for a room that is long enough.
+bool waits(pechvang::Log &log, pechvang::Keeper &keeper, pechvang::Messages &messages) {
+    pechvang::Publisher publisher = log.publisher();
+    std::vector<std::uint8_t> message(5000, 7), room(100);
+    while (!publisher.offer(message)) keeper.clean_and_limit();
+    try {
+        messages.next(room);
+        return false;
+    } catch (const pechvang::Fault &fault) {
+        if (fault.code() != PV_ROOM_TOO_SMALL) return false;
+    }
+    room.resize(messages.waiting());
+    return messages.next(room) == message.size() && room == message && !messages.next(room);
+}
+
 bool run() {
     pechvang::Log log({.term_length = 1 << 16, .mtu = 1408, .initial_term_id = 7, .session = 1, .stream = 1001, .consumers = 1, .start = 0});
-    pechvang::Reader reader = log.reader();
+    pechvang::Messages messages(log.reader(), 5000);
     pechvang::Keeper keeper = log.keeper();
     keeper.connect(true);
     keeper.clean_and_limit();
@@ -38,18 +53,18 @@ bool run() {
     std::array<std::uint8_t, 1408> room;
     bool well = true;
     while (next[0] + next[1] < 2 * each) {
-        auto frame = reader.next(room);
-        if (!frame) {
+        auto length = messages.next(room);
+        if (!length) {
             keeper.clean_and_limit();
             std::this_thread::yield();
             continue;
         }
         std::array<std::uint32_t, 2> words;
         std::memcpy(words.data(), room.data(), sizeof words);
-        if (frame->is_data) well = well && frame->length == 8 && words[0] < 2 && words[1] == next[words[0]]++;
+        well = *length == 8 && words[0] < 2 && words[1] == next[words[0]]++;
         if (!well) break;
-        reader.advance();
     }
+    well = well && waits(log, keeper, messages);
     keeper.close();
     for (std::thread &thread : threads) thread.join();
     try {

@@ -17,6 +17,7 @@ __version__ = "0.2.0"
 
 DONE, FRAME = 0, 1
 MAY_PASS = (-1, -2, -3)
+ROOM_TOO_SMALL = -7
 
 
 class Fault(Exception):
@@ -35,10 +36,6 @@ class Config(ctypes.Structure):
 class Subscription(ctypes.Structure):
     _fields_ = [("receiver", ctypes.c_int64), ("greatest", ctypes.c_size_t), ("session", ctypes.c_int32), ("stream", ctypes.c_int32),
                 ("window", ctypes.c_uint32)]
-
-
-class Frame(ctypes.Structure):
-    _fields_ = [("position", ctypes.c_uint64), ("length", ctypes.c_size_t), ("flags", ctypes.c_uint8), ("is_data", ctypes.c_bool)]
 
 
 class _Handle(ctypes.Structure):
@@ -97,21 +94,44 @@ class Publisher(Pass):
 
 
 class Reader(Pass):
-    def messages(self, room=65504, wait=lambda: time.sleep(0)):
-        """Whole messages, for good; `wait` is called where there is none yet, and ends it by an answer that is true."""
-        bytes_, frame, parts = ctypes.create_string_buffer(room), Frame(), []
+    def messages(self, greatest=1 << 21, wait=lambda: time.sleep(0)):
+        """Whole messages, for good, from where the reader stands on, which has found no frame yet and is spent then; `wait` is
+        called where there is none yet, and ends it by an answer that is true."""
+        return Messages(self, greatest).each(wait)
+
+
+class Messages(Pass):
+    """Whole messages, in place of a reader's frames, each of at most so many bytes."""
+
+    def __init__(self, reader, greatest=1 << 21):
+        super().__init__(reader.library)
+        self.room = ctypes.create_string_buffer(2048)
+        reader.call("pv_open_messages", ctypes.c_size_t(greatest), ctypes.byref(self.handle))
+
+    def next(self):
+        """The next message, or None where none is whole yet. After a fault of code -13 or -19 it goes on behind the lost one."""
+        length = ctypes.c_size_t()
+        try:
+            if self.call("pv_next_message", self.room, ctypes.c_size_t(len(self.room)), ctypes.byref(length)) == DONE:
+                return None
+        except Fault as fault:
+            if fault.code != ROOM_TOO_SMALL:
+                raise
+            self.room = ctypes.create_string_buffer(length.value)
+            return self.next()
+        return ctypes.string_at(self.room, length.value)
+
+    def each(self, wait):
         while True:
-            if self.call("pv_next", bytes_, ctypes.c_size_t(room), ctypes.byref(frame)) == DONE:
-                if wait():
-                    return
-                continue
-            if frame.is_data:
-                if frame.flags & 128:
-                    parts = []
-                parts.append(bytes_.raw[:frame.length])
-            self.call("pv_advance")
-            if frame.is_data and frame.flags & 64:
-                yield b"".join(parts)
+            message = self.next()
+            if message is not None:
+                yield message
+            elif wait():
+                return
+
+    def position(self):
+        """Behind all that was given."""
+        return self.number("pv_messages_position")
 
 
 class Keeper(Pass):

@@ -1,7 +1,7 @@
 //! A log that threads share without a lock, and its sender and subscriber, for Rust: handles that are freed by `Drop` and go to other threads. The rules of
 //! `pechvang.h` are kept by the types: a handle is used by one call at a time, and moved, never copied.
 //!
-//! `main` shows it: four publishers in threads of their own, and a reader that keeps the log.
+//! `main` shows it: four publishers in threads of their own, a reader of frames that keeps the log, and who reads the messages.
 
 use std::ffi::c_void;
 use std::fmt;
@@ -65,6 +65,9 @@ pub struct Subscription {
     pub window: u32,
 }
 
+/// The code of a room that is shorter than what waits for it.
+const ROOM_TOO_SMALL: i32 = -7;
+
 extern "C" {
     fn pv_open(config: &Config, log: &mut Handle) -> i32;
     fn pv_take_publisher(log: &mut Handle, publisher: &mut Handle) -> i32;
@@ -78,6 +81,9 @@ extern "C" {
     fn pv_share(publisher: &mut Handle, share: &mut u64) -> i32;
     fn pv_next(reader: &mut Handle, room: *mut u8, size: usize, frame: &mut Frame) -> i32;
     fn pv_advance(reader: &mut Handle) -> i32;
+    fn pv_open_messages(reader: &mut Handle, greatest: usize, messages: &mut Handle) -> i32;
+    fn pv_next_message(messages: &mut Handle, room: *mut u8, size: usize, length: &mut usize) -> i32;
+    fn pv_messages_position(messages: &mut Handle, position: &mut u64) -> i32;
     fn pv_clean_and_limit(keeper: &mut Handle, limit: &mut u64) -> i32;
     fn pv_set_connected(keeper: &mut Handle, connected: bool) -> i32;
     fn pv_set_closed(keeper: &mut Handle) -> i32;
@@ -207,6 +213,39 @@ impl Reader {
     pub fn advance(&mut self) -> Result<bool, Fault> {
         let code = unsafe { pv_advance(&mut self.0) };
         answer(code, code == 1)
+    }
+}
+
+/// Whole messages, in place of a reader's frames.
+pub struct Messages(Handle);
+
+impl Messages {
+    /// Of a reader that has found no frame yet, from where it stands on, each of at most so many bytes. Where it is declined, the
+    /// reader comes back.
+    pub fn open(mut reader: Reader, greatest: usize) -> Result<Messages, (Fault, Reader)> {
+        let mut opened = Handle::EMPTY;
+        match answer(unsafe { pv_open_messages(&mut reader.0, greatest, &mut opened) }, ()) {
+            Ok(()) => Ok(Messages(opened)),
+            Err(fault) => Err((fault, reader)),
+        }
+    }
+
+    /// The length of the next message, which stands at the front of the room. That grows where it is too short.
+    pub fn next(&mut self, room: &mut Vec<u8>) -> Result<Option<usize>, Fault> {
+        let mut length = 0;
+        let mut code = unsafe { pv_next_message(&mut self.0, room.as_mut_ptr(), room.len(), &mut length) };
+        if code == ROOM_TOO_SMALL {
+            room.resize(length, 0);
+            code = unsafe { pv_next_message(&mut self.0, room.as_mut_ptr(), room.len(), &mut length) };
+        }
+        answer(code, (code == 1).then_some(length))
+    }
+
+    /// Behind all that was given.
+    pub fn position(&mut self) -> Result<u64, Fault> {
+        let mut position = 0;
+        let code = unsafe { pv_messages_position(&mut self.0, &mut position) };
+        answer(code, position)
     }
 }
 
@@ -369,7 +408,7 @@ fn main() -> Result<(), Fault> {
     let config = Config { term_length: 1 << 16, mtu: 1408, initial_term_id: 7, session: 1, stream: 1001, consumers: 1, start: 0 };
     let mut log = Log::open(&config)?;
     let (mut reader, mut keeper) = (log.reader()?, log.keeper()?);
-    let mut joined = keeper.join()?;
+    let mut joined = Messages::open(keeper.join()?, 1 << 16).map_err(|(fault, _)| fault)?;
     keeper.set_connected(true)?;
     keeper.clean_and_limit()?;
     let mut threads = Vec::new();
@@ -377,21 +416,22 @@ fn main() -> Result<(), Fault> {
         let publisher = log.publisher()?;
         threads.push(thread::spawn(move || publish(publisher, number, EACH)));
     }
-    let (mut room, mut other, mut next) = ([0; 1408], [0; 1408], [0; 4]);
+    let (mut room, mut other, mut next) = ([0; 1408], Vec::new(), [0; 4]);
     while next.iter().sum::<u32>() < 4 * EACH {
         let Some(frame) = reader.next(&mut room)? else {
             keeper.clean_and_limit()?;
             thread::yield_now();
             continue;
         };
-        let same = joined.next(&mut other)?.expect("the same frame");
-        assert_eq!((same.position, &other[..same.length]), (frame.position, &room[..frame.length]));
         if frame.is_data {
+            let same = joined.next(&mut other)?.expect("the same message");
+            assert_eq!(other[..same], room[..frame.length]);
+            assert_eq!(joined.position()?, frame.position + (frame.length as u64 + 63) / 32 * 32);
             let number = u32::from_le_bytes(room[..4].try_into().expect("four bytes")) as usize;
             assert_eq!(u32::from_le_bytes(room[4..8].try_into().expect("four bytes")), next[number]);
             next[number] += 1;
         }
-        assert!(reader.advance()? && joined.advance()?);
+        assert!(reader.advance()?);
     }
     keeper.set_closed()?;
     let mut shares = 0;

@@ -4,4 +4,4 @@ pub mod Halves
 pub mod Eights
 pub mod Handed
 mod Newcomers
-mod Openers
+pub mod Openers

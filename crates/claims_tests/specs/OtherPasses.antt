@@ -1,5 +1,5 @@
 -- Who goes on beside a publisher that stalls.
-use Rattle.std.specs.Prelude.{◌≡◌, ◌≤◌, [], length}
+use Rattle.std.specs.Prelude.{◌≡◌, []}
 use Rattle.std.specs.List.{AllByRecursion}
 use Rattle.shared_log.specs.Books.{IsDone}
 use Rattle.log_passes.specs.Handles.{LogValue}
@@ -11,11 +11,10 @@ use Rattle.claims_tests.specs.declared.other_passes.Four.{Four}
 
 -- all that follows is of this log, and has claimed nothing
 pub record IsFollower (l : LogValue) (f : Follower) : Type 0 where
-  pub reader : IsReaderOf l f.reader
+  pub reader : IsReaderOf l f.messages.reader
   pub keeper : IsDone l f.keeper.held
   pub unclaimed : f.keeper.held.pass.right.claims ≡ []
   pub parts : f.keeper.held.pass.right.parts ≡ 8
-  pub room : l.identity.geometry.mtu ≤ length f.block
 
 -- the four that publish are of this log, and the first has the first's parts
 pub record AreFour (l : LogValue) (f : Four) : Type 0 where

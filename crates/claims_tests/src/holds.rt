@@ -1,6 +1,5 @@
 //! A publisher that is held between the halves of a claim, in a thread of its own, holds nobody up.
 
-ghost use Rattle.std.specs.Prelude.{◌≤◌, length};
 ghost use Rattle.shared_log.specs.Readers.{IsReaderOf};
 ghost use Rattle.claims_tests.specs.Passes.{IsKeeping, IsPart};
 ghost use Rattle.claims_tests.specs.OtherPasses.{AreFour, IsFollower};
@@ -8,11 +7,10 @@ ghost use Rattle.claims_tests.specs.OtherPasses.{AreFour, IsFollower};
 use crate::other_passes::{Follower, Four, OtherPasses};
 use crate::stalled::{close_passes, open_passes};
 use crate::stalls::{add_late, offer_one};
-use block::Block;
 use claims::{Claimant, arm};
-use position::FrameKind;
+use log_messages::LogMessages;
 use publication::Refusal;
-use shared_log::{Book, Keeper, Log, LogReader, advance, clean_and_limit, next};
+use shared_log::{Book, Keeper, Log, clean_and_limit};
 use std::alloc::Global;
 use std::sync::atomic::{AtomicU64, Ordering};
 use std::test::*;
@@ -32,7 +30,7 @@ const PATIENCE: u32 = 20_000_000;
 enum Role {
     /// The publisher with this number: it goes on by an offer that is accepted.
     Publisher(u64),
-    /// By a frame that it passes.
+    /// By a message that it reads.
     Reader,
     /// By a call that has ended.
     Keeper,
@@ -151,41 +149,26 @@ fn publish(log: &Log, mut claimant: Claimant, role: Role, hold: &Hold) -> (Claim
     (claimant, accepted)
 }
 
-/// What a reader leaves.
-#[derive(Drop)]
-struct Reading {
-    reader: LogReader,
-    block: Block,
-    messages: u32,
-}
-
-/// Reads until all publishers are through and no frame is left, and counts the messages.
-fn read(log: &Log, mut reader: LogReader, mut block: Block, hold: &Hold) -> Reading
-    requires reader { IsReaderOf log.now reader }
-    requires room { log.now.identity.geometry.mtu ≤ length block }
-    ensures reader { IsReaderOf log.now result.reader }
-    ensures room { log.now.identity.geometry.mtu ≤ length result.block }
+/// Reads until all publishers are through and no message is left. The number is that of the messages.
+fn read(log: &Log, mut messages: LogMessages, hold: &Hold) -> (LogMessages, u32)
+    requires { IsReaderOf log.now messages.reader }
+    ensures { IsReaderOf log.now result.0.reader }
 {
-    let mut messages: u32 = 0;
+    let mut count: u32 = 0;
     for _ in 0..TRIES {
         let over = hold.is_over();
-        match next(log, &mut reader, &mut block) {
-            Some(head) => {
-                if head.kind == FrameKind::Data {
-                    messages = messages.wrapping_add(1);
-                }
-                advance(log, &mut reader);
+        match messages.next(log) {
+            Ok(Some(_)) => {
+                count = count.wrapping_add(1);
                 hold.step(Role::Reader);
             }
-            None if over => break,
-            None => yield_now(),
+            Ok(None) if over => break,
+            Ok(None) => yield_now(),
+            // It isn't counted.
+            Err(_) => {}
         }
     }
-    Reading {
-        reader,
-        block,
-        messages,
-    }
+    (messages, count)
 }
 
 /// Cleans and raises the limit until all publishers are through.
@@ -209,33 +192,19 @@ fn follow<R: Threads>(rt: &R, log: &Log, follower: Follower, hold: &Hold) -> (Fo
     requires { IsFollower log.now follower }
     ensures { IsFollower log.now result.0 }
 {
-    let Follower {
-        reader,
-        keeper,
-        block,
-    } = follower;
-    let (read, keeper) = join(
+    let Follower { messages, keeper } = follower;
+    let ((messages, count), keeper) = join(
         rt,
-        || -> Reading
-            requires { IsReaderOf log.now reader × (log.now.identity.geometry.mtu ≤ length block) }
-            ensures { IsReaderOf log.entry.now result.reader × (log.entry.now.identity.geometry.mtu ≤ length result.block) }
-        { read(log, reader, block, hold) },
+        || -> (LogMessages, u32)
+            requires { IsReaderOf log.now messages.reader }
+            ensures { IsReaderOf log.entry.now result.0.reader }
+        { read(log, messages, hold) },
         || -> Keeper
             requires { IsKeeping log.now keeper }
             ensures { IsKeeping log.entry.now result }
         { keep(log, keeper, hold) },
     );
-    let Reading {
-        reader,
-        block,
-        messages,
-    } = read;
-    let follower = Follower {
-        reader,
-        keeper,
-        block,
-    };
-    (follower, messages)
+    (Follower { messages, keeper }, count)
 }
 
 /// The publisher that is held and another one, each in a thread of its own.

@@ -1,8 +1,8 @@
 //! Who goes on beside a publisher that stalls.
 
-use block::Block;
 use claims::Claimant;
-use shared_log::{Keeper, LogReader};
+use log_messages::LogMessages;
+use shared_log::Keeper;
 
 /// What a log needs that goes on: publishers, of which the first three publish, its reader and its keeper.
 #[derive(Drop)]
@@ -26,7 +26,6 @@ pub struct Four {
 /// Who follows the publishers.
 #[derive(Drop)]
 pub struct Follower {
-    pub reader: LogReader,
+    pub messages: LogMessages,
     pub keeper: Keeper,
-    pub block: Block,
 }

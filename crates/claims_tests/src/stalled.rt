@@ -1,20 +1,24 @@
 //! A log that opens, and one that ends.
 
-ghost use Rattle.std.specs.Prelude.{◌≡◌, IfOk};
+ghost use Rattle.std.specs.Prelude.{◌≡◌, [], IfOk};
 ghost use Rattle.std.specs.List.{AllByRecursion};
 ghost use Rattle.log_passes.specs.Handles.{IsOf, parts_in};
 ghost use Rattle.log_rule.specs.Claims.Sums.{total};
 ghost use Rattle.shared_log.specs.Handles.{AreNew};
+ghost use Rattle.shared_log.specs.Readers.{known_of};
 ghost use Rattle.claims_tests.specs.Passes.{IsPart};
 ghost use Rattle.claims_tests.specs.OtherPasses.{AreOtherPasses, IsFollower};
 
 use crate::other_passes::{Follower, OtherPasses};
-use block::Block;
 use claims::{Claimant, Parts, close, open};
+use log_messages::LogMessages;
 use position::Geometry;
-use shared_log::{Book, Log, clean_and_limit, set_connected};
+use shared_log::{Book, Log, LogReader, clean_and_limit, set_connected};
 use std::alloc::{AllocError, Global};
 use std::test::Fail;
+
+/// The longest message.
+pub(crate) const LONGEST: usize = 992;
 
 /// The first publisher, and those that go on.
 fn set_apart(claimants: [Claimant; 8], follower: Follower, log: &Log) -> (Claimant, OtherPasses)
@@ -34,12 +38,23 @@ fn set_apart(claimants: [Claimant; 8], follower: Follower, log: &Log) -> (Claima
     (zero, others)
 }
 
+/// The messages of a reader that has read nothing.
+fn messages_of(alloc: Global, reader: LogReader) -> Result<LogMessages, AllocError>
+    requires { known_of reader ≡ [] }
+    ensures { IfOk result (λ messages. messages.reader ≡ reader) }
+{
+    match LogMessages::new(alloc, reader, LONGEST) {
+        Ok(messages) => Ok(messages),
+        Err(_) => Err(AllocError),
+    }
+}
+
 /// A log with short terms, connected, its first publisher, and all others with its reader and its keeper.
+#[tactic(auto, using(crate::proofs::Unread::new_unread))]
 pub(crate) fn open_passes(alloc: Global) -> Result<(Log, Claimant, OtherPasses), Fail>
     ensures { IfOk result (λ r. IsPart r.0 176 r.1 × AreOtherPasses r.0 r.2) }
 {
     let geometry = Geometry::new(65_536, 1408, 7)?;
-    let block = Block::new(alloc, geometry.mtu() as usize)?;
     let (log, parts) = open(alloc, geometry, 1, 1001, 0, 1)?;
     let Parts {
         claimants,
@@ -49,9 +64,8 @@ pub(crate) fn open_passes(alloc: Global) -> Result<(Log, Claimant, OtherPasses),
     set_connected(&log, &mut keeper, true);
     clean_and_limit(&log, &mut keeper);
     let follower = Follower {
-        reader: readers.remove(0),
+        messages: messages_of(alloc, readers.remove(0))?,
         keeper,
-        block,
     };
     let (stalled, others) = set_apart(claimants, follower, &log);
     Ok((log, stalled, others))

@@ -5,10 +5,10 @@ ghost use Rattle.claims_tests.specs.Passes.{IsPart};
 ghost use Rattle.claims_tests.specs.OtherPasses.{AreOtherPasses, IsFollower};
 
 use crate::other_passes::{Follower, OtherPasses};
-use crate::stalled::{close_passes, open_passes};
+use crate::stalled::{LONGEST, close_passes, open_passes};
 use claims::{Armed, Claimant, arm, offer};
 use publication::Refusal;
-use shared_log::{Book, Log, advance, clean_and_limit, next};
+use shared_log::{Book, Log, clean_and_limit};
 use std::alloc::Global;
 use std::process::Abort;
 use std::test::*;
@@ -19,18 +19,16 @@ pub(crate) fn offer_one(log: &Log, claimant: &mut Claimant) -> Result<u64, Refus
     ensures { IsPart log.now 120 claimant.new }
 {
     let most = log.identity().geometry().max_message() as usize;
-    let message = [97; 992];
-    offer(log, claimant, &message[..most.min(992)])
+    let message = [97; LONGEST];
+    offer(log, claimant, &message[..most.min(LONGEST)])
 }
 
-/// The reader goes past a frame, if one is there, and the keeper follows.
+/// The reader reads a message, if one is there, and the keeper follows.
 pub(crate) fn follow(log: &Log, follower: &mut Follower)
     requires { IsFollower log.now follower.old }
     ensures { IsFollower log.now follower.new }
 {
-    if next(log, &mut follower.reader, &mut follower.block).is_some() {
-        advance(log, &mut follower.reader);
-    }
+    let _ = follower.messages.next(log);
     clean_and_limit(log, &mut follower.keeper);
 }
 

@@ -1,8 +1,10 @@
--- A reader of a log that was just opened is one consumer, and nothing else.
-use Rattle.std.proofs.Common.{◌≡◌, ℕ, ◌<◌, arith}
+-- A reader of a log that was just opened is one consumer, and nothing else; one that has joined has read nothing.
+use Rattle.std.proofs.Common.{◌≡◌, ℕ, ◌<◌, [], arith}
 use Rattle.log_passes.specs.Handles.{LogValue}
 use Rattle.shared_log.specs.Parts.{IsNewReader}
-use Rattle.shared_log.specs.Readers.{ReaderValue}
+use Rattle.shared_log.specs.Joining.{IsJoined, Joins}
+use Rattle.shared_log.specs.Keepers.{KeeperValue}
+use Rattle.shared_log.specs.Readers.{ReaderValue, known_at, known_of}
 use Rattle.log_rule.specs.Keepings.{newly}
 use Rattle.stream_tests.specs.Consumers.{IsSingle}
 
@@ -14,3 +16,6 @@ new_single l n r new low = record {
   where
     below : (m n : ℕ) → m ≡ n → n < 8 → m < 8
     below m n e low = omega arith
+
+pub joined_unread : (l : LogValue) (k : KeeperValue) (r : ReaderValue) (q : KeeperValue) → Joins l k r q → known_of r ≡ []
+joined_unread l k r q h = λ j. known_at (h.reader.held.pass_is j).reading (h.reader.place j)

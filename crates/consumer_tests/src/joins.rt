@@ -1,19 +1,20 @@
 //! Consumers that join and leave, on one thread.
 
-ghost use Rattle.std.specs.Prelude.{◌≡◌, ◌≤◌, IfOk, length};
+ghost use Rattle.std.specs.Prelude.{◌≡◌, ◌≤◌, [], IfOk, length};
 ghost use Rattle.std.specs.List.{AllByRecursion};
 ghost use Rattle.log_passes.specs.Handles.{IsOf, parts_in};
 ghost use Rattle.log_rule.specs.Claims.Sums.{total};
 ghost use Rattle.shared_log.specs.Handles.{AreNew};
+ghost use Rattle.shared_log.specs.Readers.{known_of};
 ghost use Rattle.stream_tests.specs.Consumers.{IsSingle};
 ghost use Rattle.claims_tests.specs.Passes.{IsKeeping, IsPart};
 ghost use Rattle.consumer_tests.specs.Passes.{ArePasses};
 
 use crate::passes::Passes;
-use assembler::Assembler;
 use block::Block;
 use claims::{Claimant, Parts, close, offer, open};
-use position::{BEGIN, END, FrameHead, Geometry, UNFRAGMENTED};
+use log_messages::LogMessages;
+use position::{BEGIN, FrameHead, Geometry};
 use publication::Refusal;
 use shared_log::{
     Book, Keeper, Log, LogError, LogReader, advance, clean_and_limit, next, set_connected,
@@ -122,13 +123,19 @@ fn read<R: Abort>(rt: &R, log: &Log, reader: &mut LogReader, block: &mut Block) 
     }
 }
 
-/// The payload of a frame, which stands at a block's front.
-fn payload(block: &Block, head: FrameHead) -> &[u8] {
-    let length = head.frame_length.saturating_sub(32) as usize;
-    block.bytes().get(..length).unwrap_or(&[])
+/// The messages of a reader that has read nothing, from where it stands on.
+fn messages_of(alloc: Global, reader: LogReader) -> Result<LogMessages, AllocError>
+    requires { known_of reader ≡ [] }
+    ensures { IfOk result (λ messages. messages.reader ≡ reader) }
+{
+    match LogMessages::new(alloc, reader, 8192) {
+        Ok(messages) => Ok(messages),
+        Err(_) => Err(AllocError),
+    }
 }
 
-/// A consumer joins, with this number, at this position.
+/// A consumer joins, with this number, at this position. It has read nothing.
+#[tactic(auto, using(crate::proofs::Singles::joined_unread))]
 fn join_as<R: Abort>(
     rt: &R,
     log: &Log,
@@ -139,6 +146,7 @@ fn join_as<R: Abort>(
     requires { IsKeeping log.now keeper.old }
     ensures keeper { IsKeeping log.now keeper.new }
     ensures reader { IsSingle log.now result }
+    ensures nothing { known_of result ≡ [] }
 {
     match keeper.join(log) {
         Ok(reader) => {
@@ -176,7 +184,7 @@ fn leave_none<R: Abort>(rt: &R, log: &Log, keeper: &mut Keeper, reader: LogReade
     requires keeper { IsKeeping log.now keeper.old }
     requires reader { IsSingle log.now reader }
     ensures keeper { IsKeeping log.now keeper.new }
-    ensures reader { IsSingle log.now result }
+    ensures reader { result ≡ reader }
 {
     match keeper.leave(log, reader) {
         Ok(()) => panic!(rt; "nobody is there"),
@@ -226,8 +234,8 @@ fn join_again<R: Abort>(
     readers
 }
 
-/// A consumer joins where the least one stands, in the middle of a message, and reads on from there. The last one can't
-/// leave, and no ninth can join.
+/// A consumer joins where the least one stands, in the middle of a message, of which it gets nothing, and reads on from
+/// there. The last one can't leave, and no ninth can join.
 #[test]
 fn joins_and_leaves(rt: HostRuntime) -> Result<(), Fail> {
     let (log, passes) = open_passes(rt.alloc())?;
@@ -238,28 +246,21 @@ fn joins_and_leaves(rt: HostRuntime) -> Result<(), Fail> {
         mut keeper,
     } = passes;
     let mut block = block_for(rt.alloc(), &log)?;
-    let mut assembler = Assembler::new(rt.alloc(), 8192);
     assert!(rt; publish(&log, &mut publisher, &[b'x'; 225]) == Ok(320));
     let head = read(&rt, &log, &mut reader, &mut block);
     assert!(rt; (head.start, head.flags, reader.position()) == (0, BEGIN, 256));
-    let mut second = join_as(&rt, &log, &mut keeper, 1, 256);
-    assert!(rt; publish(&log, &mut publisher, b"abc") == Ok(384));
-    let head = read(&rt, &log, &mut second, &mut block);
-    assert!(rt; (head.start, head.flags) == (256, END));
-    assert!(rt;
-        assembler
-            .on_frame(head.flags, payload(&block, head))?
-            .is_none()
-    );
+    let second = join_as(&rt, &log, &mut keeper, 1, 256);
     leave(&rt, &log, &mut keeper, reader);
-    let mut second = leave_none(&rt, &log, &mut keeper, second);
-    let head = read(&rt, &log, &mut second, &mut block);
-    assert!(rt; (head.start, head.flags) == (320, UNFRAGMENTED));
-    let message = assembler.on_frame(head.flags, payload(&block, head))?;
+    let second = leave_none(&rt, &log, &mut keeper, second);
+    let mut messages = messages_of(rt.alloc(), second)?;
+    assert!(rt; messages.next(&log)?.is_none());
+    assert!(rt; messages.position() == 320);
+    assert!(rt; publish(&log, &mut publisher, b"abc") == Ok(384));
+    let message = messages.next(&log)?;
     assert!(rt; message.is_some_and(|message| message.bytes.as_slice() == b"abc".as_slice()));
     let readers = join_all(&rt, rt.alloc(), &log, &mut keeper);
     join_none(&rt, &log, &mut keeper);
-    let readers = join_again(&rt, &log, &mut keeper, second, readers);
+    let readers = join_again(&rt, &log, &mut keeper, messages.into_reader(), readers);
     let book = close_all(rt.alloc(), log, publisher, others, readers, keeper)?;
     let whole = Book {
         start: 0,

@@ -5,3 +5,4 @@ pub mod Subscribers
 pub mod Subscribing
 pub mod Senders
 pub mod Sending
+pub mod Messages

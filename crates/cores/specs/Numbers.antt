@@ -1,5 +1,6 @@
 -- The numbers that a user sees or gives, and a poll's fault.
 use Rattle.std.specs.Prelude.{ℕ, ℤ, pos, negsuc, Option, None, Some, nat_eq, if◌then◌else◌}
+use Rattle.assembler.specs.declared.fault.AssemblyError.{AssemblyError}
 use Rattle.assembler.specs.declared.fault.AssemblyError.TheVariants as assembly
 use Rattle.frames.specs.declared.fault.FrameError.{FrameError}
 use Rattle.frames.specs.declared.fault.FrameError.TheVariants as frame
@@ -16,7 +17,7 @@ use Rattle.receiver.specs.declared.receiver_core.Outcome.TheVariants as outcome
 use Rattle.sender.specs.declared.sender_core.SenderAnswer.{SenderAnswer}
 use Rattle.sender.specs.declared.sender_core.SenderAnswer.TheVariants as answer
 use Rattle.cores.specs.declared.fault.Fault.{Fault}
-use Rattle.cores.specs.declared.fault.Fault.TheVariants.{Group, Memory, NoImage, Room, Start, TooLong, Unsent}
+use Rattle.cores.specs.declared.fault.Fault.TheVariants.{Group, HasRead, Memory, NoImage, Room, Start, TooLong, Unsent}
 
 abbrev pub code_of : Fault → ℤ
 code_of Room = negsuc 6
@@ -26,6 +27,7 @@ code_of TooLong = negsuc 12
 code_of Memory = negsuc 18
 code_of Start = negsuc 21
 code_of Group = negsuc 24
+code_of HasRead = negsuc 25
 
 -- I1 to I6
 abbrev pub of_insert : Insert → ℤ
@@ -83,6 +85,10 @@ abbrev pub poll_fault : PollError → Fault
 poll_fault polls.NoImage = NoImage
 poll_fault (polls.Unassembled assembly.Memory) = Memory
 poll_fault (polls.Unassembled assembly.TooLong) = TooLong
+
+abbrev pub assembly_fault : AssemblyError → Fault
+assembly_fault assembly.Memory = Memory
+assembly_fault assembly.TooLong = TooLong
 
 -- of so many receivers; 0 is one receiver, whatever its id
 abbrev pub group_of : ℕ → Option ℕ

@@ -20,6 +20,8 @@ pub enum Fault {
     Start,
     /// A group has at most eight receivers. Nothing has changed.
     Group,
+    /// The reader has found a frame already. Nothing has changed.
+    HasRead,
 }
 
 impl Fault {
@@ -35,6 +37,7 @@ impl Fault {
             Fault::Memory => -19,
             Fault::Start => -22,
             Fault::Group => -25,
+            Fault::HasRead => -26,
         }
     }
 }

@@ -7,3 +7,4 @@ mod Gathered
 mod Closing
 mod ClosedRows
 mod Committing
+mod CommittedRows

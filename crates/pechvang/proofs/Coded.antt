@@ -39,6 +39,7 @@ small_of_core cores.TooLong = refl
 small_of_core cores.Memory = refl
 small_of_core cores.Start = refl
 small_of_core cores.Group = refl
+small_of_core cores.HasRead = refl
 
 pub coded_core : (f : core_faults.Fault) (code : ℤ) → code ≡ core_numbers.code_of f → to_z w32 (of_z w32 code) ≡ core_numbers.code_of f
 coded_core f code e = ap (λ (z : ℤ). to_z w32 (of_z w32 z)) e ∙ small_of_core f

@@ -5,3 +5,4 @@ pub mod Publishing
 pub mod Reading
 pub mod Keeping
 pub mod Ends
+pub mod Messages

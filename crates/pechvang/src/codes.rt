@@ -1,13 +1,13 @@
 //! The codes that C sees, beside those of refusals and faults.
 
-/// Done; of a read, that no frame is committed yet; of an advance, that none was read; of a poll, that no message is whole
-/// yet; of a datagram to send, that none is left.
+/// Done; of a read, that no frame is committed yet; of an advance, that none was read; of a poll or a next message, that none
+/// is whole yet; of a datagram to send, that none is left.
 pub(crate) const DONE: i32 = 0;
 
-/// A frame was read, or passed; a message was polled; a datagram is to be sent.
+/// A frame was read, or passed; a message was polled, or is the next one; a datagram is to be sent.
 pub(crate) const FRAME: i32 = 1;
 
-/// The room is shorter than the frame's payload.
+/// The room is shorter than the frame's payload, or than the message.
 pub(crate) const ROOM_TOO_SMALL: i32 = -7;
 
 /// A claim is open.

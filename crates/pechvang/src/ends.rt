@@ -26,6 +26,7 @@ fn tick_by(pass: &mut Pass, now: u64) -> i32
         | Pass::Publisher(_)
         | Pass::Claim(_)
         | Pass::Reader(_)
+        | Pass::Messages(_)
         | Pass::Keeper(_) => WRONG_HANDLE,
     }
 }
@@ -55,6 +56,7 @@ fn next_by(pass: &mut Pass, room: &mut [u8], length: &mut usize) -> i32
         | Pass::Publisher(_)
         | Pass::Claim(_)
         | Pass::Reader(_)
+        | Pass::Messages(_)
         | Pass::Keeper(_) => WRONG_HANDLE,
     }
 }

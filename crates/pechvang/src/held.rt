@@ -1,7 +1,7 @@
 //! What a handle may hold.
 
 use claims::{ClaimPass, KeeperPass, Opened, PublisherPass, ReaderPass};
-use cores::{SenderPass, SubscriberPass};
+use cores::{MessagesPass, SenderPass, SubscriberPass};
 use std::alloc::Global;
 
 /// A pass, of whatever kind.
@@ -13,6 +13,7 @@ pub enum Pass {
     Publisher(PublisherPass),
     Claim(ClaimPass),
     Reader(ReaderPass),
+    Messages(Box<MessagesPass, Global>),
     Keeper(KeeperPass),
     Subscriber(Box<SubscriberPass, Global>),
     Sender(Box<SenderPass, Global>),

@@ -21,6 +21,7 @@ fn clean_by(pass: &mut Pass, limit: &mut u64) -> i32
         | Pass::Publisher(_)
         | Pass::Claim(_)
         | Pass::Reader(_)
+        | Pass::Messages(_)
         | Pass::Subscriber(_)
         | Pass::Sender(_) => WRONG_HANDLE,
     }
@@ -52,6 +53,7 @@ fn connect_by(pass: &mut Pass, connected: bool) -> i32
         | Pass::Publisher(_)
         | Pass::Claim(_)
         | Pass::Reader(_)
+        | Pass::Messages(_)
         | Pass::Subscriber(_)
         | Pass::Sender(_) => WRONG_HANDLE,
     }
@@ -83,6 +85,7 @@ fn close_by(pass: &mut Pass) -> i32
         | Pass::Publisher(_)
         | Pass::Claim(_)
         | Pass::Reader(_)
+        | Pass::Messages(_)
         | Pass::Subscriber(_)
         | Pass::Sender(_) => WRONG_HANDLE,
     }
@@ -122,6 +125,7 @@ fn join_by(alloc: Global, pass: &mut Pass, reader: &mut Handle) -> i32
         | Pass::Publisher(_)
         | Pass::Claim(_)
         | Pass::Reader(_)
+        | Pass::Messages(_)
         | Pass::Subscriber(_)
         | Pass::Sender(_) => WRONG_HANDLE,
     }

@@ -46,6 +46,7 @@ fn take_publisher_by(alloc: Global, pass: &mut Pass, publisher: &mut Handle) -> 
         | Pass::Publisher(_)
         | Pass::Claim(_)
         | Pass::Reader(_)
+        | Pass::Messages(_)
         | Pass::Keeper(_)
         | Pass::Subscriber(_)
         | Pass::Sender(_) => WRONG_HANDLE,
@@ -85,6 +86,7 @@ fn take_reader_by(alloc: Global, pass: &mut Pass, reader: &mut Handle) -> i32
         | Pass::Publisher(_)
         | Pass::Claim(_)
         | Pass::Reader(_)
+        | Pass::Messages(_)
         | Pass::Keeper(_)
         | Pass::Subscriber(_)
         | Pass::Sender(_) => WRONG_HANDLE,
@@ -124,6 +126,7 @@ fn take_keeper_by(alloc: Global, pass: &mut Pass, keeper: &mut Handle) -> i32
         | Pass::Publisher(_)
         | Pass::Claim(_)
         | Pass::Reader(_)
+        | Pass::Messages(_)
         | Pass::Keeper(_)
         | Pass::Subscriber(_)
         | Pass::Sender(_) => WRONG_HANDLE,

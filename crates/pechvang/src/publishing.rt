@@ -24,6 +24,7 @@ fn offer_by(pass: &mut Pass, message: &[u8], position: &mut u64) -> i32
         Pass::Nothing
         | Pass::Opened(_)
         | Pass::Reader(_)
+        | Pass::Messages(_)
         | Pass::Keeper(_)
         | Pass::Subscriber(_)
         | Pass::Sender(_) => WRONG_HANDLE,
@@ -105,6 +106,7 @@ fn write_by(pass: &mut Pass, offset: usize, part: &[u8]) -> i32
         Pass::Nothing
         | Pass::Opened(_)
         | Pass::Reader(_)
+        | Pass::Messages(_)
         | Pass::Keeper(_)
         | Pass::Subscriber(_)
         | Pass::Sender(_) => WRONG_HANDLE,
@@ -209,6 +211,7 @@ fn share_by(pass: &mut Pass, share: &mut u64) -> i32
         Pass::Nothing
         | Pass::Opened(_)
         | Pass::Reader(_)
+        | Pass::Messages(_)
         | Pass::Keeper(_)
         | Pass::Subscriber(_)
         | Pass::Sender(_) => WRONG_HANDLE,

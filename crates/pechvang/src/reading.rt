@@ -63,6 +63,7 @@ fn next_by(pass: &mut Pass, room: &mut [u8], frame: &mut Frame) -> i32
         | Pass::Opened(_)
         | Pass::Publisher(_)
         | Pass::Claim(_)
+        | Pass::Messages(_)
         | Pass::Keeper(_)
         | Pass::Subscriber(_)
         | Pass::Sender(_) => WRONG_HANDLE,
@@ -97,6 +98,7 @@ fn advance_by(pass: &mut Pass) -> i32
         | Pass::Opened(_)
         | Pass::Publisher(_)
         | Pass::Claim(_)
+        | Pass::Messages(_)
         | Pass::Keeper(_)
         | Pass::Subscriber(_)
         | Pass::Sender(_) => WRONG_HANDLE,

@@ -51,6 +51,7 @@ fn take_by(
         | Pass::Publisher(_)
         | Pass::Claim(_)
         | Pass::Reader(_)
+        | Pass::Messages(_)
         | Pass::Keeper(_)
         | Pass::Sender(_) => WRONG_HANDLE,
     }
@@ -87,6 +88,7 @@ fn poll_by(pass: &mut Pass, room: &mut [u8], length: &mut usize) -> i32
         | Pass::Publisher(_)
         | Pass::Claim(_)
         | Pass::Reader(_)
+        | Pass::Messages(_)
         | Pass::Keeper(_)
         | Pass::Sender(_) => WRONG_HANDLE,
     }

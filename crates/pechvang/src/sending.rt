@@ -57,6 +57,7 @@ fn hear_by(pass: &mut Pass, datagram: &[u8], now: u64, outcome: &mut i32) -> i32
         | Pass::Publisher(_)
         | Pass::Claim(_)
         | Pass::Reader(_)
+        | Pass::Messages(_)
         | Pass::Keeper(_)
         | Pass::Subscriber(_) => WRONG_HANDLE,
     }

@@ -1,19 +1,18 @@
 //! Consumers that join and leave while publishers publish, readers read and the keeper cleans, in threads of their own.
 
-ghost use Rattle.std.specs.Prelude.{◌≤◌, length};
+ghost use Rattle.std.specs.Prelude.{◌≤◌, IfOk};
 ghost use Rattle.std.specs.List.{AllByRecursion};
 ghost use Rattle.log_passes.specs.Handles.{IsOf};
 ghost use Rattle.shared_log.specs.Readers.{IsAlone, IsReaderOf};
-ghost use Rattle.stream_tests.specs.Consumers.{IsSingle};
+ghost use Rattle.stream_tests.specs.Consumers.{IsNewcomer, IsSingle};
 ghost use Rattle.stream_tests.specs.Parties.{IsParty};
 
 use crate::opening::open_streams;
 use crate::parties::Party;
 use crate::streams::{LONGEST, PUBLISHERS, size_of, write};
-use block::Block;
-use position::{FrameHead, FrameKind};
+use log_messages::LogMessages;
 use publication::{Refusal, offer};
-use shared_log::{Keeper, Log, LogReader, OnLog, Publisher, advance, clean_and_limit, next};
+use shared_log::{Keeper, Log, LogReader, OnLog, Publisher, clean_and_limit};
 use std::alloc::{AllocError, Global};
 use std::sync::atomic::{AtomicU64, Ordering};
 use std::test::*;
@@ -23,8 +22,13 @@ use std::thread::{Threads, join, yield_now};
 /// How often two consumers join and leave.
 const PAIRS: u32 = 50;
 
-/// How many frames each of them reads.
-const FRAMES: u32 = 100;
+/// How many messages each of them reads.
+const MESSAGES: u32 = 100;
+
+/// Bytes of a term, and the most that a message's frame covers: a padding is shorter.
+const TERM: u64 = 65_536;
+
+const COVERED: u64 = 960;
 
 /// How often a thread tries, at the most.
 const TRIES: u32 = 100_000_000;
@@ -34,17 +38,19 @@ const TRIES: u32 = 100_000_000;
 enum Fault {
     /// An offer was refused for good.
     Refused,
-    /// A frame doesn't begin where the one before ended.
+    /// A message doesn't begin where the one before ended, or behind a padding there, at a term's start.
     Gap,
-    /// A frame has another payload than its publisher's next message.
+    /// A message is another than its publisher's next one.
     Message,
+    /// One was lost.
+    Lost,
     /// A consumer was refused.
     Join,
     /// One has another number, or stands above one that was there.
     Place,
     /// A consumer can't leave.
     Leave,
-    /// One has read too few frames.
+    /// One has read too few messages.
     Few,
     /// Memory was refused.
     Memory,
@@ -88,22 +94,21 @@ impl Progress {
     }
 }
 
-/// What a consumer reads: where its next frame begins, and of each publisher the count of the next message, once that is
+/// What a consumer reads: where its last message ended, and of each publisher the count of the next message, once that is
 /// known.
 #[derive(Clone, Copy)]
 struct Course {
     position: u64,
     counts: [Option<u32>; PUBLISHERS],
-    frames: u32,
     messages: u32,
     fault: Option<Fault>,
 }
 
 /// The number that stands in a message's bytes from an index on.
-fn number_at(payload: &[u8], index: usize) -> u32
+fn number_at(message: &[u8], index: usize) -> u32
     requires { index ≤ 4 }
 {
-    match payload.get(index..index + 4) {
+    match message.get(index..index + 4) {
         Some([one, two, three, four]) => u32::from_le_bytes([*one, *two, *three, *four]),
         _ => u32::MAX,
     }
@@ -115,7 +120,6 @@ impl Course {
         Course {
             position,
             counts: [count; PUBLISHERS],
-            frames: 0,
             messages: 0,
             fault: None,
         }
@@ -125,22 +129,23 @@ impl Course {
         self.fault = self.fault.or(Some(fault));
     }
 
-    /// Takes the next frame.
-    fn take(&mut self, head: FrameHead, payload: &[u8]) {
-        if head.start != self.position {
+    /// Takes the next message, whose only frame ends there.
+    fn take(&mut self, message: &[u8], end: u64) {
+        let covered = (message.len() as u64).wrapping_add(63) / 32 * 32;
+        let start = end.wrapping_sub(covered);
+        let padded = start.wrapping_sub(self.position);
+        if padded > 0 && (padded >= COVERED || !start.is_multiple_of(TERM)) {
             self.fail(Fault::Gap);
         }
-        let covered = u64::from(head.frame_length).div_ceil(32) * 32;
-        self.position = head.start.wrapping_add(covered);
-        self.frames = self.frames.wrapping_add(1);
-        if head.kind == FrameKind::Data && !self.take_message(payload) {
+        self.position = end;
+        if !self.take_message(message) {
             self.fail(Fault::Message);
         }
     }
 
     /// Takes the next message of its publisher. Whether it is that.
-    fn take_message(&mut self, payload: &[u8]) -> bool {
-        let (number, count) = (number_at(payload, 0), number_at(payload, 4));
+    fn take_message(&mut self, found: &[u8]) -> bool {
+        let (number, count) = (number_at(found, 0), number_at(found, 4));
         let Some(known) = self.counts.get_mut(number as usize) else {
             return false;
         };
@@ -149,7 +154,7 @@ impl Course {
         self.messages = self.messages.wrapping_add(1);
         let mut message = [0; LONGEST];
         write(&mut message, number, awaited);
-        payload == &message[..size_of(number, awaited)]
+        found == &message[..size_of(number, awaited)]
     }
 
     fn outcome(&self) -> Outcome {
@@ -189,37 +194,28 @@ fn publish(log: &Log, publisher: &mut Publisher, progress: &Progress) -> Outcome
     Ok(count)
 }
 
-/// Goes past the next frame. Whether one is there.
-fn read_next(log: &Log, reader: &mut LogReader, block: &mut Block, course: &mut Course) -> bool
-    requires fits { IsReaderOf log.now reader.old }
-    requires room { log.now.identity.geometry.mtu ≤ length block.old }
-    ensures fits { IsReaderOf log.now reader.new }
-    ensures alone { IsAlone log.now reader.old → IsAlone log.now reader.new }
-    ensures room { log.now.identity.geometry.mtu ≤ length block.new }
+/// Takes the next message. Whether one is there.
+fn read_next(log: &Log, messages: &mut LogMessages, course: &mut Course) -> bool
+    requires { IsReaderOf log.now messages.old.reader }
+    ensures fits { IsReaderOf log.now messages.new.reader }
+    ensures alone { IsAlone log.now messages.old.reader → IsAlone log.now messages.new.reader }
 {
-    let Some(head) = next(log, reader, block) else {
-        return false;
-    };
-    let length = head.frame_length.saturating_sub(32) as usize;
-    course.take(head, block.bytes().get(..length).unwrap_or(&[]));
-    if advance(log, reader) != course.position {
-        course.fail(Fault::Gap);
+    match messages.next(log) {
+        Ok(Some(message)) => course.take(&message.bytes, messages.position()),
+        Ok(None) => return false,
+        Err(_) => course.fail(Fault::Lost),
     }
     true
 }
 
-/// Reads until all publishers are through and no frame is left.
-fn read_all(alloc: Global, log: &Log, mut reader: LogReader, progress: &Progress) -> Outcome
-    requires { IsReaderOf log.now reader }
+/// Reads until all publishers are through and no message is left.
+fn read_all(log: &Log, messages: &mut LogMessages, progress: &Progress) -> Outcome
+    requires { IsReaderOf log.now messages.old.reader }
 {
-    let Ok(mut block) = Block::new(alloc, log.identity().geometry().mtu() as usize) else {
-        progress.stop();
-        return Err(Fault::Memory);
-    };
     let mut course = Course::new(log.start(), Some(0));
     for _ in 0..TRIES {
         let over = progress.is_over();
-        if read_next(log, &mut reader, &mut block, &mut course) {
+        if read_next(log, messages, &mut course) {
             continue;
         }
         if over {
@@ -240,32 +236,47 @@ struct Visit {
     outcome: Outcome,
 }
 
-/// Reads so many frames from where the reader joined, unless all stop before.
+/// Reads so many messages, unless all stop before.
+fn follow(
+    log: &Log,
+    mut messages: LogMessages,
+    course: &mut Course,
+    progress: &Progress,
+) -> LogReader
+    requires { IsSingle log.now messages.reader }
+    ensures { IsSingle log.now result }
+{
+    for _ in 0..TRIES {
+        if course.messages >= MESSAGES || progress.is_stopped() {
+            break;
+        }
+        if !read_next(log, &mut messages, course) {
+            yield_now();
+        }
+    }
+    messages.into_reader()
+}
+
+/// Reads so many messages from where the reader joined, unless all stop before.
 fn read_some(
     alloc: Global,
     log: &Log,
-    mut reader: LogReader,
+    reader: LogReader,
     progress: &Progress,
     over: &AtomicU64,
 ) -> Visit
-    requires { IsSingle log.now reader }
+    requires { IsNewcomer log.now reader }
     ensures { IsSingle log.now result.reader }
 {
     let mut course = Course::new(reader.position(), None);
-    match Block::new(alloc, log.identity().geometry().mtu() as usize) {
-        Ok(mut block) => {
-            for _ in 0..TRIES {
-                if course.frames >= FRAMES || progress.is_stopped() {
-                    break;
-                }
-                if !read_next(log, &mut reader, &mut block, &mut course) {
-                    yield_now();
-                }
-            }
+    let reader = match LogMessages::new(alloc, reader, LONGEST) {
+        Ok(messages) => follow(log, messages, &mut course, progress),
+        Err(denied) => {
+            course.fail(Fault::Memory);
+            denied.reader
         }
-        Err(_) => course.fail(Fault::Memory),
-    }
-    if course.frames < FRAMES {
+    };
+    if course.messages < MESSAGES {
         course.fail(Fault::Few);
     }
     over.fetch_add(1, Ordering::SeqCst);
@@ -300,19 +311,19 @@ fn read_both<R: Threads>(
     progress: &Progress,
     over: &AtomicU64,
 ) -> (Visit, Visit)
-    requires one { IsSingle log.now one }
-    requires other { IsSingle log.now other }
+    requires one { IsNewcomer log.now one }
+    requires other { IsNewcomer log.now other }
     ensures one { IsSingle log.now result.0.reader }
     ensures other { IsSingle log.now result.1.reader }
 {
     join(
         rt,
         || -> Visit
-            requires { IsSingle log.now one }
+            requires { IsNewcomer log.now one }
             ensures { IsSingle log.entry.now result.reader }
         { read_some(alloc, log, one, progress, over) },
         || -> Visit
-            requires { IsSingle log.now other }
+            requires { IsNewcomer log.now other }
             ensures { IsSingle log.entry.now result.reader }
         { read_some(alloc, log, other, progress, over) },
     )
@@ -329,8 +340,8 @@ fn read_and_keep<R: Threads + Sync>(
     progress: &Progress,
 ) -> (Keeper, Visit, Visit)
     requires keeper { IsOf log.now keeper.held }
-    requires one { IsSingle log.now one }
-    requires other { IsSingle log.now other }
+    requires one { IsNewcomer log.now one }
+    requires other { IsNewcomer log.now other }
     ensures keeper { IsOf log.now result.0.held }
     ensures one { IsSingle log.now result.1.reader }
     ensures other { IsSingle log.now result.2.reader }
@@ -340,7 +351,7 @@ fn read_and_keep<R: Threads + Sync>(
     let ((one, other), keeper) = join(
         rt,
         || -> (Visit, Visit)
-            requires { IsSingle log.now one × IsSingle log.now other }
+            requires { IsNewcomer log.now one × IsNewcomer log.now other }
             ensures { IsSingle log.entry.now result.0.reader × IsSingle log.entry.now result.1.reader }
         { read_both(rt, alloc, log, one, other, progress, both) },
         || -> Keeper
@@ -349,6 +360,19 @@ fn read_and_keep<R: Threads + Sync>(
         { keep(log, keeper, both) },
     );
     (keeper, one, other)
+}
+
+/// A consumer joins.
+#[tactic(auto, using(crate::proofs::Unread::joined_unread))]
+fn join_one(log: &Log, keeper: &mut Keeper) -> Result<LogReader, Fault>
+    requires { IsOf log.now keeper.old.held }
+    ensures keeper { IsOf log.now keeper.new.held }
+    ensures reader { IfOk result (λ reader. IsNewcomer log.now reader) }
+{
+    match keeper.join(log) {
+        Ok(reader) => Ok(reader),
+        Err(_) => Err(Fault::Join),
+    }
 }
 
 /// Two consumers leave.
@@ -375,10 +399,10 @@ fn join_and_leave<R: Threads + Sync>(
     requires { IsOf log.now keeper.held }
     ensures { IsOf log.now result.0.held }
 {
-    let Ok(one) = keeper.join(log) else {
+    let Ok(one) = join_one(log, &mut keeper) else {
         return (keeper, Err(Fault::Join));
     };
-    let Ok(other) = keeper.join(log) else {
+    let Ok(other) = join_one(log, &mut keeper) else {
         return (keeper, Err(Fault::Join));
     };
     let below = other.position() <= one.position();
@@ -428,7 +452,7 @@ fn work<R: Threads + Sync>(
 {
     match party {
         Party::Publishing(mut publisher) => publish(log, &mut publisher, progress),
-        Party::Reading(messages) => read_all(alloc, log, messages.into_reader(), progress),
+        Party::Reading(mut messages) => read_all(log, &mut messages, progress),
         Party::Keeping(keeper) => keep_and_join(rt, alloc, log, keeper, progress),
     }
 }
@@ -453,8 +477,8 @@ fn work_all<R: Threads + Sync>(
     )
 }
 
-/// A hundred consumers join and leave while all others go on. Each finds every frame from where it joined on, and of each
-/// publisher message after message; and two readers, which stay, find all messages.
+/// A hundred consumers join and leave while all others go on. Each finds message behind message from where it joined on, and
+/// each publisher's one after another; and two readers, which stay, find all messages.
 #[test]
 fn join_and_leave_among_threads(rt: HostRuntime) -> Result<(), Fail> {
     let (log, parties) = open_streams(rt.alloc())?;

@@ -1,5 +1,5 @@
 -- What the calls of a keeper make of its pass.
-use Rattle.std.specs.Prelude.{◌≡◌, ℕ}
+use Rattle.std.specs.Prelude.{◌≡◌, true, ℕ}
 use Rattle.std.specs.Arc.{arc_value}
 use Rattle.theory.specs.Refusal.{limit_in}
 use Rattle.shared_log.specs.Joining.{AreEight, Joins}
@@ -26,6 +26,7 @@ pub record OpensReader (p : KeeperPass) (r : ReaderPass) (q : KeeperPass) : Type
   pub log : arc_value q.log ≡ arc_value p.log
   pub same_log : arc_value r.log ≡ arc_value p.log
   pub joins : Joins (arc_value p.log) p.keeper r.reader q.keeper
+  pub is_new : r.is_new ≡ true
 
 -- eight are there, and nothing has changed
 pub record HasEight (p q : KeeperPass) : Type 0 where

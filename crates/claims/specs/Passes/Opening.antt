@@ -1,5 +1,5 @@
 -- A log that opens, and the passes that are taken from it.
-use Rattle.std.specs.Prelude.{◌≡◌, [], ◌∷◌}
+use Rattle.std.specs.Prelude.{◌≡◌, true, [], ◌∷◌}
 use Rattle.std.specs.Arc.{arc_value}
 use Rattle.std.specs.declared.option.Option.TheVariants.{None, Some}
 use Rattle.position.specs.Openings.{IsConsumerCount, IsStart}
@@ -51,6 +51,7 @@ pub record TakesReader (o : Opened) (p : ReaderPass) (n : Opened) : Type 0 where
   pub log : arc_value n.log ≡ arc_value o.log
   pub same_log : arc_value p.log ≡ arc_value o.log
   pub readers : o.readers.items ≡ p.reader ∷ n.readers.items
+  pub is_new : p.is_new ≡ true
   pub publishers : n.publishers ≡ o.publishers
   pub keeper : n.keeper ≡ o.keeper
 

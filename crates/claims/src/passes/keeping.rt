@@ -6,7 +6,7 @@ ghost use Rattle.theory.specs.Refusal.{limit_in};
 ghost use Rattle.log_passes.specs.Handles.{IsOf};
 ghost use Rattle.shared_log.specs.Joining.{AreEight, Joins};
 ghost use Rattle.shared_log.specs.Keepers.{CleansAndLimits, KeepsAs, TookSteps, closed_word, connected_word, there_of, with_limit};
-ghost use Rattle.shared_log.specs.Readers.{IsReaderOf};
+ghost use Rattle.claims.specs.Passes.Reading.{IsUnread};
 
 use crate::passes::fault::Fault;
 use crate::passes::reading::ReaderPass;
@@ -49,11 +49,12 @@ fn close_on(log: &Log, keeper: &mut Keeper)
     set_closed(log, keeper);
 }
 
+#[tactic(auto, using(crate::proofs::Openers::joined_unread))]
 fn join_on(log: &Log, keeper: &mut Keeper) -> Result<LogReader, LogError>
     requires { IsOf log.now keeper.old.held }
     ensures fits { IsOf log.now keeper.new.held }
     ensures joins { IfOk result (λ reader. Joins log.now keeper.old reader keeper.new) }
-    ensures reads { IfOk result (λ reader. IsReaderOf log.now reader) }
+    ensures reads { IfOk result (λ reader. IsUnread log.now reader) }
     ensures full { IfErr result (λ _. AreEight (there_of keeper.old)) }
     ensures refused { OnErr result (keeper.new ≡ keeper.old) }
 {
@@ -102,7 +103,7 @@ impl KeeperPass {
             return Err(Fault::Memory);
         };
         match join_on(&log, &mut self.keeper) {
-            Ok(reader) => Ok(ReaderPass::new(log, reader)),
+            Ok(reader) => Ok(ReaderPass::begin(log, reader)),
             Err(_) => Err(Fault::Full),
         }
     }

@@ -6,7 +6,7 @@ ghost use Rattle.std.specs.Arc.{arc_value};
 ghost use Rattle.std.specs.declared.option.Option.TheVariants.{None, Some};
 ghost use Rattle.log_passes.specs.Handles.{IsOf};
 ghost use Rattle.shared_log.specs.Keepers.{KeeperValue};
-ghost use Rattle.shared_log.specs.Readers.{IsReaderOf};
+ghost use Rattle.claims.specs.Passes.Reading.{IsUnread};
 ghost use Rattle.claims.specs.Passes.Shapes.{DeclinesShape, IsShape, as_fault, shape_of};
 
 use crate::claimant::Claimant;
@@ -47,7 +47,7 @@ pub struct Opened {
     /// Makes the room of any pass greater, so that no two parties write to one cache line.
     apart: [u64; 8],
     ghost publishers_fit: { All (IsOf (arc_value log)) publishers.items },
-    ghost readers_fit: { All (IsReaderOf (arc_value log)) readers.items },
+    ghost readers_fit: { All (IsUnread (arc_value log)) readers.items },
     ghost keeper_fits: { (k : KeeperValue) → keeper ≡ Some k → IsOf (arc_value log) k.held },
 }
 
@@ -93,11 +93,11 @@ fn first_publisher(log: &Log, publishers: &mut Vec<Claimant>) -> Option<Claimant
 
 /// The first of several readers.
 fn first_reader(log: &Log, readers: &mut Vec<LogReader>) -> Option<LogReader>
-    requires { All (IsReaderOf log.now) readers.old.items }
+    requires { All (IsUnread log.now) readers.old.items }
     ensures first { IfSome result (λ r. readers.old.items ≡ r ∷ readers.new.items) }
-    ensures fits { IfSome result (λ r. IsReaderOf log.now r) }
+    ensures fits { IfSome result (λ r. IsUnread log.now r) }
     ensures none { IfNone result ((readers.old.items ≡ []) × (readers.new ≡ readers.old)) }
-    ensures others { All (IsReaderOf log.now) readers.new.items }
+    ensures others { All (IsUnread log.now) readers.new.items }
 {
     let _ = log;
     if readers.is_empty() {
@@ -182,7 +182,7 @@ impl Opened {
             return Err(Fault::Memory);
         };
         match first_reader(&log, &mut self.readers) {
-            Some(reader) => Ok(ReaderPass::new(log, reader)),
+            Some(reader) => Ok(ReaderPass::begin(log, reader)),
             None => Err(Fault::NoneLeft),
         }
     }

@@ -1,8 +1,8 @@
 //! A reader with its log.
 
-ghost use Rattle.std.specs.Prelude.{◌≡◌, IfErr, IfOk, length};
+ghost use Rattle.std.specs.Prelude.{◌≡◌, [], true, false, IfErr, IfOk, length};
 ghost use Rattle.std.specs.Arc.{arc_value};
-ghost use Rattle.shared_log.specs.Readers.{IsReaderOf};
+ghost use Rattle.shared_log.specs.Readers.{IsReaderOf, known_of};
 
 use position::FrameHead;
 use shared_log::{Log, LogReader, Unread, advance, next_whole};
@@ -14,18 +14,42 @@ use std::sync::Arc;
 pub struct ReaderPass {
     pub log: Arc<Log, Global>,
     pub reader: LogReader,
+    /// Whether it has found no frame yet, as one that was taken, or has joined.
+    pub is_new: bool,
     ghost fits: { IsReaderOf (arc_value log) reader },
+    ghost nothing: { is_new ≡ true → known_of reader ≡ [] },
 }
 
 impl ReaderPass {
     ghost use Rattle.claims.specs.Passes.Reading.{GoesOn, Reads, Unreads};
 
+    /// Whatever the reader has found.
     pub fn new(log: Arc<Log, Global>, reader: LogReader) -> ReaderPass
         requires { IsReaderOf (arc_value log) reader }
         ensures log { arc_value result.log ≡ arc_value log }
         ensures reader { result.reader ≡ reader }
+        ensures is_new { result.is_new ≡ false }
     {
-        ReaderPass { log, reader }
+        ReaderPass {
+            log,
+            reader,
+            is_new: false,
+        }
+    }
+
+    /// The reader has found nothing yet.
+    pub fn begin(log: Arc<Log, Global>, reader: LogReader) -> ReaderPass
+        requires fits { IsReaderOf (arc_value log) reader }
+        requires nothing { known_of reader ≡ [] }
+        ensures log { arc_value result.log ≡ arc_value log }
+        ensures reader { result.reader ≡ reader }
+        ensures is_new { result.is_new ≡ true }
+    {
+        ReaderPass {
+            log,
+            reader,
+            is_new: true,
+        }
     }
 
     /// Reads the frame where the reader stands, straight to the front of the room; the reader stays.
@@ -35,7 +59,12 @@ impl ReaderPass {
         ensures same_length { length room.new ≡ length room.old }
     {
         let log = &*self.log;
-        next_whole(log, &mut self.reader, room)
+        let read = next_whole(log, &mut self.reader, room);
+        match read {
+            Err(Unread::None) => {}
+            Ok(_) | Err(Unread::Longer(_)) => self.is_new = false,
+        }
+        read
     }
 
     /// Goes behind the frame that was read. Whether one was.
@@ -47,6 +76,7 @@ impl ReaderPass {
         }
         let log = &*self.log;
         advance(log, &mut self.reader);
+        self.is_new = false;
         true
     }
 }

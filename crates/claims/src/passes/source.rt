@@ -27,17 +27,20 @@ impl<L> FrameSource<L> for ReaderPass {
 
     fn next(&mut self, log: &mut L, block: &mut Block) -> Option<FrameHead> {
         let log = &*self.log;
+        self.is_new = false;
         next(log, &mut self.reader, block)
     }
 
     fn advance(&mut self, log: &mut L) -> u64 {
         let log = &*self.log;
         let _shape = log.identity().geometry();
+        self.is_new = false;
         advance(log, &mut self.reader)
     }
 
     fn reread(&mut self, log: &mut L, position: u64, block: &mut Block) -> FrameHead {
         let log = &*self.log;
+        self.is_new = false;
         reread(log, &mut self.reader, position, block)
     }
 

@@ -1,6 +1,5 @@
-use Rattle.std.proofs.Common.{◌≤◌, length}
 use Rattle.shared_log.specs.Readers.{IsReaderOf}
 use Rattle.stream_tests.proofs.consumers_among_threads.read_all.Given as goal
 
 abbrev pub invariant-loop : goal.invariant-loop
-invariant-loop l = IsReaderOf l.log l.reader × (l.log.identity.geometry.mtu ≤ length l.block)
+invariant-loop l = IsReaderOf l.log l.messages.reader
