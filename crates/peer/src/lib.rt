@@ -1,6 +1,6 @@
-//! The two ends of a channel, over UDP: a socket that hears anybody (`Listener`), and a device over it that is tied to one peer
-//! (`TiedDevice`), which both ends have; and what a publisher has round that, which screens what comes, notes which receivers it
-//! hears and when it ends by that.
+//! The two ends of a channel, over UDP: a socket that hears anybody (`Listener`), which both ends have; a publisher's device over it,
+//! tied to one peer (`TiedDevice`), and what stands round that, which screens what comes, notes which receivers it hears and when
+//! it ends by that; and a device that sends to one of a subscriber's peers (`PeerDevice`).
 //!
 //! A tied device meets the trait of devices: it fails only where it counts that. What it hands over came from its peer and is
 //! counted as heard; what others sent is passed over and counted, and the last SETUP of that is kept. A receive finds nothing

@@ -1,11 +1,10 @@
-//! A subscriber's end that is tied to one peer.
+//! A device with one peer, over a socket that hears anybody: a publisher's.
 
 ghost use Rattle.std.specs.Prelude.{◌≡◌, ◌≢◌, ◌↔◌, ◌<◌, IfOk, IsTrue, None, Some, OnErr, OnOk};
 ghost use Rattle.endpoint.specs.Calls.{CountsFailure, Fills, Receives, Sends};
 ghost use Rattle.frames.specs.Frames.{asks_of, status_of};
 ghost use Rattle.endpoint.specs.Devices.{HasGrown, NeverFall};
-ghost use Rattle.theory.specs.Wire.{SM};
-ghost use Rattle.peer.specs.Ties.{HandsCame, HandsOver, Hears, IsAwaited, Looks, PassingIsBounded, Seeks, SettlesCame, TellsStart, asking, hearing_anybody, is_at, is_of_start, is_start, keeping, offer_given, sending, sent_by, tied_to, tied_waiting, with_fault, with_nothing, with_peer, with_stranger};
+ghost use Rattle.peer.specs.Ties.{HandsCame, HandsOver, Hears, IsAwaited, Looks, PassingIsBounded, Seeks, SettlesCame, TellsStart, hearing_anybody, is_at, is_of_start, is_start, keeping, sending, sent_by, tied_waiting, with_fault, with_nothing, with_stranger};
 
 use crate::listener::Listener;
 use crate::numbering::{setup_in, status_in};
@@ -110,14 +109,7 @@ pub fn passing_is_bounded()
 {}
 
 impl TiedDevice {
-    /// A device over this socket whose peer this is.
-    pub fn new(listener: Listener, peer: SocketAddr) -> TiedDevice
-        ensures { result ≡ tied_to listener peer }
-    {
-        TiedDevice::waiting(listener, peer, None)
-    }
-
-    /// The same, which waits for a start, or for none.
+    /// A device over this socket whose peer this is, which waits for a start, or for none.
     fn waiting(listener: Listener, peer: SocketAddr, awaited: Option<Awaited>) -> TiedDevice
         ensures { result ≡ tied_waiting listener peer awaited }
     {
@@ -150,37 +142,11 @@ impl TiedDevice {
         Ok(TiedDevice::waiting(listener, route.peer, Some(awaited)))
     }
 
-    /// Makes this its peer from now on.
-    pub fn tie(&mut self, peer: SocketAddr)
-        ensures { self.new ≡ with_peer self.old peer }
-    {
-        self.peer = peer;
-        self.to = peer;
-    }
-
     /// Its peer.
     pub fn peer(&self) -> SocketAddr
         ensures { result ≡ self.now.peer }
     {
         self.peer
-    }
-
-    /// Asks its peer for a SETUP, with this status message. Whether it gets there nobody says.
-    pub fn ask(&mut self, status: Status)
-        ensures { self.new ≡ record self.old { socket = asking self.old.socket self.old.peer (SM 128 (status_of status)) } }
-    {
-        self.listener.ask(self.peer, status);
-    }
-
-    /// Takes the first SETUP of those that it keeps, and who sent it.
-    pub fn take_offer(&mut self) -> Option<(SocketAddr, Setup)>
-        ensures taken { result ≡ self.old.offer }
-        ensures left { self.new ≡ offer_given self.old }
-    {
-        let first = self.offer;
-        self.offer = self.later;
-        self.later = None;
-        first
     }
 
     /// Keeps a SETUP.
@@ -203,20 +169,6 @@ impl TiedDevice {
         if let Some(setup) = found {
             self.keep(from, setup);
         }
-    }
-
-    /// How many datagrams of the peer it has handed over. At the greatest `u64` it stays.
-    pub fn heard(&self) -> u64
-        ensures { result ≡ self.now.heard }
-    {
-        self.heard
-    }
-
-    /// How many datagrams of others it has passed over. At the greatest `u64` it stays.
-    pub fn strangers(&self) -> u64
-        ensures { result ≡ self.now.strangers }
-    {
-        self.strangers
     }
 
     /// Counts a failure.
