@@ -1,26 +1,22 @@
 -- The publisher of the small world has ended whole: its only destination's receiver was heard from the start to where the messages end.
 -- In its first cycle its sender hears a status message and gives out a SETUP and both frames; in the second its device hears that they have
 -- arrived; and at its end it tells where the stream ends.
-use Rattle.std.specs.Prelude.{◌≡◌, ◌<◌, ◌≤◌, ◌&&◌, ℕ, zero, suc, pos, true, false, Bool, List, [], ◌∷◌, ◌++◌, length, map, nat_le, slice_index_or, take, Option, None, Some, Result, Ok, Err}
-use Rattle.std.proofs.Common.{◌∙◌, append-nil, arith, ap, inl, inr, refl, subst, sym}
-use Rattle.theory.specs.Entry.{committed}
+use Rattle.std.specs.Prelude.{◌≡◌, ◌<◌, ◌&&◌, ℕ, zero, suc, pos, true, false, Bool, [], ◌∷◌, ◌++◌, length, map, nat_le, slice_index_or, take, None, Some, Ok}
+use Rattle.std.proofs.Common.{arith, ap, inl, inr, refl, subst, sym}
 use Rattle.theory.specs.Placed.{Among, Placed}
 use Rattle.theory.specs.Wire.{IsFrame, SM, Spells, Status, Wire, spelling}
-use Rattle.theory.proofs.Rows.{abc, identity, the_geometry}
+use Rattle.theory.proofs.Rows.{the_geometry}
 use Rattle.theory.proofs.Spelled.{one_spelling}
 use Rattle.frame_words.specs.Words.{frame_words}
-use Rattle.frames.specs.Fronts.{FrontSpells}
 use Rattle.conductor.specs.Parties.{ClientSeen, TakerSeen}
 use Rattle.shared_log.specs.Keepers.{KeeperValue}
 use Rattle.shared_log.specs.Sourced.{placed}
 use Rattle.sender.specs.Cycling.{Cycle, GivesNew, Says}
-use Rattle.sender.specs.Sending.{at_moment, cycled, is_beat_due, told}
+use Rattle.sender.specs.Sending.{at_moment, cycled, told}
 use Rattle.sender.specs.declared.sender_core.SenderAnswer.TheVariants as answers
 use Rattle.flow_control.specs.Stream.{has_heard_of, status_after}
 use Rattle.sender_meaning.specs.Moments.{CyclesAt, HearsThere, StreamCore, TicksThere}
-use Rattle.sender_meaning.proofs.StreamRows.{two}
 use Rattle.endpoint.specs.Fans.{Fanned}
-use Rattle.endpoint.specs.declared.datagrams.DeviceFailed.{DeviceFailed}
 use Rattle.endpoint.specs.declared.udp.Route.{Route}
 use Rattle.options.specs.declared.ends.plans.PublishPlan.{PublishPlan}
 use Rattle.loss_injector.specs.Losing.{Losing}
@@ -31,7 +27,7 @@ use Rattle.peer.specs.Ties.{Tied}
 use Rattle.peer.specs.Watching.{Screens, Takes, Watched, Watching, after_frame, due_of, found_of, screened_of, with_end}
 use Rattle.peer.specs.declared.attendance.Ending.TheVariants.{Whole}
 use Rattle.publisher.specs.Beginnings.{device_of}
-use Rattle.publisher.specs.Destinations.{AreDestinationsAlong, IsAlong}
+use Rattle.publisher.specs.Destinations.{IsAlong}
 use Rattle.publisher.specs.Endings.{heard_along}
 use Rattle.publisher.specs.Farewells.{ends_along}
 use Rattle.publisher.specs.Numbers.{goes_still}
@@ -42,7 +38,7 @@ use Rattle.publisher.specs.declared.judging.Judged.{Judged}
 use Rattle.publisher.specs.declared.sender_thread.ChannelSender.{ChannelSender}
 use Rattle.publisher.specs.declared.sender_thread.SenderPasses.{SenderPasses}
 use Rattle.channel_meaning.proofs.SentRows.{HasArrivedThere, all_known, begins, data_bytes, first_frame, reads, second_frame, setup_bytes, spells_status, status, status_bytes}
-use Rattle.channel_meaning.proofs.WorldRows.{log, planned, reading}
+use Rattle.channel_meaning.proofs.WorldRows.{planned, reading}
 
 -- ---- its sender
 

@@ -245,7 +245,7 @@ gives_all_honest law honest p n given all spelled =
     (honest (stream_in all) (law p n given all).stream spelled n all.sends.first all.sends.last all.sends.lived.acts (sends_it p n given all) all.sends.lived.lives (known_of_it p n given all spelled)).0
 
 pub writes_all_of_it : PublishesAllOfIt → WritesWhatIsRead → WritesAllOfIt
-writes_all_of_it law writes p n given all spelled plan before after count w from =
+writes_all_of_it law writes p n given all spelled plan place before after count w from =
     let is = law p n given all in
     writes (stream_in all) is.stream spelled all.first.pass all.last.pass all.log.start all.reading.offered.tail all.ends.publishes.messages all.ends.publishes.publishes is.its
-    n all.sends.first all.sends.last all.sends.lived.acts (sends_it p n given all) all.sends.lived.lives (known_of_it p n given all spelled) plan before after count w from
+    n all.sends.first all.sends.last all.sends.lived.acts (sends_it p n given all) all.sends.lived.lives (known_of_it p n given all spelled) plan place before after count w from

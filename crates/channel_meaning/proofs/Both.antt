@@ -34,17 +34,17 @@ farewell_honest : SetupsAreHonest → (x : Stream) → IsStream x → IsSpelled 
 farewell_honest law x is spelled = law x is spelled x.tail is.tail_low (negsuc 0) (record { sfits = omega arith })
 
 each_runs : PollsARun → (x : Stream) → IsStream x → (read : List (List ℕ)) → messages x.start x.tail x.entries ≡ read → (sent : List (List ℕ)) → IsHonest x (farewell x) → AllByRecursion (IsHonest x) sent
-    → (plan : SubscribePlan) (images : List Life) → AreLives plan images → AllByRecursion (IsFromIt x sent) images → AllByRecursion (GivesRun x read plan) images
-each_runs law x is read same sent last honest plan [] all from = tt
-each_runs law x is read same sent last honest plan (l ∷ older) all from =
+    → (plan : SubscribePlan) (place : ℕ) (images : List Life) → AreLives plan place images → AllByRecursion (IsFromIt x sent) images → AllByRecursion (GivesRun x read plan) images
+each_runs law x is read same sent last honest plan place [] all from = tt
+each_runs law x is read same sent last honest plan place (l ∷ older) all from =
     let f = l.setup in
     let life = all.1 in
     let met = life.met in
-    let takes : TakesDatagram (listening x.identity.session x.identity.stream (window_in f) (id_of plan l.number) 1 2097152) l.moment (spelling (SETUP f)) met.outcomes met.receiver =
-    subst (λ (stream : ℤ). TakesDatagram (listening x.identity.session stream (window_in f) (id_of plan l.number) 1 2097152) l.moment (spelling (SETUP f)) met.outcomes met.receiver) from.0.stream
-    (subst (λ (session : ℤ). TakesDatagram (listening session f.stream (window_in f) (id_of plan l.number) 1 2097152) l.moment (spelling (SETUP f)) met.outcomes met.receiver) from.0.session met.takes) in
+    let takes : TakesDatagram (listening x.identity.session x.identity.stream (window_in l.share f) (id_of plan l.number) 1 2097152) l.moment (spelling (SETUP f)) met.outcomes met.receiver =
+    subst (λ (stream : ℤ). TakesDatagram (listening x.identity.session stream (window_in l.share f) (id_of plan l.number) 1 2097152) l.moment (spelling (SETUP f)) met.outcomes met.receiver) from.0.stream
+    (subst (λ (session : ℤ). TakesDatagram (listening session f.stream (window_in l.share f) (id_of plan l.number) 1 2097152) l.moment (spelling (SETUP f)) met.outcomes met.receiver) from.0.session met.takes) in
     let heard : AllByRecursion (IsHonest x) (meant.heard_in l.acts) = all_from (IsHonest x) (meant.heard_in l.acts) (λ bytes a. all_at (IsHonest x) bytes (farewell x ∷ sent) (last, honest) (all_at (λ b. Among b (farewell x ∷ sent)) bytes (meant.heard_in l.acts) from.0.heard a)) in
-    let polls = law x is (window_in f) 2097152 l.moment (id_of plan l.number) (spelling (SETUP f)) met.outcomes met.receiver takes (all_at (IsHonest x) (spelling (SETUP f)) sent honest from.0.setup) life.first all.0 l.acts met.shown life.lived heard in (
+    let polls = law x is (window_in l.share f) 2097152 l.moment (id_of plan l.number) (spelling (SETUP f)) met.outcomes met.receiver takes (all_at (IsHonest x) (spelling (SETUP f)) sent honest from.0.setup) life.first all.0 l.acts met.shown life.lived heard in (
       record {
         end = all.0;
         life = life;
@@ -53,17 +53,17 @@ each_runs law x is read same sent last honest plan (l ∷ older) all from =
         run = polls.2;
         stands = stands x is read same polls.0.image (meant.given_in l.acts) polls.2;
       },
-      each_runs law x is read same sent last honest plan older all.3 from.1,
+      each_runs law x is read same sent last honest plan place older all.3 from.1,
     )
 
 -- where what was given out is honest for the stream that was published
 pub writes_honest : SetupsAreHonest → PollsARun → (x : Stream) → IsStream x → IsSpelled x → (read : List (List ℕ)) → messages x.start x.tail x.entries ≡ read → (sent : List (List ℕ)) → AllByRecursion (IsHonest x) sent
-    → (plan : SubscribePlan) (before after : Option (List ℕ)) (count : ℕ) (w : WritesLives plan before count after) → AllByRecursion (IsFromIt x sent) w.images → GoesThrough x read plan w.images
-writes_honest one law x is spelled read same sent honest plan before after count w from = record {
+    → (plan : SubscribePlan) (place : ℕ) (before after : Option (List ℕ)) (count : ℕ) (w : WritesLives plan place before count after) → AllByRecursion (IsFromIt x sent) w.images → GoesThrough x read plan w.images
+writes_honest one law x is spelled read same sent honest plan place before after count w from = record {
   published = same;
-  runs = each_runs law x is read same sent (farewell_honest one x is spelled) honest plan w.images w.lives from;
+  runs = each_runs law x is read same sent (farewell_honest one x is spelled) honest plan place w.images w.lives from;
 }
 
 pub writes_what_is_read : SetupsAreHonest → PublishesItsStream → StreamGivesHonest → PollsARun → WritesWhatIsRead
-writes_what_is_read one published gives law x is spelled p q tail to read h its n s t sent sends lives known plan before after count w from =
-    writes_honest one law x is spelled read (published p q tail to read h x is its) (given_in_all sent) (gives x is spelled n s t sent sends lives known).0 plan before after count w from
+writes_what_is_read one published gives law x is spelled p q tail to read h its n s t sent sends lives known plan place before after count w from =
+    writes_honest one law x is spelled read (published p q tail to read h x is its) (given_in_all sent) (gives x is spelled n s t sent sends lives known).0 plan place before after count w from

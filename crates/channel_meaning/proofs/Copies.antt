@@ -14,6 +14,7 @@ use Rattle.receiver.specs.Receiving.{Opened}
 use Rattle.receiver.specs.Lives.{IsRunOf, Stream}
 use Rattle.endpoint.specs.Fans.{Fanned}
 use Rattle.options.specs.declared.ends.plans.PublishPlan.{PublishPlan}
+use Rattle.options.specs.declared.ends.plans.SubscribePlan.{SubscribePlan}
 use Rattle.peer.specs.Ties.{Tied}
 use Rattle.peer.specs.declared.attendance.Attendance.{Attendance}
 use Rattle.publisher.specs.Ended.{AllArrived, PublishesAll}
@@ -21,10 +22,10 @@ use Rattle.publisher.specs.Seeing.{ChannelDestination}
 use Rattle.publisher.specs.declared.offering.reading.Reading.{Reading}
 use Rattle.publisher.specs.declared.offering.reading.ReadingEnd.TheVariants.{All}
 use Rattle.publisher.specs.declared.sender_thread.SenderPasses.{SenderPasses}
-use Rattle.subscriber.specs.Living.{given_through}
+use Rattle.subscriber.specs.Living.{Life, given_through}
 use Rattle.channel_meaning.specs.Books.{WritesAllOfIt, given_out, stream_in}
-use Rattle.channel_meaning.specs.Copies.{CopiesAllOfIt, IsCopy}
-use Rattle.channel_meaning.specs.Streams.{GivesRun, IsFromIt, StandsFrom}
+use Rattle.channel_meaning.specs.Copies.{CopiesAll, CopiesAllOfIt, IsCopy}
+use Rattle.channel_meaning.specs.Streams.{GoesThrough, IsFromIt, StandsFrom}
 use Rattle.channel_meaning.proofs.Tallies.{no_message, no_more}
 
 -- ---- what is read to its end is spelled by its messages
@@ -104,19 +105,23 @@ all_ended p n given all =
     let many : length all.heard ≡ n = arrived.noted.many ∙ ap (λ (s : SenderPasses (Fanned (ChannelDestination Tied))). length s.duty.device.ways) all.arrived.1.passes_are ∙ all.destinations_are.many ∙ all.many in
     ended_all all.reading n all.heard all.some many arrived.arrived
 
-pub copies_all_of_it : WritesAllOfIt → CopiesAllOfIt
-copies_all_of_it law p n input all spelled plan output count w l one from many =
+-- of one image, which has given as many as were read
+pub gave_all : (p : PublishPlan) (n : ℕ) (input : List ℕ) (all : PublishesAll p n (Some input)) (plan : SubscribePlan) (l : Life) → GoesThrough (stream_in all) all.ends.publishes.messages plan (l ∷ [])
+    → all.reading.offered.messages ≤ length (meant.given_in l.acts) → meant.given_in l.acts ≡ all.ends.publishes.messages
+gave_all p n input all plan l through many =
+    let run = through.runs.0 in
+    let all_read : all.reading.offered.messages ≡ length all.ends.publishes.messages = all.ends.publishes.counted in
+    all_given (stream_in all) all.ends.publishes.messages run.receiver.image (meant.given_in l.acts) run.stands (omega (arith, many, all_read))
+
+-- and whose messages, spelled, are this
+pub copies_of_one : (p : PublishPlan) (n : ℕ) (input : List ℕ) (all : PublishesAll p n (Some input)) (plan : SubscribePlan) (l : Life) (output : List ℕ) → GoesThrough (stream_in all) all.ends.publishes.messages plan (l ∷ [])
+    → all.reading.offered.messages ≤ length (meant.given_in l.acts) → output ≡ spelling plan.end.form (meant.given_in l.acts) → CopiesAll p n input all plan l output
+copies_of_one p n input all plan l output through many wrote =
     let x = stream_in all in
     let read = all.ends.publishes.messages in
-    let each : AllByRecursion (IsFromIt x (given_out all)) w.images = subst (AllByRecursion (IsFromIt x (given_out all))) (sym one) (from, tt) in
-    let through = law p n (Some input) all spelled plan (Some []) (Some output) count w each in
-    let runs : AllByRecursion (GivesRun x read plan) (l ∷ []) = subst (AllByRecursion (GivesRun x read plan)) one through.runs in
-    let run = runs.0 in
-    let given : given_through w.images ≡ meant.given_in l.acts = ap given_through one in
-    let counted : count ≡ length (meant.given_in l.acts) = w.counted ∙ ap length given in
-    let all_read : all.reading.offered.messages ≡ length read = all.ends.publishes.counted in
-    let gave : meant.given_in l.acts ≡ read = all_given x read run.receiver.image (meant.given_in l.acts) run.stands (omega (arith, many, counted, all_read)) in
-    let is : output ≡ spelling plan.end.form read = w.written ∙ ap (spelling plan.end.form) (given ∙ gave) in
+    let run = through.runs.0 in
+    let gave : meant.given_in l.acts ≡ read = gave_all p n input all plan l through many in
+    let is : output ≡ spelling plan.end.form read = wrote ∙ ap (spelling plan.end.form) gave in
     let stops = subst (λ (e : Result ReadingEnd ReadingFault). Stops p.end.form (max_message all.log.identity.geometry) (length read) all.ends.publishes.between all.new all.ends.publishes.behind all.last.pass e) (all_ended p n (Some input) all) all.ends.publishes.stops in
     record {
       published = through.published;
@@ -128,3 +133,13 @@ copies_all_of_it law p n input all spelled plan output count w l one from many =
       spelled = is;
       copy = λ form. subst (λ (bytes : List ℕ). IsCopy p.end.form input bytes) (sym (is ∙ ap (λ (f : Form). spelling f read) form)) (is_copy p.end.form (max_message all.log.identity.geometry) read input all.ends.publishes.between all.new all.ends.publishes.reads stops.0 stops.1);
     }
+
+pub copies_all_of_it : WritesAllOfIt → CopiesAllOfIt
+copies_all_of_it law p n input all spelled plan place output count w l one from many =
+    let x = stream_in all in
+    let each : AllByRecursion (IsFromIt x (given_out all)) w.images = subst (AllByRecursion (IsFromIt x (given_out all))) (sym one) (from, tt) in
+    let through = law p n (Some input) all spelled plan place (Some []) (Some output) count w each in
+    let alone : GoesThrough x all.ends.publishes.messages plan (l ∷ []) = subst (GoesThrough x all.ends.publishes.messages plan) one through in
+    let given : given_through w.images ≡ meant.given_in l.acts = ap given_through one in
+    let counted : count ≡ length (meant.given_in l.acts) = w.counted ∙ ap length given in
+    copies_of_one p n input all plan l output alone (omega (arith, many, counted)) (w.written ∙ ap (spelling plan.end.form) given)

@@ -16,11 +16,13 @@ use Rattle.receiver.specs.Receiving.{Opened, Receiver}
 use Rattle.receiver.specs.Subscribing.{RepresentsSubscriber, Subscribing}
 use Rattle.sender_meaning.proofs.StreamRows.{ab, is_stream, spelled, two}
 use Rattle.publisher.specs.Ended.{PublishesAll}
-use Rattle.subscriber.specs.Living.{IsLife, Life}
+use Rattle.subscriber.specs.Living.{IsLife, Life, given_through}
+use Rattle.subscriber.specs.Places.{Given, of_place}
 use Rattle.channel_meaning.specs.Books.{GivesAllHonest, IsAllOfIt, PublishesAllOfIt, WritesAllOfIt, entries_in, stream_in}
 use Rattle.channel_meaning.specs.Copies.{CopiesAll, CopiesAllOfIt, IsCopy}
+use Rattle.channel_meaning.specs.Several.{CopiesAllAt, CopiesAllAtEachPlace, GoesThroughAt, WritesAllAtEachPlace}
 use Rattle.channel_meaning.specs.Streams.{GivesRun, GoesThrough, IsFromIt, IsItsStream, PublishesItsStream, StandsFrom, WritesWhatIsRead, farewell}
-use Rattle.channel_meaning.proofs.LifeRows.{from_it, life, subscribed, writes}
+use Rattle.channel_meaning.proofs.LifeRows.{from_it, given_second, life, second_from_it, second_life, subscribed, subscribed_to_two, writes, writes_second}
 use Rattle.channel_meaning.proofs.SentRows.{HasArrivedThere, acts, begins, data_bytes, ended_whole, has_sent, knows, lives, sends, setup_bytes}
 use Rattle.channel_meaning.proofs.WorldRows.{first, input, its, last, planned, publishes}
 
@@ -39,13 +41,20 @@ honest_all : (p : PublishPlan) (a : HasArrivedThere p) → GivesAllHonest → Al
 honest_all p a law = law (planned p) 1 (Some input) (ended_whole p a) spelled
 
 goes_through : (plan : SubscribePlan) → WritesWhatIsRead → GoesThrough two (abc ∷ ab ∷ []) (subscribed plan) (life ∷ [])
-goes_through plan law = law two is_stream spelled first.pass last.pass 0 128 (abc ∷ ab ∷ []) publishes its 1 begins has_sent acts sends lives knows (subscribed plan) (Some []) (Some input) 2 (writes plan) (from_it, tt)
+goes_through plan law = law two is_stream spelled first.pass last.pass 0 128 (abc ∷ ab ∷ []) publishes its 1 begins has_sent acts sends lives knows (subscribed plan) 0 (Some []) (Some input) 2 (writes plan) (from_it, tt)
 
 all_goes_through : (p : PublishPlan) (a : HasArrivedThere p) (plan : SubscribePlan) → WritesAllOfIt → GoesThrough two (abc ∷ ab ∷ []) (subscribed plan) (life ∷ [])
-all_goes_through p a plan law = law (planned p) 1 (Some input) (ended_whole p a) spelled (subscribed plan) (Some []) (Some input) 2 (writes plan) (from_it, tt)
+all_goes_through p a plan law = law (planned p) 1 (Some input) (ended_whole p a) spelled (subscribed plan) 0 (Some []) (Some input) 2 (writes plan) (from_it, tt)
 
 copies : (p : PublishPlan) (a : HasArrivedThere p) (plan : SubscribePlan) → CopiesAllOfIt → CopiesAll (planned p) 1 input (ended_whole p a) (subscribed plan) life input
-copies p a plan law = law (planned p) 1 input (ended_whole p a) spelled (subscribed plan) input 2 (writes plan) life refl from_it (omega arith)
+copies p a plan law = law (planned p) 1 input (ended_whole p a) spelled (subscribed plan) 0 input 2 (writes plan) life refl from_it (omega arith)
+
+-- of the second of two places
+goes_through_second : (p : PublishPlan) (a : HasArrivedThere p) (plan : SubscribePlan) → WritesAllAtEachPlace → GoesThroughAt two (abc ∷ ab ∷ []) (subscribed_to_two plan) 1 given_second (second_life ∷ [])
+goes_through_second p a plan law = law (planned p) 1 (Some input) (ended_whole p a) spelled (subscribed_to_two plan) (Some []) (Some input) 2 (writes_second plan) 1 (second_life ∷ []) refl (second_from_it, tt)
+
+copies_second : (p : PublishPlan) (a : HasArrivedThere p) (plan : SubscribePlan) → CopiesAllAtEachPlace → CopiesAllAt (planned p) 1 input (ended_whole p a) (subscribed_to_two plan) 1 given_second second_life
+copies_second p a plan law = law (planned p) 1 input (ended_whole p a) spelled (subscribed_to_two plan) (Some []) (Some input) 2 (writes_second plan) 1 second_life refl second_from_it (omega arith)
 
 -- ---- what they say of any stream
 
@@ -66,6 +75,14 @@ copy_in_full : (p : PublishPlan) (n : ℕ) (given : List ℕ) (all : PublishesAl
     × (output ≡ spelling plan.end.form all.ends.publishes.messages)
     × (plan.end.form ≡ p.end.form → IsCopy p.end.form given output)
 copy_in_full p n given all plan l output copy = (copy.published, (copy.end, copy.life, copy.receiver, copy.shown, copy.run), copy.spelled, copy.copy)
+
+place_in_full : (x : Stream) (read : List (List ℕ)) (plan : SubscribePlan) (place : ℕ) (given : List Given) (images : List Life) → GoesThroughAt x read plan place given images
+    → (of_place place given ≡ given_through images) × GoesThrough x read plan images
+place_in_full x read plan place given images at = (at.gave, at.through)
+
+place_copies_in_full : (p : PublishPlan) (n : ℕ) (read : List ℕ) (all : PublishesAll p n (Some read)) (plan : SubscribePlan) (place : ℕ) (given : List Given) (l : Life) → CopiesAllAt p n read all plan place given l
+    → (of_place place given ≡ all.ends.publishes.messages) × CopiesAll p n read all plan l (spelling plan.end.form (of_place place given))
+place_copies_in_full p n read all plan place given l at = (at.gave, at.copies)
 
 -- ---- what an image may have given
 

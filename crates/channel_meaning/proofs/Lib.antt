@@ -5,6 +5,7 @@ mod Committed
 mod Tallies
 mod Books
 mod Copies
+mod Several
 mod WorldRows
 mod SentRows
 mod ArrivedRows

@@ -17,19 +17,24 @@ use Rattle.messages.specs.declared.form.Form.TheVariants.{Lines}
 use Rattle.options.specs.declared.ends.plans.SubscribePlan.{SubscribePlan}
 use Rattle.receiver.specs.Lives.{Act, Gives, Hears, Lives}
 use Rattle.receiver.specs.Polling.{Polls}
-use Rattle.receiver.specs.Receiving.{Opened, Receiver, TakesDatagram}
+use Rattle.receiver.specs.Receiving.{Opened, Receiver, TakesDatagram, listening}
 use Rattle.receiver.specs.Representing.{Core, RepresentsOpened, with_image}
 use Rattle.receiver.specs.Subscribing.{AssemblesFor, RepresentsSubscriber, Subscribing, SubscriberBecomes}
 use Rattle.receiver.specs.declared.receiver_core.Outcome.TheVariants as outcomes
 use Rattle.sender_meaning.proofs.StreamRows.{ab, spelled, two}
-use Rattle.subscriber.specs.Meetings.{HasMet}
-use Rattle.subscriber.specs.Living.{IsLife, Life, WritesLives}
+use Rattle.subscriber.specs.Meetings.{HasMet, Opens}
+use Rattle.subscriber.specs.Living.{IsLife, Life, WritesLives, WritesPlaces}
+use Rattle.subscriber.specs.Places.{Given}
 use Rattle.channel_meaning.specs.Streams.{IsFromIt, farewell}
 use Rattle.channel_meaning.proofs.SentRows.{data_bytes, first_frame, second_frame, setup_bytes}
 use Rattle.channel_meaning.proofs.WorldRows.{input, table}
 
 abbrev pub subscribed : SubscribePlan → SubscribePlan
 subscribed plan = record plan { end = record plan.end { stream = pos 1001; form = Lines }; session = None; greatest_term = 65536; receiver = pos 3 }
+
+-- one of two sessions, whose second place has the same ids: its first number is 2^60, and its receiver id that less than 3
+abbrev pub subscribed_to_two : SubscribePlan → SubscribePlan
+subscribed_to_two plan = record (subscribed plan) { receiver = negsuc 1152921504606846972; sessions = 2 }
 
 -- ---- its states
 
@@ -121,13 +126,20 @@ spells_setup = (refl, ((record { sfits = omega arith }, record { sfits = omega a
 abbrev pub begins : Subscribing
 begins = state [] 0 0 0
 
-met : (plan : SubscribePlan) → HasMet (subscribed plan) 0 setup 0 begins
-met plan = record {
-  receiver = receiver [] 0 0 (consumer 0 0 false 0 (record { begun = None; given = [] }));
-  outcomes = outcomes.Opened 0 ∷ [];
-  takes = inl (SETUP setup ∷ [], spells_setup, (outcomes.Opened 0, receiver [] 0 0 (consumer 0 0 false 0 (record { begun = None; given = [] })), [], inl ((refl, refl), inl (the_geometry, 0, opens_at, refl, refl)), refl, (refl, refl)));
-  shown = shows [] 0 0 0 0 0 false (record { begun = None; given = [] }) (λ kept. refl);
-}
+abbrev opened_first : Receiver
+opened_first = receiver [] 0 0 (consumer 0 0 false 0 (record { begun = None; given = [] }))
+
+takes_setup : TakesDatagram (listening (pos 1) (pos 1001) 32768 (pos 3) 1 2097152) 0 (spelling (SETUP setup)) (outcomes.Opened 0 ∷ []) opened_first
+takes_setup = inl (SETUP setup ∷ [], spells_setup, (outcomes.Opened 0, opened_first, [], inl ((refl, refl), inl (the_geometry, 0, opens_at, refl, refl)), refl, (refl, refl)))
+
+shows_first : RepresentsSubscriber begins opened_first
+shows_first = shows [] 0 0 0 0 0 false (record { begun = None; given = [] }) (λ kept. refl)
+
+met : (plan : SubscribePlan) → HasMet (subscribed plan) 0 1 setup 0 begins
+met plan = record { receiver = opened_first; outcomes = outcomes.Opened 0 ∷ []; takes = takes_setup; shown = shows_first }
+
+met_second : (plan : SubscribePlan) → HasMet (subscribed_to_two plan) 1152921504606846976 1 setup 0 begins
+met_second plan = record { receiver = opened_first; outcomes = outcomes.Opened 0 ∷ []; takes = takes_setup; shown = shows_first }
 
 -- ---- it hears both frames
 
@@ -229,7 +241,7 @@ lives = (
 )
 
 abbrev pub life : Life
-life = record { setup = setup; opening = record { session = pos 1; geometry = the_geometry; position = 0 }; number = 0; moment = 0; acts = acts; loss = None }
+life = record { setup = setup; opening = record { session = pos 1; geometry = the_geometry; position = 0 }; number = 0; share = 1; moment = 0; acts = acts; loss = None }
 
 pub is_life : (plan : SubscribePlan) → IsLife (subscribed plan) life ended
 is_life plan = record {
@@ -247,9 +259,39 @@ is_life plan = record {
     no : pos 0 ≡ negsuc 0 → ⊥
     no e = absurd (cc)
 
-abbrev pub writes : (plan : SubscribePlan) → WritesLives (subscribed plan) (Some []) 2 (Some input)
+abbrev pub writes : (plan : SubscribePlan) → WritesLives (subscribed plan) 0 (Some []) 2 (Some input)
 writes plan = record { images = life ∷ []; lives = (ended, is_life plan, refl, tt); counted = refl; written = refl }
+
+-- ---- at the second of two places, at whose first no image was
+
+abbrev pub second_life : Life
+second_life = record life { number = 1152921504606846976 }
+
+pub is_second_life : (plan : SubscribePlan) → IsLife (subscribed_to_two plan) second_life ended
+is_second_life plan = record { opens = opens plan; first = begins; met = met_second plan; lived = lives; lacks = tt }
+  where
+    opens : (plan : SubscribePlan) → Opens (subscribed_to_two plan) setup second_life.opening
+    opens plan =
+        let is = (is_life plan).opens in
+        record { admitted = record { session = tt; stream = refl; short = omega arith; ongoing = is.admitted.ongoing }; session = refl; at = opens_at }
+
+abbrev pub given_second : List Given
+given_second = record { place = 1; message = abc } ∷ record { place = 1; message = ab } ∷ []
+
+abbrev pub writes_second : (plan : SubscribePlan) → WritesPlaces (subscribed_to_two plan) (Some []) 2 (Some input)
+writes_second plan = record {
+  lives = [] ∷ (second_life ∷ []) ∷ [];
+  given = given_second;
+  few = omega arith;
+  each = (tt, tt, refl, ((ended, is_second_life plan, refl, tt), (omega arith, omega arith, tt), refl, tt));
+  known = (omega arith, (omega arith, tt));
+  counted = refl;
+  written = refl;
+}
 
 -- it was handed nothing but what the sender gave out and the stream's farewell
 pub from_it : IsFromIt two (setup_bytes ∷ data_bytes ∷ []) life
 from_it = record { session = refl; stream = refl; setup = inl refl; heard = (inr (inr (inl refl)), (inl refl, tt)) }
+
+pub second_from_it : IsFromIt two (setup_bytes ∷ data_bytes ∷ []) second_life
+second_from_it = record { session = refl; stream = refl; setup = inl refl; heard = (inr (inr (inl refl)), (inl refl, tt)) }

@@ -39,11 +39,11 @@ GivesAllHonest =
     (p : PublishPlan) (destinations : ℕ) (given : Option (List ℕ)) (all : PublishesAll p destinations given) → IsSpelled (stream_in all)
     → AllByRecursion (IsHonest (stream_in all)) (given_out all)
 
--- where a publisher has ended whole, and each image of the subscriber at one of its destinations, whichever, was handed nothing but what
--- its sender gave out and its farewell, what is written there is what these images gave, one after the other: runs of what the
--- publisher read
+-- where a publisher has ended whole, and each image at a place of the subscriber at one of its destinations, whichever, was handed nothing
+-- but what its sender gave out and its farewell, what is written of that place is what these images gave, one after the other: runs of
+-- what the publisher read
 abbrev pub WritesAllOfIt : Type 0
 WritesAllOfIt =
     (p : PublishPlan) (destinations : ℕ) (given : Option (List ℕ)) (all : PublishesAll p destinations given) → IsSpelled (stream_in all)
-    → (plan : SubscribePlan) (before after : Option (List ℕ)) (count : ℕ) (w : WritesLives plan before count after) → AllByRecursion (IsFromIt (stream_in all) (given_out all)) w.images
+    → (plan : SubscribePlan) (place : ℕ) (before after : Option (List ℕ)) (count : ℕ) (w : WritesLives plan place before count after) → AllByRecursion (IsFromIt (stream_in all) (given_out all)) w.images
     → GoesThrough (stream_in all) all.ends.publishes.messages plan w.images

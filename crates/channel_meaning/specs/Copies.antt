@@ -32,11 +32,11 @@ pub record CopiesAll (p : PublishPlan) (destinations : ℕ) (input : List ℕ) (
   pub spelled : output ≡ spelling plan.end.form all.ends.publishes.messages
   pub copy : plan.end.form ≡ p.end.form → IsCopy p.end.form input output
 
--- where a publisher that has read this input has ended whole, and the subscriber at one of its destinations, whichever, wrote this and
--- had one image, which was handed nothing but what the publisher's sender gave out and its farewell, and has given as many messages as
--- were read
+-- where a publisher that has read this input has ended whole, and the subscriber at one of its destinations, whichever, wrote this of a
+-- place and had one image there, which was handed nothing but what the publisher's sender gave out and its farewell, and has given as
+-- many messages as were read
 abbrev pub CopiesAllOfIt : Type 0
 CopiesAllOfIt =
     (p : PublishPlan) (destinations : ℕ) (input : List ℕ) (all : PublishesAll p destinations (Some input)) → IsSpelled (stream_in all)
-    → (plan : SubscribePlan) (output : List ℕ) (count : ℕ) (w : WritesLives plan (Some []) count (Some output)) (l : Life) → w.images ≡ l ∷ [] → IsFromIt (stream_in all) (given_out all) l
+    → (plan : SubscribePlan) (place : ℕ) (output : List ℕ) (count : ℕ) (w : WritesLives plan place (Some []) count (Some output)) (l : Life) → w.images ≡ l ∷ [] → IsFromIt (stream_in all) (given_out all) l
     → all.reading.offered.messages ≤ count → CopiesAll p destinations input all plan l output

@@ -79,12 +79,13 @@ pub record GoesThrough (x : Stream) (read : List (List ℕ)) (plan : SubscribePl
   pub published : messages x.start x.tail x.entries ≡ read
   pub runs : AllByRecursion (GivesRun x read plan) images
 
--- where a pass has published what was read, a sender of that stream lives, to whatever destinations, and each image of a subscriber was
--- handed nothing but what that sender gave out, what is written is what these images gave, one after the other: runs of what was read
+-- where a pass has published what was read, a sender of that stream lives, to whatever destinations, and each image at a place of a
+-- subscriber was handed nothing but what that sender gave out, what is written of that place is what these images gave, one after the
+-- other: runs of what was read
 abbrev pub WritesWhatIsRead : Type 0
 WritesWhatIsRead =
     (x : Stream) → IsStream x → IsSpelled x
     → (p q : Pass) (tail to : ℕ) (read : List (List ℕ)) (h : Publishes p tail read q to) → IsItsStream p h.taken x
     → (destinations : ℕ) (s t : StreamCore) (sent : List StreamAct) → SendsStream x s → StreamLives destinations s sent t → AllAmong (committed x.entries) (source_in t.reads).frames
-    → (plan : SubscribePlan) (before after : Option (List ℕ)) (count : ℕ) (w : WritesLives plan before count after) → AllByRecursion (IsFromIt x (given_in_all sent)) w.images
+    → (plan : SubscribePlan) (place : ℕ) (before after : Option (List ℕ)) (count : ℕ) (w : WritesLives plan place before count after) → AllByRecursion (IsFromIt x (given_in_all sent)) w.images
     → GoesThrough x read plan w.images

@@ -2,9 +2,9 @@
 //!
 //! Where the claims of a publisher's pass, each committed whole, are the entries of a stream, in their order, the messages of
 //! that stream are those that were read from its input, in their order (`publishes_its_stream`). Where besides a sender of
-//! that stream lives, and each image of a subscriber was handed nothing but datagrams that this sender gave out and the stream's
-//! farewell, in any order and each any number of times, what `subscribe` writes is what these images gave, each a run of what was
-//! read, and its beginning where the image joined at the start (`writes_what_is_read`).
+//! that stream lives, and each image of a subscriber of one session was handed nothing but datagrams that this sender gave out and the
+//! stream's farewell, in any order and each any number of times, what `subscribe` writes is what these images gave, each a run of what
+//! was read, and its beginning where the image joined at the start (`writes_what_is_read`).
 //!
 //! In a driver's run a subscriber whose receiver was handed datagrams alone that are honest for a stream, that refused no message,
 //! and has tallied as many as the stream has, has tallied all of its messages, in their order (`tallies_all`); and the log of a run that
@@ -16,12 +16,17 @@
 //! `subscribe` at any of its destinations writes of that are runs of what the publisher read (`writes_all_of_it`). Where it had one
 //! image, which gave as many messages as were read, its output is a copy of the input (`copies_all_of_it`).
 //!
+//! A subscriber of several sessions is as many such ends, each at a place: of what it writes, what a place's images gave, if these were
+//! handed nothing but what one publisher's sender gave out, are runs of what that publisher read, whatever stands between them
+//! (`writes_all_at_each_place`), or a copy of it (`copies_all_at_each_place`).
+//!
 //! Premises are that the stream's ids and bytes can be spelled, and that datagrams are such as were given out: that a device carries
 //! what it was given no law says.
 #![tactic(auto)]
 
 ghost use Rattle.channel_meaning.specs.Books.{GivesAllHonest, PublishesAllOfIt, WritesAllOfIt};
 ghost use Rattle.channel_meaning.specs.Copies.{CopiesAllOfIt};
+ghost use Rattle.channel_meaning.specs.Several.{CopiesAllAtEachPlace, WritesAllAtEachPlace};
 ghost use Rattle.channel_meaning.specs.Streams.{PublishesItsStream, WritesWhatIsRead};
 ghost use Rattle.channel_meaning.specs.Tallies.{TalliesAll, TalliesAllOfARun};
 
@@ -74,6 +79,24 @@ pub fn writes_all_of_it()
 /// many messages as were read, the output there is the spelling of the input's messages, and in the same form a copy of the input.
 pub fn copies_all_of_it()
     ensures { CopiesAllOfIt }
+{
+    // A law that the proof cites.
+    writes_all_of_it();
+}
+
+/// A law: what each place of a subscriber of several sessions gave, whose images were handed nothing but what the sender of a publisher
+/// that has ended whole gave out, are runs of what that publisher read.
+pub fn writes_all_at_each_place()
+    ensures { WritesAllAtEachPlace }
+{
+    // A law that the proof cites.
+    writes_all_of_it();
+}
+
+/// A law: where one image at such a place has given as many messages as were read, the place gave all of them, and their spelling, in the
+/// same form, is a copy of the input.
+pub fn copies_all_at_each_place()
+    ensures { CopiesAllAtEachPlace }
 {
     // A law that the proof cites.
     writes_all_of_it();

@@ -31,6 +31,7 @@ pub record IsSubscribeOf (rows : List Row) (o : SubscribeOptions) : Type 0 where
   pub messages : IsNumber rows (codes "messages") 1 18446744073709551615 18446744073709551615 o.messages
   pub quiet : IsNumber rows (codes "quiet") 1 4294967295 4294967295 o.quiet
   pub once : IsFlag rows (codes "once") o.once
+  pub sessions : IsNumber rows (codes "sessions") 1 16 16 o.sessions
 
 -- ---- what a parse reads of the two commands
 
@@ -46,4 +47,5 @@ abbrev pub publish_app : App
 publish_app = plus (codes "wait") 1 4294967295 (plus (codes "linger") 1 1000000 (plus_list (codes "to") (with_shared (with_channel (new_app (codes "publish"))))))
 
 abbrev pub subscribe_app : App
-subscribe_app = plus_flag (codes "once") (plus (codes "quiet") 1 4294967295 (plus (codes "messages") 1 18446744073709551615 (with_shared (with_channel (new_app (codes "subscribe"))))))
+subscribe_app = plus_flag (codes "once") (plus (codes "sessions") 1 16 (plus (codes "quiet") 1 4294967295
+    (plus (codes "messages") 1 18446744073709551615 (with_shared (with_channel (new_app (codes "subscribe")))))))

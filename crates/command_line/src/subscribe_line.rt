@@ -34,6 +34,16 @@ const QUIET: Number = Number {
     help: "End after so long without a datagram of the stream, from 1 on [default: never, with --once 30]",
 };
 
+const SESSIONS: Number = Number {
+    name: "sessions",
+    value: "N",
+    heading: None,
+    least: 1,
+    most: 16,
+    otherwise: 16,
+    help: "Follow at most so many sessions at a time, 1 to 16 [default: 16]",
+};
+
 const MORE: &str = "Example:
   mdriver subscribe 'aeron:udp?endpoint=127.0.0.1:40123' > lines
 
@@ -46,8 +56,8 @@ Parameters of the channel, separated by |:
 The others of a publisher's channel are taken, and say nothing here.
 
 Counters, on standard error:
-  session      the session that is followed, or none
-  messages     how many were written; this-second: how many of them since the line before
+  session      the session that the line is of, or none
+  messages     how many were written, of all sessions; this-second: how many of them since the line before
   least, rebuilt, high-water
                in bytes of the stream: up to where it was written; up to where nothing is missing; the furthest
                that came
@@ -73,7 +83,7 @@ fn command<'a>(alloc: Global) -> Result<Command<'a>, AllocError>
         "Write each message to standard output as a line",
         MORE,
     )?;
-    let command = with_numbers(alloc, command, &[MESSAGE_LIMIT, QUIET])?;
+    let command = with_numbers(alloc, command, &[MESSAGE_LIMIT, QUIET, SESSIONS])?;
     with_flag(alloc, command, "once", "End with the stream")
 }
 
@@ -87,6 +97,7 @@ fn subscribe_of<'a>(matches: &ArgMatches<'a>) -> SubscribeOptions<'a>
         messages: number_of(matches, MESSAGE_LIMIT),
         quiet: number_of(matches, QUIET) as u32,
         once: flag_of(matches, "once"),
+        sessions: number_of(matches, SESSIONS) as u32,
     }
 }
 

@@ -1,6 +1,5 @@
 -- What has been done where a status says so.
-use Rattle.std.proofs.Common.{◌≡◌, ◌≢◌, ◌⊎◌, ◌≤◌, ℕ, IsTrue, ap, inl, inr, List, [], ◌∷◌, Bool, true, false, Option, Result, Ok, Err, refl, sym, ◌∙◌, arith, subst, drop, length, eqb-true, true≢false}
-use Rattle.std.specs.Bool.{◌==◌}
+use Rattle.std.proofs.Common.{◌≡◌, ◌≢◌, ◌⊎◌, ◌≤◌, ℕ, IsTrue, ap, inl, inr, List, [], ◌∷◌, Option, Result, Ok, Err, refl, sym, ◌∙◌, arith, subst, drop, true≢false}
 use mathlib.Core.List.{cons≢nil}
 use Rattle.std.specs.Prelude.{IfOk, OnOk, is_ok}
 use Rattle.clap.specs.Words.{Kinds, Text}
@@ -13,7 +12,7 @@ use Rattle.peer.specs.declared.attendance.Ending.{Ending as Published}
 use Rattle.peer.specs.declared.attendance.Ending.TheVariants as published
 use Rattle.publisher.specs.declared.fault.PublishFault.{PublishFault}
 use Rattle.subscriber.specs.Endings.{HasEnded}
-use Rattle.subscriber.specs.Living.{WritesLives, Writes}
+use Rattle.subscriber.specs.Living.{Writes, WritesPlaces}
 use Rattle.subscriber.specs.declared.ending.Ending.{Ending as EndedAs}
 use Rattle.subscriber.specs.declared.ending.Ending.TheVariants as subscribed
 use Rattle.subscriber.specs.declared.ending.Subscribed.{Subscribed}
@@ -49,7 +48,7 @@ told_short P n three (subscribed.Short, is, p) = inl p
 told_short P n three (subscribed.Lost, is, p) = inr p
 
 pub subscribed_so : (p : SubscribePlan) (before after : Option (List ℕ)) (r : Result Subscribed SubscribeFault)
-    → IfOk r (λ s. Writes p.end.form 0 before s.messages after) → IfOk r (λ s. WritesLives p before s.messages after)
+    → IfOk r (λ s. Writes p.end.form 0 before s.messages after) → IfOk r (λ s. WritesPlaces p before s.messages after)
     → IfOk r (λ s. s.messages ≤ p.messages) → IfOk r (λ s. HasEnded p before s after)
     → subscribed_status r ≢ 1 → (e : EndedAs) × (subscribed_status r ≡ subscribed_as e) × IsSubscribed p before after e
 subscribed_so p before after (Ok s) w l f h not = (s.ending, refl, record { done = s; ended_as = refl; few = f; writes = w; lives = l; ended = h })
@@ -57,7 +56,7 @@ subscribed_so p before after (Err fault) w l f h not = absurd (not refl)
 
 -- one that ended with 3 was to end with the stream, or has lost an image
 pub once_so : (p : SubscribePlan) (before after : Option (List ℕ)) (r : Result Subscribed SubscribeFault)
-    → IfOk r (λ s. Writes p.end.form 0 before s.messages after) → IfOk r (λ s. WritesLives p before s.messages after)
+    → IfOk r (λ s. Writes p.end.form 0 before s.messages after) → IfOk r (λ s. WritesPlaces p before s.messages after)
     → IfOk r (λ s. s.messages ≤ p.messages) → IfOk r (λ s. HasEnded p before s after) → IfOk r (λ s. s.ending ≡ subscribed.Short → IsTrue p.once)
     → subscribed_status r ≡ 3 → IsTrue p.once ⊎ IsSubscribed p before after subscribed.Lost
 once_so p before after (Ok s) w l f h once three = by_ending s.ending refl

@@ -1,5 +1,5 @@
 -- What a command line has done that ends with 0, or with 3, where the input and the output tell their bytes.
-use Rattle.std.specs.Prelude.{◌≡◌, ◌≢◌, ◌⊎◌, ◌≤◌, ℕ, List, [], codes, drop, length, Option}
+use Rattle.std.specs.Prelude.{◌≡◌, ◌⊎◌, ◌≤◌, ℕ, List, codes, drop, length, Option}
 use Rattle.std.specs.Borrow.{Bor}
 use Rattle.std.specs.Io.KnownBytes.{Appends}
 use Rattle.clap.specs.Words.{Text, matches_of}
@@ -15,7 +15,7 @@ use Rattle.options.specs.declared.ends.plans.SubscribePlan.{SubscribePlan}
 use Rattle.run.specs.declared.outcome.Ending.TheVariants as ran
 use Rattle.publisher.specs.Ended.{PublishesAll}
 use Rattle.subscriber.specs.Endings.{HasEnded}
-use Rattle.subscriber.specs.Living.{WritesLives, Writes}
+use Rattle.subscriber.specs.Living.{Writes, WritesPlaces}
 use Rattle.subscriber.specs.declared.ending.Ending.{Ending as EndedAs}
 use Rattle.subscriber.specs.declared.ending.Ending.TheVariants as subscribed
 use Rattle.subscriber.specs.declared.ending.Subscribed.{Subscribed}
@@ -81,13 +81,14 @@ HasPlanBy words = (o : PublishOptions) × IsPublishOf (matches_of publish_app wo
 
 -- ---- subscribe
 
--- a subscriber of this plan has ended so: what was written are whole messages, which the polls of its images gave
+-- a subscriber of this plan has ended so: what was written are whole messages, which the polls of its images gave, of each session its own,
+-- in their order
 pub record IsSubscribed (p : SubscribePlan) (before after : Option (List ℕ)) (ending : EndedAs) : Type 0 where
   pub done : Subscribed
   pub ended_as : done.ending ≡ ending
   pub few : done.messages ≤ p.messages
   pub writes : Writes p.end.form 0 before done.messages after
-  pub lives : WritesLives p before done.messages after
+  pub lives : WritesPlaces p before done.messages after
   pub ended : HasEnded p before done after
 
 -- by a plan of what was told
@@ -100,7 +101,7 @@ pub record IsSubscribedTold (o : SubscribeOptions) (before after : Option (List 
 abbrev pub SubscribesBy : List Text → Option (List ℕ) → Option (List ℕ) → EndedAs → Type 0
 SubscribesBy words before after ending = (o : SubscribeOptions) × IsSubscribeOf (matches_of subscribe_app words) o × IsSubscribedTold o before after ending
 
--- it wasn't told the stream's end, or lost an image
+-- it wasn't told each stream's end, or lost an image
 abbrev pub SubscribesShortBy : List Text → Option (List ℕ) → Option (List ℕ) → Type 0
 SubscribesShortBy words before after = SubscribesBy words before after subscribed.Short ⊎ SubscribesBy words before after subscribed.Lost
 
@@ -128,6 +129,6 @@ IsShortBy Subscribe words before after = SubscribesShortBy (drop 1 words) before
 IsShortBy DecodeInput words before after = ⊥
 IsShortBy Driver words before after = DrivesShortBy words before after
 
--- a run was short, or a subscriber wasn't told the stream's end, or lost an image; a publisher has a plan, and more isn't said
+-- a run was short, or a subscriber wasn't told each stream's end, or lost an image; a publisher has a plan, and more isn't said
 abbrev pub IsShort : List Text → Option (List ℕ) → Option (List ℕ) → Type 0
 IsShort words before after = IsShortBy (reader_of (drop 1 words)) words before after

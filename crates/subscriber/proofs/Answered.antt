@@ -9,19 +9,17 @@ use Rattle.messages.specs.declared.form.Form.{Form}
 use Rattle.options.specs.declared.ends.plans.SubscribePlan.{SubscribePlan}
 use Rattle.receiver.specs.Lives.{Act, ActsSo, Hears, Lives, Ticks}
 use Rattle.receiver.specs.Subscribing.{Subscribing}
-use Rattle.peer.specs.Ties.{Offer}
 use Rattle.subscriber.specs.Offers.{setup_taken}
 use Rattle.subscriber.specs.Losing.{with_device, JudgesTurn}
 use Rattle.subscriber.specs.Watches.{AttendsEach, IsWithinTurn, JudgesEach, Seen, Timing, looking}
-use Rattle.subscriber.specs.declared.images.Images.{Images}
 use Rattle.subscriber.specs.declared.images.session.Session.{Session}
 use Rattle.subscriber.specs.declared.listening.setup_offer.SetupOffer.{SetupOffer}
-use Rattle.subscriber.proofs.Leaving.{heard_unpolled, listened}
-use Rattle.subscriber.proofs.Lived.{all_heard, follows_on, lives_on, same_life}
+use Rattle.subscriber.proofs.Leaving.{heard_unpolled}
+use Rattle.subscriber.proofs.Lived.{all_heard, lives_on}
 use Rattle.subscriber.specs.Answering.{AnswersEnd, HasAnswered, IsTicked, TellsPlace, ahead_of}
-use Rattle.subscriber.specs.Leavings.{ListensOn, LivesUnpolled}
-use Rattle.subscriber.specs.Living.{Follows, LivesOn, WritesActs}
-use Rattle.subscriber.specs.Turning.{Attends, Considers, ConsidersOffer, Passes, Renews, Resumes}
+use Rattle.subscriber.specs.Leavings.{LivesUnpolled}
+use Rattle.subscriber.specs.Living.{WritesActs}
+use Rattle.subscriber.specs.Turning.{AttendsOwn, Considers, ConsidersOwn, Passes, Renews, Replaces, Resumes, Turns}
 use Rattle.subscriber.specs.declared.images.session.Stand.{Stand}
 
 pub place_told : (moment now : ℕ) (tells : Type 0) (s : Subscribing) (d : Device) (busy : Bool) (t : Subscribing) (e : Device) → now ≡ ahead_of moment → Cycle ReceiverHears ReceiverTicks now tells s d busy t e → TellsPlace moment s t
@@ -53,13 +51,6 @@ answered_on s t acts h lives = record {
 
 -- ---- a cycle, and then a look at the end
 
--- it lived on, answered, and then lines were told
-pub answered_life : (plan : SubscribePlan) (a b c : Option (List ℕ)) (count more : ℕ) (j k l m : Session) → k.images ≡ j.images → l.images ≡ k.images → m.images ≡ l.images → m.follower ≡ l.follower
-    → Follows plan a count j.images j.follower b → LivesOn plan.end.form count j.follower b more k.follower c → ListensOn k.follower l.follower → Follows plan a more m.images m.follower c
-answered_life plan a b c count more j k l m first second third same h w on =
-    let lived : Follows plan a more j.images l.follower c = listened plan a c more j.images k.follower l.follower (follows_on plan a b c count more j.images j.follower k.follower h w) on in
-    same_life plan a c more l m third same (subst (λ (n : Images). Follows plan a more n l.follower c) (sym (second ∙ first)) lived)
-
 pub ends_answered : (form : Form) (count more at : ℕ) (before after : Option (List ℕ)) (j k l : Session) (x : Stand) → k.ended ≡ j.ended → WritesActs form count j.follower.subscriber before more k.follower.subscriber after → IsTicked at k.follower.subscriber → LivesUnpolled k.follower.subscriber l.follower.subscriber → AnswersEnd at k l x
     → (IsTrue j.ended → HasAnswered j.follower.subscriber) → IsTrue l.ended → HasAnswered l.follower.subscriber
 ends_answered form count more at before after j k l x same w ticked on a answered so = by_case (a.told so)
@@ -88,43 +79,52 @@ ends_answered form count more at before after j k l x same w ticked on a answere
 pub same_answered : (j k : Session) → k.ended ≡ j.ended → k.follower.subscriber ≡ j.follower.subscriber → (IsTrue j.ended → HasAnswered j.follower.subscriber) → IsTrue k.ended → HasAnswered k.follower.subscriber
 same_answered j k ended same answered so = subst HasAnswered (sym same) (answered (subst (λ (b : Bool). IsTrue b) ended so))
 
-turned : (plan : SubscribePlan) (m : SetupOffer) (rebuilt : ℕ) (j k : Session) → Passes m rebuilt j k ⊎ Resumes m rebuilt j k ⊎ Renews plan m rebuilt j k → (IsTrue j.ended → HasAnswered j.follower.subscriber) → IsTrue k.ended → HasAnswered k.follower.subscriber
-turned plan m rebuilt j k (inl p) h = same_answered j k (ap (λ x. x.ended) p.warns.kept) (ap (λ x. x.follower.subscriber) p.warns.kept) h
-turned plan m rebuilt j k (inr (inl p)) h = same_answered j k (ap (λ x. x.ended) p.tied) (ap (λ x. x.follower.subscriber) p.tied) h
-turned plan m rebuilt j k (inr (inr p)) h = λ so. let not = p.replaced.renewed.ended in cc
+by_turn : (plan : SubscribePlan) (share : ℕ) (m : SetupOffer) (rebuilt : ℕ) (j k : Session) → Passes m rebuilt j k ⊎ Resumes m rebuilt j k ⊎ Renews plan share m rebuilt j k → (IsTrue j.ended → HasAnswered j.follower.subscriber) → IsTrue k.ended → HasAnswered k.follower.subscriber
+by_turn plan share m rebuilt j k (inl p) h = same_answered j k (ap (λ x. x.ended) p.warns.kept) (ap (λ x. x.follower.subscriber) p.warns.kept) h
+by_turn plan share m rebuilt j k (inr (inl p)) h = same_answered j k (ap (λ x. x.ended) p.tied) (ap (λ x. x.follower.subscriber) p.tied) h
+by_turn plan share m rebuilt j k (inr (inr p)) h = λ so. let not = p.replaced.renewed.ended in cc
 
-considered : (plan : SubscribePlan) (from : SocketAddr) (f : Setup) (j k : Session) → Considers plan from f j k → (IsTrue j.ended → HasAnswered j.follower.subscriber) → IsTrue k.ended → HasAnswered k.follower.subscriber
-considered plan from f j k (inl p) h = same_answered j k (ap (λ x. x.ended) p.1) (ap (λ x. x.follower.subscriber) p.1) h
-considered plan from f j k (inr p) h = turned plan p.0 p.2.0 j k p.2.2 h
+pub turned_answered : (plan : SubscribePlan) (share : ℕ) (m : SetupOffer) (j k : Session) → Turns plan share m j k → (IsTrue j.ended → HasAnswered j.follower.subscriber) → IsTrue k.ended → HasAnswered k.follower.subscriber
+turned_answered plan share m j k p h = by_turn plan share m p.0 j k p.2 h
 
-offered : (plan : SubscribePlan) (offer : Offer) (j k : Session) → ConsidersOffer plan offer j k → (IsTrue j.ended → HasAnswered j.follower.subscriber) → IsTrue k.ended → HasAnswered k.follower.subscriber
-offered plan None j k p h = same_answered j k (ap (λ x. x.ended) p) (ap (λ x. x.follower.subscriber) p) h
-offered plan (Some offer) j k p h = considered plan offer.0 offer.1 j k p h
+considered : (plan : SubscribePlan) (share : ℕ) (from : SocketAddr) (f : Setup) (j k : Session) → Considers plan share from f j k → (IsTrue j.ended → HasAnswered j.follower.subscriber) → IsTrue k.ended → HasAnswered k.follower.subscriber
+considered plan share from f j k (inl p) h = same_answered j k (ap (λ x. x.ended) p.1) (ap (λ x. x.follower.subscriber) p.1) h
+considered plan share from f j k (inr p) h = turned_answered plan share p.0 j k p.2 h
 
-pub attended_answered : (plan : SubscribePlan) (others : Offer) (j k : Session) → Attends plan others j k → (IsTrue j.ended → HasAnswered j.follower.subscriber) → IsTrue k.ended → HasAnswered k.follower.subscriber
-attended_answered plan others j k p h =
-    same_answered p.2 k (ap (λ (x : Session). x.ended) p.4) (ap (λ (x : Session). x.follower.subscriber) p.4)
-    (offered plan p.0 (with_device j (setup_taken j.duty.device)) p.2 p.3 h)
+own : (plan : SubscribePlan) (share : ℕ) (setup : Option Setup) (j k : Session) → ConsidersOwn plan share setup j k → (IsTrue j.ended → HasAnswered j.follower.subscriber) → IsTrue k.ended → HasAnswered k.follower.subscriber
+own plan share None j k p h = same_answered j k (ap (λ x. x.ended) p) (ap (λ x. x.follower.subscriber) p) h
+own plan share (Some f) j k p h = considered plan share j.duty.device.inner.inner.inner.peer f j k p h
+
+pub attended_answered : (plan : SubscribePlan) (share : ℕ) (j k : Session) → AttendsOwn plan share j k → (IsTrue j.ended → HasAnswered j.follower.subscriber) → IsTrue k.ended → HasAnswered k.follower.subscriber
+attended_answered plan share j k p h =
+    same_answered p.0 k (ap (λ (x : Session). x.ended) p.2) (ap (λ (x : Session). x.follower.subscriber) p.2)
+    (own plan share j.duty.device.notes.setup (with_device j (setup_taken j.duty.device)) p.0 p.1 h)
 
 -- ---- turns
 
-same_within : (s t : Seen) → t ≡ s → IsWithinTurn s t
+pub same_within : (s t : Seen) → t ≡ s → IsWithinTurn s t
 same_within s t same = record { turns = ap (λ x. x.turns) same; attended = ap (λ x. x.attended) same; judged = ap (λ x. x.judged) same }
 
-turned_within : (plan : SubscribePlan) (m : SetupOffer) (rebuilt : ℕ) (j k : Session) → Passes m rebuilt j k ⊎ Resumes m rebuilt j k ⊎ Renews plan m rebuilt j k → IsWithinTurn j.watch k.watch
-turned_within plan m rebuilt j k (inl p) = same_within j.watch k.watch (ap (λ (x : Session). x.watch) p.warns.kept)
-turned_within plan m rebuilt j k (inr (inl p)) = same_within j.watch k.watch (ap (λ (x : Session). x.watch) p.tied)
-turned_within plan m rebuilt j k (inr (inr p)) =
-    let w = p.replaced.renewed.watch in
+pub replaced_within : (plan : SubscribePlan) (share : ℕ) (m : SetupOffer) (j k : Session) → Replaces plan share m j k → IsWithinTurn j.watch k.watch
+replaced_within plan share m j k p =
+    let w = p.renewed.watch in
     record { turns = ap (λ x. x.turns) w; attended = ap (λ x. x.attended) w; judged = ap (λ x. x.judged) w }
 
-considered_within : (plan : SubscribePlan) (from : SocketAddr) (f : Setup) (j k : Session) → Considers plan from f j k → IsWithinTurn j.watch k.watch
-considered_within plan from f j k (inl p) = same_within j.watch k.watch (ap (λ (x : Session). x.watch) p.1)
-considered_within plan from f j k (inr p) = turned_within plan p.0 p.2.0 j k p.2.2
+within_by_turn : (plan : SubscribePlan) (share : ℕ) (m : SetupOffer) (rebuilt : ℕ) (j k : Session) → Passes m rebuilt j k ⊎ Resumes m rebuilt j k ⊎ Renews plan share m rebuilt j k → IsWithinTurn j.watch k.watch
+within_by_turn plan share m rebuilt j k (inl p) = same_within j.watch k.watch (ap (λ (x : Session). x.watch) p.warns.kept)
+within_by_turn plan share m rebuilt j k (inr (inl p)) = same_within j.watch k.watch (ap (λ (x : Session). x.watch) p.tied)
+within_by_turn plan share m rebuilt j k (inr (inr p)) = replaced_within plan share m j k p.replaced
 
-offered_within : (plan : SubscribePlan) (offer : Offer) (j k : Session) → ConsidersOffer plan offer j k → IsWithinTurn j.watch k.watch
-offered_within plan None j k p = same_within j.watch k.watch (ap (λ (x : Session). x.watch) p)
-offered_within plan (Some offer) j k p = considered_within plan offer.0 offer.1 j k p
+pub turned_within : (plan : SubscribePlan) (share : ℕ) (m : SetupOffer) (j k : Session) → Turns plan share m j k → IsWithinTurn j.watch k.watch
+turned_within plan share m j k p = within_by_turn plan share m p.0 j k p.2
+
+considered_within : (plan : SubscribePlan) (share : ℕ) (from : SocketAddr) (f : Setup) (j k : Session) → Considers plan share from f j k → IsWithinTurn j.watch k.watch
+considered_within plan share from f j k (inl p) = same_within j.watch k.watch (ap (λ (x : Session). x.watch) p.1)
+considered_within plan share from f j k (inr p) = turned_within plan share p.0 j k p.2
+
+own_within : (plan : SubscribePlan) (share : ℕ) (setup : Option Setup) (j k : Session) → ConsidersOwn plan share setup j k → IsWithinTurn j.watch k.watch
+own_within plan share None j k p = same_within j.watch k.watch (ap (λ (x : Session). x.watch) p)
+own_within plan share (Some f) j k p = considered_within plan share j.duty.device.inner.inner.inner.peer f j k p
 
 -- in a turn it was judged once whether the image is lost, and nothing was attended yet
 pub record HasJudged (s t : Seen) : Type 0 where
@@ -141,14 +141,6 @@ has_judged s t j k h =
       judged = ap (λ x. x.judged) w ∙ ap (λ (b : Bool). if b then (h.answered.watch.judged + 1) % 2 ^ 64 else h.answered.watch.judged) h.still ∙ ap (λ (n : ℕ). (n + 1) % 2 ^ 64) h.within.judged;
     }
 
--- a turn begins, and what came of SETUPs in it is attended
-pub turn_attended : (plan : SubscribePlan) (others : Offer) (r s : Seen) (now : ℕ) (j k : Session) → r.turns ≡ r.attended → s ≡ looking r now → HasJudged s j.watch → Attends plan others j k → k.watch.turns ≡ k.watch.attended
-turn_attended plan others r s now j k before looks once p =
-    let so = offered_within plan p.0 (with_device j (setup_taken j.duty.device)) p.2 p.3 in
-    let w = ap (λ (x : Session). x.watch) p.4 in
-    ap (λ x. x.turns) w ∙ so.turns ∙ once.turns ∙ ap (λ x. x.turns) looks
-    ∙ ap (λ (n : ℕ). (n + 1) % 2 ^ 64) (before ∙ sym (ap (λ x. x.attended) looks) ∙ sym once.attended ∙ sym so.attended) ∙ sym (ap (λ x. x.attended) w)
-
 -- before that it is one turn ahead
 pub turn_ahead : (r s a : Seen) (now : ℕ) → r.turns ≡ r.attended → s ≡ looking r now → HasJudged s a → AttendsEach a
 turn_ahead r s a now before looks once =
@@ -159,12 +151,15 @@ pub turn_judged : (r s a : Seen) (now : ℕ) → JudgesEach r → s ≡ looking 
 turn_judged r s a now before looks once =
     once.turns ∙ ap (λ x. x.turns) looks ∙ ap (λ (n : ℕ). (n + 1) % 2 ^ 64) (before ∙ sym (ap (λ x. x.judged) looks)) ∙ sym once.judged
 
--- what comes of SETUPs is no judgement of that
-pub attended_judged : (plan : SubscribePlan) (others : Offer) (j k : Session) → JudgesEach j.watch → Attends plan others j k → JudgesEach k.watch
-attended_judged plan others j k each p =
-    let so = offered_within plan p.0 (with_device j (setup_taken j.duty.device)) p.2 p.3 in
-    let w = ap (λ (x : Session). x.watch) p.4 in
-    ap (λ x. x.turns) w ∙ so.turns ∙ each ∙ sym so.judged ∙ sym (ap (λ x. x.judged) w)
+-- what came of SETUPs in it is attended once, and that is no judgement
+pub attended_once : (plan : SubscribePlan) (share : ℕ) (j k : Session) → AttendsOwn plan share j k → (k.watch.turns ≡ j.watch.turns) × (k.watch.attended ≡ (j.watch.attended + 1) % 2 ^ 64) × (k.watch.judged ≡ j.watch.judged)
+attended_once plan share j k p =
+    let so = own_within plan share j.duty.device.notes.setup (with_device j (setup_taken j.duty.device)) p.0 p.1 in
+    let w = ap (λ (x : Session). x.watch) p.2 in (
+      ap (λ x. x.turns) w ∙ so.turns,
+      ap (λ x. x.attended) w ∙ ap (λ (n : ℕ). (n + 1) % 2 ^ 64) so.attended,
+      ap (λ x. x.judged) w ∙ so.judged,
+    )
 
 pub within_on : (s t u : Seen) → IsWithinTurn s t → IsWithinTurn t u → IsWithinTurn s u
 within_on s t u a b = record { turns = b.turns ∙ a.turns; attended = b.attended ∙ a.attended; judged = b.judged ∙ a.judged }

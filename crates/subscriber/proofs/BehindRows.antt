@@ -68,20 +68,24 @@ before_all : lies_above (negsuc 0) 0 ≡ false
 before_all = refl
 
 -- images
-second : next_images first_image (loss_between 64 4096) ≡ record { number = 1; missing = 4032 }
+second : next_images (first_image 0) (loss_between 64 4096) ≡ record { number = 1; missing = 4032 }
 second = refl
 
-unlost : next_images first_image (loss_between 64 64) ≡ record { number = 1; missing = 0 }
+unlost : next_images (first_image 0) (loss_between 64 64) ≡ record { number = 1; missing = 0 }
 unlost = refl
 
-third : next_images (next_images first_image (loss_between 64 4096)) (loss_between 5000 5001) ≡ record { number = 2; missing = 4033 }
+third : next_images (next_images (first_image 0) (loss_between 64 4096)) (loss_between 5000 5001) ≡ record { number = 2; missing = 4033 }
 third = refl
 
-first_unlost : has_lost false first_image ≡ false
+-- those of another place have numbers of their own
+second_place : next_images (first_image 1) (loss_between 64 4096) ≡ record { number = 1152921504606846977; missing = 4032 }
+second_place = refl
+
+first_unlost : has_lost false (first_image 0) ≡ false
 first_unlost = refl
 
-told_lost : has_lost true first_image ≡ true
+told_lost : has_lost true (first_image 0) ≡ true
 told_lost = refl
 
-later_lost : has_lost false (next_images first_image (loss_between 64 4096)) ≡ true
+later_lost : has_lost false (next_images (first_image 0) (loss_between 64 4096)) ≡ true
 later_lost = refl

@@ -1,11 +1,13 @@
--- Rows: when a subscriber has all of its stream, has enough, and how one ends that is quiet.
-use Rattle.std.proofs.Common.{◌≡◌, ◌-◌, ◌^◌, ℕ, subst, Option, None, Some, true, false, inl, inr, refl, arith, lit≤}
+-- Rows: when a subscriber has all of its stream, has enough, when all of its sessions are done, and how one ends that is quiet.
+use Rattle.std.proofs.Common.{◌≡◌, ◌-◌, ◌^◌, ℕ, [], ◌∷◌, subst, Option, None, Some, true, false, inl, inr, refl, arith, lit≤}
 use Rattle.options.specs.declared.ends.plans.SubscribePlan.{SubscribePlan}
 use Rattle.subscriber.specs.Answering.{ahead_of}
 use Rattle.subscriber.specs.Watches.{Seen}
+use Rattle.subscriber.specs.Endings.{AreDone, HasEnoughOfAll, IsDone, IsUnheardYet, NoneCame}
 use Rattle.subscriber.specs.Leavings.{HasEnough, IsEnding, IsQuietEnding}
-use Rattle.subscriber.specs.Standing.{HasAllUpTo}
+use Rattle.subscriber.specs.Standing.{HasAll, HasAllUpTo}
 use Rattle.subscriber.specs.declared.ending.Ending.TheVariants.{Whole, Short, Lost}
+use Rattle.subscriber.specs.declared.images.session.Session.{Session}
 use Rattle.subscriber.specs.declared.images.session.Stand.{Stand}
 
 -- an end at which both stand
@@ -40,6 +42,53 @@ as_many plan x three = inl (omega (arith, three))
 unended : (plan : SubscribePlan) (x : Stand) → plan.messages ≡ 3 → x.end ≡ None → HasEnough plan 2 x → ⊥
 unended plan x three none (inl h) = omega (arith, h, three)
 unended plan x three none (inr h) = subst (λ (e : Option ℕ). HasAllUpTo e x.rebuilt x.place) none h.1
+
+-- one alone may have come just now
+came_alone : (j : Session) → NoneCame (j ∷ [])
+came_alone j = inl refl
+
+-- of two, one that came a nanosecond less than a second ago is waited for, and then none is
+just_came : (j k : Session) → k.watch.moment ≡ 3000000000 → k.opened ≡ 2000000001 → NoneCame (j ∷ k ∷ []) → ⊥
+just_came j k now opened (inl one) = omega (arith, one)
+just_came j k now opened (inr all) = omega (arith, all.1.0, now, opened)
+
+came_before : (j k : Session) → j.watch.moment ≡ 3000000000 → j.opened ≡ 0 → k.watch.moment ≡ 3000000000 → k.opened ≡ 2000000000 → NoneCame (j ∷ k ∷ [])
+came_before j k now first then second = inr (omega (arith, now, first), (omega (arith, then, second), tt))
+
+-- the first may have come last
+first_came : (j k : Session) → j.watch.moment ≡ 3000000000 → j.opened ≡ 2500000000 → NoneCame (j ∷ k ∷ []) → ⊥
+first_came j k now opened (inl one) = omega (arith, one)
+first_came j k now opened (inr all) = omega (arith, all.0, now, opened)
+
+-- without a session none is done
+nothing_done : AreDone [] → ⊥
+nothing_done h = h.some tt
+
+-- one alone that has all of its stream is done, and one that was never heard isn't
+done_alone : (j : Session) → HasAll j.stood → AreDone (j ∷ [])
+done_alone j all = record { each = (inl all, tt); some = λ none. none.0 all; none = inl refl }
+
+unheard_alone : (j : Session) → (HasAll j.stood → ⊥) → AreDone (j ∷ []) → ⊥
+unheard_alone j lacks h = h.some (lacks, tt)
+
+-- beside one that has all of its stream, one that was never heard is done with, and one that was heard isn't while it lacks something
+beside_unheard : (j k : Session) → HasAll j.stood → IsUnheardYet k → NoneCame (j ∷ k ∷ []) → AreDone (j ∷ k ∷ [])
+beside_unheard j k all unheard none = record { each = (inl all, (inr unheard, tt)); some = λ nobody. nobody.0 all; none = none }
+
+beside_heard : (j k : Session) → (HasAll k.stood → ⊥) → (IsUnheardYet k → ⊥) → AreDone (j ∷ k ∷ []) → ⊥
+beside_heard j k lacks heard h = by_case h.each.1.0
+  where
+    by_case : IsDone k → ⊥
+    by_case (inl all) = lacks all
+    by_case (inr unheard) = heard unheard
+
+-- where all have all of theirs, one that came just now is waited for
+done_and_came : (j k : Session) → k.watch.moment ≡ 3000000000 → k.opened ≡ 2000000001 → AreDone (j ∷ k ∷ []) → ⊥
+done_and_came j k now opened h = just_came j k now opened h.none
+
+-- they have enough by their messages, however many lack something
+many_messages : (plan : SubscribePlan) (j k : Session) → plan.messages ≡ 3 → HasEnoughOfAll plan 3 (j ∷ k ∷ [])
+many_messages plan j k three = inl (omega (arith, three))
 
 -- quiet, one that was to end with the stream is never whole, and another never short
 never_whole : (plan : SubscribePlan) → plan.once ≡ true → IsQuietEnding plan Whole → ⊥

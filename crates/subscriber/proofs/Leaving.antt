@@ -1,7 +1,5 @@
 -- What a subscriber lives through where it polls nothing more.
-use Rattle.std.proofs.Common.{◌≡◌, ◌⊎◌, ◌∙◌, ℕ, ℤ, pos, negsuc, Bool, None, Some, List, [], ◌∷◌, ◌++◌, map, length, Option, Result, Ok, Err, IfOk, inl, inr, refl, sym, ap, append-nil, subst, arith, true, false, if◌then◌else◌}
-use Rattle.std.specs.Io.KnownBytes.{Appends}
-use Rattle.std.proofs.KnownBytes.{Appends-nil}
+use Rattle.std.proofs.Common.{◌≡◌, ◌⊎◌, ◌∙◌, ℕ, ℤ, pos, negsuc, Bool, None, Some, List, [], ◌∷◌, ◌++◌, map, Option, inl, inr, refl, sym, ap, append-nil, subst, true, false, if◌then◌else◌}
 use Rattle.theory.specs.Image.{Image, after_heartbeat, after_insert, is_accepted}
 use Rattle.theory.specs.Insert as meaning
 use Rattle.theory.specs.Placed as placed
@@ -13,21 +11,18 @@ use Rattle.agents.specs.Cycles.{Cycle, Fault, TicksBehind}
 use Rattle.agents.specs.Parties.{ReceiverHears, ReceiverTicks}
 use Rattle.endpoint.specs.Devices.{Device}
 use Rattle.endpoint.specs.declared.device_error.DeviceError.{DeviceError}
-use Rattle.messages.specs.Forms.{spelling}
 use Rattle.options.specs.declared.ends.plans.SubscribePlan.{SubscribePlan}
 use Rattle.receiver.specs.Lives.{Act, Gives, GivesNone, Hears, Lives, Ticks, given_in, heard_in}
 use Rattle.receiver.specs.Receiving.{Meets, MeetsAll, MeetsFrame, MeetsHeartbeat, MeetsSetup, Opened, Receiver, TakesDatagram, answer_at, at_moment, given_at, ticked}
 use Rattle.receiver.specs.Subscribing.{RepresentsSubscriber, Subscribing}
 use Rattle.receiver.specs.declared.receiver_core.Outcome.{Outcome}
-use Rattle.subscriber.proofs.Lived.{all_heard, all_in, follows_on, heard_on, life_ended, life_on, lives_on}
+use Rattle.subscriber.proofs.Lived.{all_heard, all_in, follows_on, heard_on, lives_on}
 use Rattle.subscriber.proofs.Parties.{subscribers_cycle}
 use Rattle.subscriber.specs.Followers.{FollowerHears, FollowerTicks, HasNoted}
 use Rattle.subscriber.specs.declared.images.follower.Follower.{Follower}
 use Rattle.subscriber.specs.declared.images.Images.{Images}
 use Rattle.subscriber.specs.Leavings.{AreUnpolled, KeepsConsumers, ListensOn, LivesUnpolled, StandsStill}
-use Rattle.subscriber.specs.Living.{Follows, WritesActs, WritesLife, WritesLives}
-use Rattle.subscriber.specs.declared.ending.Subscribed.{Subscribed}
-use Rattle.subscriber.specs.declared.fault.SubscribeFault.{SubscribeFault}
+use Rattle.subscriber.specs.Living.{FollowsAt}
 
 -- ---- consumers that nobody moves
 
@@ -173,22 +168,8 @@ fault_unpolled now tells fault s d t e f = by_tick f.ticked
     by_tick (inl none) = record { acts = map (Hears now) f.heard; unpolled = heard_unpolled now f.heard; lived = subst (Lives s (map (Hears now) f.heard)) (sym none.0) hears }
     by_tick (inr behind) = heard_and_told now s f.middle t f.heard f.answers f.given hears behind.ticked
 
--- what it has written stays all that its polls gave
-none_written : (plan : SubscribePlan) (b : Option (List ℕ)) (count : ℕ) (s t : Subscribing) → (l : LivesUnpolled s t) → WritesActs plan.end.form count s b count t b
-none_written plan b count s t l = record {
-  acts = l.acts;
-  lived = l.lived;
-  counted = let none : length (given_in l.acts) ≡ 0 = ap length (none_given l.acts l.unpolled) in omega (arith, none);
-  written = subst (λ xs. Appends b b (spelling plan.end.form xs)) (sym (none_given l.acts l.unpolled)) (Appends-nil b);
-}
-
-pub left_life : (plan : SubscribePlan) (a b : Option (List ℕ)) (count : ℕ) (number : Images) (s t : Subscribing) → WritesLife plan a count number s b → LivesUnpolled s t → WritesLife plan a count number t b
-left_life plan a b count number s t h l = life_on plan a b b count count number s t h (none_written plan b count s t l)
-
-pub listened : (plan : SubscribePlan) (a b : Option (List ℕ)) (count : ℕ) (number : Images) (f g : Follower) → Follows plan a count number f b → ListensOn f g → Follows plan a count number g b
-unfolding none_written
-listened plan a b count number f g h l = follows_on plan a b b count count number f g h (record { acts = none_written plan b count f.subscriber g.subscriber l.lives; notes = l.notes })
-
-pub all_written : (plan : SubscribePlan) (a b : Option (List ℕ)) (number : Images) (t : Subscribing) (result : Result Subscribed SubscribeFault) → IfOk result (λ s. WritesLife plan a s.messages number t b) → IfOk result (λ s. WritesLives plan a s.messages b)
-all_written plan a b number t (Ok s) h = life_ended plan a b s.messages number t h
-all_written plan a b number t (Err fault) h = h
+-- what it was given stays all that its polls gave
+pub listened : (plan : SubscribePlan) (places place : ℕ) (images : Images) (f g : Follower) (given : List (List ℕ)) → FollowsAt plan places place images f given → ListensOn f g → FollowsAt plan places place images g given
+listened plan places place images f g given h l =
+    subst (FollowsAt plan places place images g) (ap (λ ms. given ++ ms) (none_given l.lives.acts l.lives.unpolled) ∙ append-nil given)
+    (follows_on plan places place images f g l.lives.acts given h l.lives.lived l.notes)

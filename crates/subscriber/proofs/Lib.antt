@@ -1,6 +1,11 @@
+pub mod Each
+pub mod Along
+pub mod Shares
 pub mod Openings
 pub mod Windows
 pub mod Calling
+pub mod Choices
+pub mod Seated
 pub mod Repeaters
 mod Repeated
 mod BehindRows
@@ -10,13 +15,24 @@ pub mod Parties
 pub mod Writing
 pub mod Written
 pub mod Patience
+pub mod Given
 pub mod Lived
+pub mod Placed
+pub mod Alone
 pub mod Leaving
+pub mod Farewells
 pub mod Told
 pub mod Breaking
 pub mod Answered
 pub mod Looked
+pub mod Chosen
+pub mod Kept
 pub mod Lost
 pub mod EndRows
 pub mod TurnRows
+mod FollowedRows
+pub mod PlaceRows
 pub mod Reading
+pub mod Settled
+pub mod Turned
+pub mod Rounds

@@ -1,5 +1,5 @@
 -- What a subscriber lives through in a cycle, and from image to image.
-use Rattle.std.proofs.Common.{◌≡◌, ◌⊎◌, ℕ, ℤ, Bool, true, false, if◌then◌else◌, ◌+◌, None, Some, List, [], ◌∷◌, ◌++◌, map, length, Option, inl, inr, refl, sym, ap, ◌∙◌, subst, arith, true≢false, append_assoc, append-nil, length-append}
+use Rattle.std.proofs.Common.{◌≡◌, ◌≤◌, ◌⊎◌, ℕ, ℤ, Bool, true, false, if◌then◌else◌, ◌+◌, None, Some, List, [], ◌∷◌, ◌++◌, map, length, Option, inl, inr, refl, sym, ap, ◌∙◌, subst, arith, true≢false, append_assoc, append-nil, length-append}
 use Rattle.std.specs.Prelude.{nat_lt}
 use Rattle.std.proofs.lemmas.Bool.{ltb-false, ltb-true}
 use Rattle.std.specs.Io.KnownBytes.{Appends}
@@ -16,23 +16,20 @@ use Rattle.agents.specs.Cycles.{HearsAll}
 use Rattle.agents.specs.Parties.{ReceiverHears}
 use Rattle.receiver.specs.Subscribing.{Subscribing}
 use Rattle.receiver.specs.Lives.{Act, Gives, GivesNone, Hears, Lives, Ticks, given_in, heard_in}
-use Rattle.subscriber.specs.Calls.{IsJoined, IsMeeting}
-use Rattle.subscriber.specs.Endings.{EndsSo}
-use Rattle.subscriber.specs.declared.ending.Ending.{Ending}
-use Rattle.subscriber.specs.declared.ending.Ending.TheVariants.{Lost, Short, Whole}
+use Rattle.subscriber.specs.Calls.{IsJoinedBy, IsMeeting}
 use Rattle.subscriber.specs.Deliveries.{Delivers, PollsAll, PollsNone, WritesAndNotes, WritesFirst}
-use Rattle.subscriber.specs.Living.{AreUnlost, Follows, IsLossFrom, IsLossTo, IsNumbered, Life, LosesNothing, LivesOn, WritesActs, WritesLife, WritesLives, given_through, missing_through}
-use Rattle.subscriber.specs.Turning.{Attends, Considers, ConsidersOffer, IsLoss, Passes, Renews, Replaces, Resumes}
+use Rattle.subscriber.specs.Living.{AreLives, AreShared, AreUnlost, FollowsAt, IsLossFrom, IsLossTo, IsNumbered, Life, LivesAt, LivesOn, LosesNothing, WritesActs, given_through, missing_through}
+use Rattle.subscriber.specs.Meetings.{Opens}
+use Rattle.subscriber.specs.Places.{first_number}
+use Rattle.subscriber.specs.Turning.{AttendsOwn, Considers, ConsidersOwn, IsLoss, Passes, Renews, Replaces, Resumes, Turns, Warns}
 use Rattle.subscriber.specs.Offers.{SubscriberDevice, setup_taken}
 use Rattle.subscriber.specs.Losing.{with_device}
 use Rattle.subscriber.specs.Images.{has_lost, missing_with, next}
 use Rattle.subscriber.specs.declared.images.Images.{Images}
 use Rattle.subscriber.specs.declared.images.Loss.{Loss}
-use Rattle.peer.specs.Ties.{Offer}
 use Rattle.subscriber.proofs.Ends.{ends_on, greatest_end}
 use Rattle.subscriber.specs.Followers.{HasNoted, IsGreatestEnd, NotesEnds}
 use Rattle.subscriber.specs.declared.images.follower.Follower.{Follower}
-use Rattle.subscriber.specs.Watches.{Seen, Timing}
 use Rattle.subscriber.specs.declared.images.delivery.Delivered.{Delivered}
 use Rattle.subscriber.specs.declared.images.session.Session.{Session}
 use Rattle.subscriber.specs.declared.listening.setup_offer.SetupOffer.{SetupOffer}
@@ -134,60 +131,85 @@ cycle_lives_on form most now count more tells f a d done g b e sum w = record {
 pub spelled_on : (form : Form) (xs ys : List (List ℕ)) → spelling form (xs ++ ys) ≡ spelling form xs ++ spelling form ys
 spelled_on form xs ys = flat_map-append (spelled form) xs ys
 
--- the first image
-pub joined_life : (plan : SubscribePlan) (s : Timing) (j : Session) (before : Option (List ℕ)) → IsJoined plan s j → Follows plan before 0 j.images j.follower before
-joined_life plan s j before h = record {
+-- the first image of a place
+pub joined_life : (plan : SubscribePlan) (places place share moment : ℕ) (m : SetupOffer) (j : Session) → 1 ≤ share → share ≤ places → Opens plan (setup_of m.setup) m.opening → IsJoinedBy plan place share moment m j → FollowsAt plan places place j.images j.follower []
+joined_life plan places place share moment m j some few opens h = record {
   life = record {
-    newest = record { setup = setup_of h.meeting.setup; opening = h.meeting.opening; number = 0; moment = s.moment; acts = []; loss = None };
+    newest = record { setup = setup_of m.setup; opening = m.opening; number = first_number place; share = share; moment = moment; acts = []; loss = None };
     older = [];
-    is = record { opens = h.opens; first = j.follower.subscriber; met = h.joined.met; lived = refl; lacks = tt };
-    number_is = sym (ap (λ i. i.number) h.joined.images);
-    missing_is = ap (λ i. i.missing) h.joined.images;
+    is = record { opens = opens; first = j.follower.subscriber; met = h.met; lived = refl; lacks = tt };
+    number_is = sym (ap (λ i. i.number) h.images);
+    missing_is = ap (λ i. i.missing) h.images;
     unlost = refl;
     numbered = refl;
     lives = tt;
-    counted = refl;
-    written = Appends-nil before;
+    shared = (some, few, tt);
+    gave = refl;
   };
-  session = h.joined.fresh.own_session;
-  stream = h.joined.fresh.own_stream;
-  notes = h.joined.fresh.untold;
+  session = h.fresh.own_session;
+  stream = h.fresh.own_stream;
+  notes = h.fresh.untold;
 }
 
 -- it lived on
-pub life_on : (plan : SubscribePlan) (a b c : Option (List ℕ)) (count more : ℕ) (number : Images) (s t : Subscribing) → WritesLife plan a count number s b → WritesActs plan.end.form count s b more t c → WritesLife plan a more number t c
-life_on plan a b c count more number s t h w =
-    let l : Life = record h.newest { acts = h.newest.acts ++ w.acts } in
-    let given : given_through (l ∷ h.older) ≡ given_through (h.newest ∷ h.older) ++ given_in w.acts =
-    ap (λ xs. given_through h.older ++ xs) (given_on h.newest.acts w.acts) ∙ sym (append_assoc (given_through h.older) (given_in h.newest.acts) (given_in w.acts)) in
-    record {
-      newest = l;
-      older = h.older;
-      is = record { opens = h.is.opens; first = h.is.first; met = h.is.met; lived = lives_on h.is.first s t h.newest.acts w.acts h.is.lived w.lived; lacks = subst (IsLossFrom t) (sym h.unlost) tt };
-      number_is = h.number_is;
-      missing_is = h.missing_is;
-      unlost = h.unlost;
-      numbered = numbered h.older h.numbered;
-      lives = h.lives;
-      counted = let n = h.counted in let m = w.counted in let k : length (given_through (l ∷ h.older)) ≡ length (given_through (h.newest ∷ h.older)) + length (given_in w.acts) = ap length given ∙ length-append (given_through (h.newest ∷ h.older)) (given_in w.acts) in omega (arith, n, m, k);
-      written = subst (Appends a c) (sym (ap (spelling plan.end.form) given ∙ spelled_on plan.end.form (given_through (h.newest ∷ h.older)) (given_in w.acts))) (Appends-trans _ _ _ _ _ h.written w.written);
-    }
+unfoldable pub life_on : (plan : SubscribePlan) (places place : ℕ) (images : Images) (s t : Subscribing) (acts : List Act) (given : List (List ℕ)) → LivesAt plan places place images s given → Lives s acts t → LivesAt plan places place images t (given ++ given_in acts)
+life_on plan places place images s t acts given h lives = record {
+  newest = record h.newest { acts = h.newest.acts ++ acts };
+  older = h.older;
+  is = record { opens = h.is.opens; first = h.is.first; met = h.is.met; lived = lives_on h.is.first s t h.newest.acts acts h.is.lived lives; lacks = subst (IsLossFrom t) (sym h.unlost) tt };
+  number_is = h.number_is;
+  missing_is = h.missing_is;
+  unlost = h.unlost;
+  numbered = numbered h.older h.numbered;
+  lives = h.lives;
+  shared = h.shared;
+  gave = ap (λ xs. xs ++ given_in acts) h.gave ∙ append_assoc (given_through h.older) (given_in h.newest.acts) (given_in acts)
+      ∙ ap (λ xs. given_through h.older ++ xs) (sym (given_on h.newest.acts acts));
+}
   where
-    numbered : (older : List Life) → IsNumbered h.newest older → IsNumbered (record h.newest { acts = h.newest.acts ++ w.acts }) older
+    numbered : (older : List Life) → IsNumbered place h.newest older → IsNumbered place (record h.newest { acts = h.newest.acts ++ acts }) older
     numbered [] n = n
     numbered (m ∷ ms) n = n
 
-pub follows_on : (plan : SubscribePlan) (a b c : Option (List ℕ)) (count more : ℕ) (number : Images) (f g : Follower) → Follows plan a count number f b → LivesOn plan.end.form count f b more g c → Follows plan a more number g c
+pub follows_on : (plan : SubscribePlan) (places place : ℕ) (images : Images) (f g : Follower) (acts : List Act) (given : List (List ℕ)) → FollowsAt plan places place images f given → Lives f.subscriber acts g.subscriber → HasNoted f (heard_in acts) g → FollowsAt plan places place images g (given ++ given_in acts)
 unfolding life_on
-follows_on plan a b c count more number f g h w = record {
-  life = life_on plan a b c count more number f.subscriber g.subscriber h.life w.acts;
-  session = w.notes.session ∙ h.session;
-  stream = w.notes.stream ∙ h.stream;
-  notes = subst (λ (n : ℤ). NotesEnds n g.stream (heard_in (h.life.newest.acts ++ w.acts.acts)) None g.end) (sym w.notes.session)
-      (subst (λ (n : ℤ). NotesEnds f.session n (heard_in (h.life.newest.acts ++ w.acts.acts)) None g.end) (sym w.notes.stream)
-      (subst (λ (heard : List (List ℕ)). NotesEnds f.session f.stream heard None g.end) (sym (heard_on h.life.newest.acts w.acts.acts))
-      (ends_on f.session f.stream (heard_in h.life.newest.acts) (heard_in w.acts.acts) None f.end g.end h.notes w.notes.notes)));
+follows_on plan places place images f g acts given h lives noted = record {
+  life = life_on plan places place images f.subscriber g.subscriber acts given h.life lives;
+  session = noted.session ∙ h.session;
+  stream = noted.stream ∙ h.stream;
+  notes = subst (λ (n : ℤ). NotesEnds n g.stream (heard_in (h.life.newest.acts ++ acts)) None g.end) (sym noted.session)
+      (subst (λ (n : ℤ). NotesEnds f.session n (heard_in (h.life.newest.acts ++ acts)) None g.end) (sym noted.stream)
+      (subst (λ (heard : List (List ℕ)). NotesEnds f.session f.stream heard None g.end) (sym (heard_on h.life.newest.acts acts))
+      (ends_on f.session f.stream (heard_in h.life.newest.acts) (heard_in acts) None f.end g.end h.notes noted.notes)));
 }
+
+-- the place is one of more
+pub shared_more : (few many : ℕ) (lives : List Life) → few ≤ many → AreShared few lives → AreShared many lives
+shared_more few many [] more h = tt
+shared_more few many (l ∷ older) more h = (h.0, let so = h.1 in omega (arith, more, so), shared_more few many older more h.2)
+
+pub follows_more : (plan : SubscribePlan) (few many place : ℕ) (images : Images) (f : Follower) (given : List (List ℕ)) → few ≤ many → FollowsAt plan few place images f given → FollowsAt plan many place images f given
+follows_more plan few many place images f given more h = record {
+  life = record {
+    newest = h.life.newest;
+    older = h.life.older;
+    is = h.life.is;
+    number_is = h.life.number_is;
+    missing_is = h.life.missing_is;
+    unlost = h.life.unlost;
+    numbered = h.life.numbered;
+    lives = h.life.lives;
+    shared = shared_more few many (h.life.newest ∷ h.life.older) more h.life.shared;
+    gave = h.life.gave;
+  };
+  session = h.session;
+  stream = h.stream;
+  notes = h.notes;
+}
+
+-- and its lives are these
+pub follows_lives : (plan : SubscribePlan) (places place : ℕ) (images : Images) (f : Follower) (given : List (List ℕ)) → (h : FollowsAt plan places place images f given) → AreLives plan place (h.life.newest ∷ h.life.older)
+follows_lives plan places place images f given h = (f.subscriber, h.life.is, h.life.numbered, h.life.lives)
 
 -- what is missing behind an image
 lost_from : (m : SetupOffer) (j : Session) (loss : Option Loss) → IsLoss m j loss → IsLossFrom j.follower.subscriber loss
@@ -207,13 +229,12 @@ lost_to m j loss (inl (left, (place, stands, is))) = subst (λ x. IsLossTo x m.o
 lost_to m j loss (inr (stays, is)) = subst (λ x. IsLossTo x m.opening.position) (sym is) tt
 
 -- a SETUP opened another image in its place
-renewed : (plan : SubscribePlan) (from : SocketAddr) (f : Setup) (m : SetupOffer) (a b : Option (List ℕ)) (count : ℕ) (j k : Session) → IsMeeting plan from f m → Replaces plan m j k → Follows plan a count j.images j.follower b → Follows plan a count k.images k.follower b
-renewed plan from f m a b count j k meeting x follows =
+pub renewed : (plan : SubscribePlan) (places place share : ℕ) (from : SocketAddr) (f : Setup) (m : SetupOffer) (given : List (List ℕ)) (j k : Session) → 1 ≤ share → share ≤ places → IsMeeting plan from f m → Replaces plan share m j k → FollowsAt plan places place j.images j.follower given → FollowsAt plan places place k.images k.follower given
+renewed plan places place share from f m given j k some few meeting x follows =
     let h = follows.life in
     let r = x.renewed in
     let last : Life = record h.newest { loss = x.loss } in
-    let l : Life = record { setup = setup_of m.setup; opening = m.opening; number = next j.images.number; moment = j.watch.moment; acts = []; loss = None } in
-    let given : given_through (l ∷ last ∷ h.older) ≡ given_through (h.newest ∷ h.older) = append-nil (given_through (h.newest ∷ h.older)) in
+    let l : Life = record { setup = setup_of m.setup; opening = m.opening; number = next j.images.number; share = share; moment = j.watch.moment; acts = []; loss = None } in
     record {
       life = record {
         newest = l;
@@ -224,78 +245,76 @@ renewed plan from f m a b count j k meeting x follows =
         unlost = refl;
         numbered = (ap next (sym h.number_is), lost_to m j x.loss x.is);
         lives = (j.follower.subscriber, record { opens = h.is.opens; first = h.is.first; met = h.is.met; lived = h.is.lived; lacks = lost_from m j x.loss x.is }, numbered_on h.older h.numbered, h.lives);
-        counted = h.counted ∙ sym (ap length given);
-        written = subst (λ xs. Appends a b (spelling plan.end.form xs)) (sym given) h.written;
+        shared = (some, few, h.shared);
+        gave = h.gave ∙ sym (append-nil (given_through (h.newest ∷ h.older)));
       };
       session = r.fresh.own_session;
       stream = r.fresh.own_stream;
       notes = r.fresh.untold;
     }
   where
-    numbered_on : (older : List Life) → IsNumbered follows.life.newest older → IsNumbered (record follows.life.newest { loss = x.loss }) older
+    numbered_on : (older : List Life) → IsNumbered place follows.life.newest older → IsNumbered place (record follows.life.newest { loss = x.loss }) older
     numbered_on [] n = n
     numbered_on (m ∷ ms) n = n
 
 -- the image is the same
-pub same_life : (plan : SubscribePlan) (a b : Option (List ℕ)) (count : ℕ) (j k : Session) → k.images ≡ j.images → k.follower ≡ j.follower → Follows plan a count j.images j.follower b → Follows plan a count k.images k.follower b
-same_life plan a b count j k number same h = subst (λ n. Follows plan a count n k.follower b) (sym number) (subst (λ x. Follows plan a count j.images x b) (sym same) h)
+pub same_life : (plan : SubscribePlan) (places place : ℕ) (given : List (List ℕ)) (j k : Session) → k.images ≡ j.images → k.follower ≡ j.follower → FollowsAt plan places place j.images j.follower given → FollowsAt plan places place k.images k.follower given
+same_life plan places place given j k number same h = subst (λ n. FollowsAt plan places place n k.follower given) (sym number) (subst (λ x. FollowsAt plan places place j.images x given) (sym same) h)
 
-kept_life : (plan : SubscribePlan) (a b : Option (List ℕ)) (count : ℕ) (j k : Session) → k ≡ j → Follows plan a count j.images j.follower b → Follows plan a count k.images k.follower b
-kept_life plan a b count j k kept h = same_life plan a b count j k (ap (λ x. x.images) kept) (ap (λ x. x.follower) kept) h
+kept_life : (plan : SubscribePlan) (places place : ℕ) (given : List (List ℕ)) (j k : Session) → k ≡ j → FollowsAt plan places place j.images j.follower given → FollowsAt plan places place k.images k.follower given
+kept_life plan places place given j k kept h = same_life plan places place given j k (ap (λ x. x.images) kept) (ap (λ x. x.follower) kept) h
 
-turned_life : (plan : SubscribePlan) (from : SocketAddr) (f : Setup) (m : SetupOffer) (a b : Option (List ℕ)) (count rebuilt : ℕ) (j k : Session) → IsMeeting plan from f m → Passes m rebuilt j k ⊎ Resumes m rebuilt j k ⊎ Renews plan m rebuilt j k → Follows plan a count j.images j.follower b → Follows plan a count k.images k.follower b
-turned_life plan from f m a b count rebuilt j k meeting (inl p) h = same_life plan a b count j k (ap (λ x. x.images) p.warns.kept) (ap (λ x. x.follower) p.warns.kept) h
-turned_life plan from f m a b count rebuilt j k meeting (inr (inl p)) h = same_life plan a b count j k (ap (λ x. x.images) p.tied) (ap (λ x. x.follower) p.tied) h
-turned_life plan from f m a b count rebuilt j k meeting (inr (inr p)) h = renewed plan from f m a b count j k meeting p.replaced h
+-- another sender or session was noted
+pub warned_life : (plan : SubscribePlan) (places place : ℕ) (m : SetupOffer) (given : List (List ℕ)) (j k : Session) → Warns m j k → FollowsAt plan places place j.images j.follower given → FollowsAt plan places place k.images k.follower given
+warned_life plan places place m given j k w h = same_life plan places place given j k (ap (λ x. x.images) w.kept) (ap (λ x. x.follower) w.kept) h
 
-considered_life : (plan : SubscribePlan) (from : SocketAddr) (f : Setup) (a b : Option (List ℕ)) (count : ℕ) (j k : Session) → Considers plan from f j k → Follows plan a count j.images j.follower b → Follows plan a count k.images k.follower b
-considered_life plan from f a b count j k (inl p) h = kept_life plan a b count j k p.1 h
-considered_life plan from f a b count j k (inr p) h = turned_life plan from f p.0 a b count p.2.0 j k p.1 p.2.2 h
+by_turn : (plan : SubscribePlan) (places place share : ℕ) (from : SocketAddr) (f : Setup) (m : SetupOffer) (given : List (List ℕ)) (rebuilt : ℕ) (j k : Session) → 1 ≤ share → share ≤ places → IsMeeting plan from f m → Passes m rebuilt j k ⊎ Resumes m rebuilt j k ⊎ Renews plan share m rebuilt j k → FollowsAt plan places place j.images j.follower given → FollowsAt plan places place k.images k.follower given
+by_turn plan places place share from f m given rebuilt j k some few meeting (inl p) h = warned_life plan places place m given j k p.warns h
+by_turn plan places place share from f m given rebuilt j k some few meeting (inr (inl p)) h = same_life plan places place given j k (ap (λ x. x.images) p.tied) (ap (λ x. x.follower) p.tied) h
+by_turn plan places place share from f m given rebuilt j k some few meeting (inr (inr p)) h = renewed plan places place share from f m given j k some few meeting p.replaced h
 
-offered_life : (plan : SubscribePlan) (offer : Offer) (a b : Option (List ℕ)) (count : ℕ) (j k : Session) → ConsidersOffer plan offer j k → Follows plan a count j.images j.follower b → Follows plan a count k.images k.follower b
-offered_life plan None a b count j k p h = kept_life plan a b count j k p h
-offered_life plan (Some offer) a b count j k p h = considered_life plan offer.0 offer.1 a b count j k p h
+pub turned_life : (plan : SubscribePlan) (places place share : ℕ) (from : SocketAddr) (f : Setup) (m : SetupOffer) (given : List (List ℕ)) (j k : Session) → 1 ≤ share → share ≤ places → IsMeeting plan from f m → Turns plan share m j k → FollowsAt plan places place j.images j.follower given → FollowsAt plan places place k.images k.follower given
+turned_life plan places place share from f m given j k some few meeting p h = by_turn plan places place share from f m given p.0 j k some few meeting p.2 h
 
--- whatever came of the SETUP that came in a cycle
-pub attended_life : (plan : SubscribePlan) (others : Offer) (a b : Option (List ℕ)) (count : ℕ) (j k : Session) → Attends plan others j k → Follows plan a count j.images j.follower b → Follows plan a count k.images k.follower b
-attended_life plan others a b count j k p h =
-    same_life plan a b count p.2 k (ap (λ (x : Session). x.images) p.4) (ap (λ (x : Session). x.follower) p.4)
-    (offered_life plan p.0 a b count (with_device j (setup_taken j.duty.device)) p.2 p.3 h)
+pub considered_life : (plan : SubscribePlan) (places place share : ℕ) (from : SocketAddr) (f : Setup) (given : List (List ℕ)) (j k : Session) → 1 ≤ share → share ≤ places → Considers plan share from f j k → FollowsAt plan places place j.images j.follower given → FollowsAt plan places place k.images k.follower given
+considered_life plan places place share from f given j k some few (inl p) h = kept_life plan places place given j k p.1 h
+considered_life plan places place share from f given j k some few (inr p) h = turned_life plan places place share from f p.0 given j k some few p.1 p.2 h
 
--- what was new of its status messages was told
-pub told_life : (plan : SubscribePlan) (a b : Option (List ℕ)) (count : ℕ) (j k : Session) (d : SubscriberDevice) → k ≡ with_device j d → Follows plan a count j.images j.follower b → Follows plan a count k.images k.follower b
-told_life plan a b count j k d told h = same_life plan a b count j k (ap (λ x. x.images) told) (ap (λ x. x.follower) told) h
+own_life : (plan : SubscribePlan) (places place share : ℕ) (own : Option Setup) (given : List (List ℕ)) (j k : Session) → 1 ≤ share → share ≤ places → ConsidersOwn plan share own j k → FollowsAt plan places place j.images j.follower given → FollowsAt plan places place k.images k.follower given
+own_life plan places place share None given j k some few p h = kept_life plan places place given j k p h
+own_life plan places place share (Some f) given j k some few p h = considered_life plan places place share j.duty.device.inner.inner.inner.peer f given j k some few p h
+
+-- whatever came of its peer's own SETUP
+pub attended_life : (plan : SubscribePlan) (places place share : ℕ) (given : List (List ℕ)) (j k : Session) → 1 ≤ share → share ≤ places → AttendsOwn plan share j k → FollowsAt plan places place j.images j.follower given → FollowsAt plan places place k.images k.follower given
+attended_life plan places place share given j k some few p h =
+    same_life plan places place given p.0 k (ap (λ (x : Session). x.images) p.2) (ap (λ (x : Session). x.follower) p.2)
+    (own_life plan places place share j.duty.device.notes.setup given (with_device j (setup_taken j.duty.device)) p.0 some few p.1 h)
+
+-- its device became another
+pub told_life : (plan : SubscribePlan) (places place : ℕ) (given : List (List ℕ)) (j k : Session) (d : SubscriberDevice) → k ≡ with_device j d → FollowsAt plan places place j.images j.follower given → FollowsAt plan places place k.images k.follower given
+told_life plan places place given j k d told h = same_life plan places place given j k (ap (λ x. x.images) told) (ap (λ x. x.follower) told) h
 
 -- ---- to the end
 
 -- the end that it knows is the greatest that the datagrams tell which its newest image was handed
-pub told_end : (plan : SubscribePlan) (a b : Option (List ℕ)) (count : ℕ) (number : Images) (f : Follower) → (h : Follows plan a count number f b) → IsGreatestEnd h.life.newest.opening.session plan.end.stream (heard_in h.life.newest.acts) f.end
-told_end plan a b count number f h =
+pub told_end : (plan : SubscribePlan) (places place : ℕ) (images : Images) (f : Follower) (given : List (List ℕ)) → (h : FollowsAt plan places place images f given) → IsGreatestEnd h.life.newest.opening.session plan.end.stream (heard_in h.life.newest.acts) f.end
+told_end plan places place images f given h =
     greatest_end _ _ _ _
     (subst (λ (n : ℤ). NotesEnds n plan.end.stream (heard_in h.life.newest.acts) None f.end) h.session
     (subst (λ (n : ℤ). NotesEnds f.session n (heard_in h.life.newest.acts) None f.end) h.stream h.notes))
 
-pub none_lived : (plan : SubscribePlan) (a : Option (List ℕ)) → WritesLives plan a 0 a
-none_lived plan a = record { images = []; lives = tt; counted = refl; written = Appends-nil a }
-
-pub life_ended : (plan : SubscribePlan) (a b : Option (List ℕ)) (count : ℕ) (number : Images) (t : Subscribing) → WritesLife plan a count number t b → WritesLives plan a count b
-life_ended plan a b count number t h = record { images = h.newest ∷ h.older; lives = (t, h.is, h.numbered, h.lives); counted = h.counted; written = h.written }
-
 -- where nothing is missing in all, nothing is behind any image
 pub lose_nothing : LosesNothing
-lose_nothing plan [] lives none = tt
-lose_nothing plan (l ∷ older) (t, is, numbered, lives) none = (by_loss l.loss is.lacks none, lose_nothing plan older lives (let all = none in omega (arith, all)))
+lose_nothing plan place [] lives none = tt
+lose_nothing plan place (l ∷ older) (t, is, numbered, lives) none = (by_loss l.loss is.lacks none, lose_nothing plan place older lives (let all = none in omega (arith, all)))
   where
     by_loss : (loss : Option Loss) → IsLossFrom t loss → missing_with (missing_through older) loss ≡ 0 → loss ≡ None
     by_loss None lacks zero = refl
     by_loss (Some loss) lacks zero = absurd (let less = lacks.1 in omega (arith, less, zero))
 
-unlost_so : (lost : Bool) (i : Images) → has_lost lost i ≡ false → i.missing ≡ 0
+pub older_unlost : (plan : SubscribePlan) (places place : ℕ) (images : Images) (t : Subscribing) (given : List (List ℕ)) → (h : LivesAt plan places place images t given) → images.missing ≡ 0 → AreUnlost h.older
+older_unlost plan places place images t given h none = lose_nothing plan place h.older h.lives (sym h.missing_is ∙ none)
+
+pub unlost_so : (lost : Bool) (i : Images) → has_lost lost i ≡ false → i.missing ≡ 0
 unlost_so true i none = absurd (true≢false none)
 unlost_so false i none = let few = ltb-false 0 i.missing none in omega (arith, few)
-
--- one that ends whole has lost none
-pub whole_unlost : (plan : SubscribePlan) (a b : Option (List ℕ)) (count : ℕ) (images : Images) (f : Follower) → (h : Follows plan a count images f b) → (s : Seen) (lost : Bool) (how : Ending) → EndsSo plan count s f.subscriber f.end (has_lost lost images) how → how ≡ Whole → AreUnlost h.life.older
-whole_unlost plan a b count images f h s lost Whole ends whole = lose_nothing plan h.life.older h.life.lives (sym h.life.missing_is ∙ unlost_so lost images ends.ending.0)
-whole_unlost plan a b count images f h s lost Short ends whole = absurd (let is = whole in cc)
-whole_unlost plan a b count images f h s lost Lost ends whole = absurd (let is = whole in cc)

@@ -4,21 +4,19 @@ use Rattle.std.proofs.lemmas.Bool.Decides.{eqb_tells}
 use Rattle.std.specs.Io.KnownBytes.{Appends}
 use Rattle.messages.specs.Forms.{spelling}
 use Rattle.messages.specs.declared.form.Form.{Form}
-use Rattle.options.specs.declared.ends.plans.SubscribePlan.{SubscribePlan}
 use Rattle.receiver.specs.Lives.{Act, given_in, heard_in}
 use Rattle.receiver.specs.Subscribing.{Subscribing}
 use Rattle.subscriber.proofs.Ends.{ends_on}
 use Rattle.subscriber.specs.Followers.{HasNoted, NotesEnds}
 use Rattle.subscriber.specs.declared.images.follower.Follower.{Follower}
-use Rattle.subscriber.specs.declared.images.Images.{Images}
 use Rattle.subscriber.specs.declared.images.session.Session.{Session}
 use Rattle.subscriber.specs.Watches.{Seen}
 use Rattle.subscriber.proofs.Breaking.{acts_kept}
 use Rattle.subscriber.proofs.Leaving.{none_given}
-use Rattle.subscriber.proofs.Lived.{follows_on, given_on, heard_on, lives_on}
+use Rattle.subscriber.proofs.Lived.{given_on, heard_on, lives_on}
 use Rattle.subscriber.specs.Breaking.{BreaksActs}
 use Rattle.subscriber.specs.Leavings.{AreUnpolled, ListensOn, LivesUnpolled, NotesHeard}
-use Rattle.subscriber.specs.Living.{Follows, LivesOn, WritesActs}
+use Rattle.subscriber.specs.Living.{LivesOn, WritesActs}
 
 -- what was given, and then nothing more
 same_given : (xs ys : List Act) → AreUnpolled ys → given_in (xs ++ ys) ≡ given_in xs
@@ -59,10 +57,6 @@ acts_broken form count more a b s t w = acts_kept form s t t a b w.acts (given_i
 
 pub unpolled_broken : (form : Form) (count more : ℕ) (a b : Option (List ℕ)) (s m t : Subscribing) → WritesActs form count s a more m b → LivesUnpolled m t → BreaksActs form s a t b
 unpolled_broken form count more a b s m t w l = acts_broken form count more a b s t (unpolled_acts form count more a b s m t w l)
-
--- an image lived on
-pub looked_life : (plan : SubscribePlan) (a b c : Option (List ℕ)) (count more : ℕ) (j k : Session) → k.images ≡ j.images → Follows plan a count j.images j.follower b → LivesOn plan.end.form count j.follower b more k.follower c → Follows plan a more k.images k.follower c
-looked_life plan a b c count more j k same h w = subst (λ (n : Images). Follows plan a more n k.follower c) (sym same) (follows_on plan a b c count more j.images j.follower k.follower h w)
 
 -- that a silence was told changes nothing else
 pub same_else : (c a s : Session) → a ≡ record c { follower = a.follower; duty = a.duty; ended = a.ended; watch = a.watch } → s ≡ record a { silent = s.silent } → s ≡ record c { follower = s.follower; duty = s.duty; ended = s.ended; silent = s.silent; watch = s.watch }

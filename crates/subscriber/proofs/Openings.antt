@@ -31,5 +31,5 @@ never f width g p errors.Position (h, named, nowhere) opens =
 never f width g p errors.Window (h, q, named, placed, narrow) opens =
     narrow (subst (λ (x : Geometry). IsWindow x.term_length x.mtu width) (one_geometry f g h opens.geometry named) opens.window)
 
-pub refused : (plan : SubscribePlan) (f : Setup) (e : SetupError) → HasSetupFault f (window_in f) (fault_of e) → OpensNothing plan f
-refused plan f e wrong = λ o opens. never f (window_in f) o.geometry o.position e wrong opens.at
+pub refused : (plan : SubscribePlan) (f : Setup) (e : SetupError) → HasSetupFault f (window_in 1 f) (fault_of e) → OpensNothing plan f
+refused plan f e wrong = λ o opens. never f (window_in 1 f) o.geometry o.position e wrong opens.at

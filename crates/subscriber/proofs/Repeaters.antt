@@ -1,7 +1,7 @@
 -- What a repeater holds is the last message that it was told.
-use Rattle.std.proofs.Common.{◌≡◌, ◌∙◌, ◌-◌, ◌≤◌, ◌<◌, ◌⊎◌, inl, inr, ℕ, List, [], ◌∷◌, Option, None, Some, refl, sym, ap, ⊎_elim, arith}
+use Rattle.std.proofs.Common.{◌≡◌, ◌∙◌, ◌-◌, ◌≤◌, ◌<◌, ◌⊎◌, inl, inr, ℕ, zero, suc, List, [], ◌∷◌, length, get_or, set, Option, None, Some, refl, sym, ap, ⊎_elim, arith}
 use Rattle.std.proofs.lemmas.Bool.{cases_lt}
-use Rattle.subscriber.specs.Repeats.{IsDue, Repeating, Repeats, RepeatsTheLast, Runs, Steps, Turn, holding_none, last_told, told_by}
+use Rattle.subscriber.specs.Repeats.{IsDue, Repeating, Repeats, RepeatsTheLast, Runs, Steps, StepsAt, Turn, holding_none, last_told, told_by}
 use Rattle.subscriber.specs.Statuses.{Sent}
 use Rattle.subscriber.specs.declared.images.session_device.StatusNews.{StatusNews}
 use Rattle.subscriber.specs.declared.images.session_device.StatusNews.TheVariants as news
@@ -56,3 +56,15 @@ repeats_the_last turns last r t s run step is =
       told = sym (told_along turns holding_none r run) ∙ was.0;
       nothing_new = was.1;
     }
+
+-- ---- of many places
+
+pub no_place : (place now : ℕ) (n : Option StatusNews) (rs : List Repeating) → length rs ≤ place → StepsAt place now n rs None rs
+no_place place now n [] none = (refl, refl)
+no_place zero now n (r ∷ rs) none = absurd (omega (arith, none))
+no_place (suc place) now n (r ∷ rs) none = (rs, refl, no_place place now n rs (omega (arith, none)))
+
+pub steps_at : (place now : ℕ) (n : Option StatusNews) (rs : List Repeating) (d t : Repeating) (sent : Option Sent) → place < length rs → Steps now n (get_or rs place d) sent t → StepsAt place now n rs sent (set rs place t)
+steps_at place now n [] d t sent low step = absurd (omega (arith, low))
+steps_at zero now n (r ∷ rs) d t sent low step = (t, step, refl)
+steps_at (suc place) now n (r ∷ rs) d t sent low step = (set rs place t, refl, steps_at place now n rs d t sent (omega (arith, low)) step)

@@ -13,6 +13,7 @@ use Rattle.peer.specs.Peers.{sending_to}
 use Rattle.peer.specs.Ties.{Came, Listening, asking}
 use Rattle.subscriber.specs.Followers.{IsFresh}
 use Rattle.subscriber.specs.Images.{first_image}
+use Rattle.subscriber.specs.Places.{first_number}
 use Rattle.subscriber.specs.Hearings.{following}
 use Rattle.subscriber.specs.Meetings.{HasMet, Opens, OpensNothing, TakesSession, TellsHeader, id_of}
 use Rattle.subscriber.specs.Watches.{Timing, awaking, beginning, called, with_stranger}
@@ -88,11 +89,11 @@ abbrev pub Heeds : SubscribePlan → Option Came → Waiting → Option SetupOff
 Heeds plan None old found new = (found ≡ None) × (new ≡ old)
 Heeds plan (Some came) old found new = HeedsCall plan came old found new
 
--- a subscriber with its first image, tied to the one whose SETUP opened it
-pub record IsJoinedBy (plan : SubscribePlan) (moment : ℕ) (m : SetupOffer) (j : Session) : Type 0 where
+-- a session with the first image of a place, one of so many, tied to the one whose SETUP opened it
+pub record IsJoinedBy (plan : SubscribePlan) (place share moment : ℕ) (m : SetupOffer) (j : Session) : Type 0 where
   pub opening : j.opening ≡ m.opening
-  pub images : j.images ≡ first_image
-  pub met : HasMet plan 0 (setup_of m.setup) moment j.follower.subscriber
+  pub images : j.images ≡ first_image place
+  pub met : HasMet plan (first_number place) share (setup_of m.setup) moment j.follower.subscriber
   pub fresh : IsFresh j.follower m.opening.session plan.end.stream
   pub duty : j.duty ≡ record { device = following (begun (patient (sending_to m.from)) plan.end.rates plan.end.seed) m.opening.session plan.end.stream; mtu = 40 }
   pub watch : j.watch ≡ beginning moment
@@ -101,9 +102,10 @@ pub record IsJoinedBy (plan : SubscribePlan) (moment : ℕ) (m : SetupOffer) (j 
   pub warned : j.warned ≡ false
   pub ended : j.ended ≡ false
   pub unheard : j.unheard ≡ []
+  pub opened : j.opened ≡ moment
 
 -- the SETUP opens an image for the plan, and came at the moment
-pub record IsJoined (plan : SubscribePlan) (s : Timing) (j : Session) : Type 0 where
+pub record IsJoined (plan : SubscribePlan) (place share moment : ℕ) (j : Session) : Type 0 where
   pub meeting : SetupOffer
   pub opens : Opens plan (setup_of meeting.setup) meeting.opening
-  pub joined : IsJoinedBy plan s.moment meeting j
+  pub joined : IsJoinedBy plan place share moment meeting j

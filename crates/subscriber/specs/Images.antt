@@ -2,10 +2,12 @@
 use Rattle.std.specs.Prelude.{◌+◌, ◌-◌, ◌%◌, ◌^◌, ℕ, min, Bool, ◌||◌, nat_lt, Option, None, Some, if◌then◌else◌, ◌<◌, ℤ, List, length}
 use Rattle.subscriber.specs.declared.images.Images.{Images}
 use Rattle.subscriber.specs.declared.images.Loss.{Loss}
+use Rattle.subscriber.specs.Places.{first_number}
 use Rattle.std.specs.List.{Contains}
 
-abbrev pub first_image : Images
-first_image = record { number = 0; missing = 0 }
+-- a place's first image
+abbrev pub first_image : ℕ → Images
+first_image place = record { number = first_number place; missing = 0 }
 
 -- the image with the next number
 abbrev pub next : ℕ → ℕ

@@ -1,6 +1,7 @@
 pub mod Windows
 pub mod Meetings
 pub mod Hearings
+pub mod Places
 pub mod Images
 pub mod Watches
 pub mod Receivings
@@ -23,3 +24,6 @@ pub mod Breaking
 pub mod Endings
 pub mod Telling
 pub mod FirstFrames
+pub mod Sessions
+pub mod Callers
+pub mod Choosing

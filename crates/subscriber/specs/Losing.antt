@@ -61,7 +61,7 @@ pub record JudgesTurn (s : Timing) (old new : Session) (t : Timing) : Type 0 whe
   pub within : IsWithinTurn old.watch answered.watch
   pub still : IsTrue answered.watch.noted
   pub judges : NotesLoss answered new
-  pub kept_else : new ≡ record answered { lost = new.lost; watch = judging answered.watch }
+  pub kept_else : new ≡ record answered { lost = new.lost; stood = new.stood; watch = judging answered.watch }
 
 -- so an image is newly taken for lost only where its cycle rebuilt nothing more, and what it lacks was heard of
 abbrev pub LacksWhereLost : Type 0

@@ -52,15 +52,15 @@ pub record Admits (plan : SubscribePlan) (f : Setup) : Type 0 where
   pub short : bytes_of f.term_length ≤ plan.greatest_term
   pub ongoing : IsOngoing f
 
--- the window of an image that a SETUP opens
-abbrev pub window_in : Setup → ℕ
-window_in f = window_of (bytes_of f.term_length) (bytes_of f.mtu)
+-- the window of an image that a SETUP opens as one of so many
+abbrev pub window_in : ℕ → Setup → ℕ
+window_in share f = window_of share (bytes_of f.term_length) (bytes_of f.mtu)
 
 -- a SETUP opens an image of this session and shape for a plan, at this position
 pub record Opens (plan : SubscribePlan) (f : Setup) (o : ImageParams) : Type 0 where
   pub admitted : Admits plan f
   pub session : o.session ≡ f.session
-  pub at : OpensAt f (window_in f) o.geometry o.position
+  pub at : OpensAt f (window_in 1 f) o.geometry o.position
 
 abbrev pub OpensNothing : SubscribePlan → Setup → Type 0
 OpensNothing plan f = (o : ImageParams) → Opens plan f o → ⊥
@@ -72,12 +72,12 @@ abbrev pub id_of : SubscribePlan → ℕ → ℤ
 id_of plan number = cast_signed w64 ((cast_unsigned w64 plan.receiver + number) % 2 ^ 64)
 
 -- a receiver that has met nothing
-abbrev pub invited : SubscribePlan → ℕ → Setup → Receiver
-invited plan number f = listening f.session f.stream (window_in f) (id_of plan number) 1 2097152
+abbrev pub invited : SubscribePlan → ℕ → ℕ → Setup → Receiver
+invited plan number share f = listening f.session f.stream (window_in share f) (id_of plan number) 1 2097152
 
--- it has met this SETUP at a moment
-pub record HasMet (plan : SubscribePlan) (number : ℕ) (f : Setup) (moment : ℕ) (s : Subscribing) : Type 0 where
+-- it has met this SETUP at a moment, as one of so many
+pub record HasMet (plan : SubscribePlan) (number share : ℕ) (f : Setup) (moment : ℕ) (s : Subscribing) : Type 0 where
   pub receiver : Receiver
   pub outcomes : List Outcome
-  pub takes : TakesDatagram (invited plan number f) moment (spelling (SETUP f)) outcomes receiver
+  pub takes : TakesDatagram (invited plan number share f) moment (spelling (SETUP f)) outcomes receiver
   pub shown : RepresentsSubscriber s receiver

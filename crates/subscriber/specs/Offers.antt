@@ -1,12 +1,9 @@
--- The SETUP that came in a cycle, and what is changed of a device.
-use Rattle.std.specs.Prelude.{◌≡◌, Option, None, Some}
+-- What is changed of a device.
+use Rattle.std.specs.Prelude.{Option, None, Some}
 use Rattle.std.specs.declared.net.SocketAddr.{SocketAddr}
-use Rattle.frames.specs.declared.frame.Setup.{Setup}
 use Rattle.loss_injector.specs.Losing.{Losing}
 use Rattle.peer.specs.Patience.{Patient}
 use Rattle.peer.specs.Peers.{ToPeer, to_peer}
-use Rattle.peer.specs.Ties.{Offer}
-use Rattle.subscriber.specs.Receivings.{Receiving, offer_given}
 use Rattle.subscriber.specs.Hearings.{Following}
 use Rattle.subscriber.specs.declared.images.session_device.PendingStatus.TheVariants.{Cleared, Nothing, Given}
 use Rattle.subscriber.specs.declared.images.session_device.StatusNews.{StatusNews}
@@ -17,19 +14,9 @@ use Rattle.subscriber.specs.declared.images.session_device.StatusNews.TheVariant
 abbrev pub SubscriberDevice : Type 0
 SubscriberDevice = Following (Losing (Patient ToPeer))
 
--- the one that the peer sent, or else the first one that is kept of others
-abbrev pub IsOffered : Option Setup → SocketAddr → Offer → Offer → Type 0
-IsOffered (Some f) peer others o = o ≡ Some (peer, f)
-IsOffered None peer others o = o ≡ others
-
 -- the peer's SETUP was taken
 abbrev pub setup_taken : SubscriberDevice → SubscriberDevice
 setup_taken d = record d { notes = record (d.notes) { setup = None } }
-
--- another's is taken where the peer has sent none; else it waits
-abbrev pub others_taken : Option Setup → Receiving → Receiving
-others_taken (Some f) r = r
-others_taken None r = offer_given r
 
 -- what was sent to the one before is of no use any more
 abbrev pub tied_anew : SubscriberDevice → SocketAddr → SubscriberDevice

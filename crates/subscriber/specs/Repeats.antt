@@ -1,5 +1,5 @@
 -- What is repeated of a subscriber's status messages, while whoever sends them is held up.
-use Rattle.std.specs.Prelude.{◌≡◌, ◌≤◌, ◌-◌, ℕ, List, [], ◌∷◌, Option, None, Some}
+use Rattle.std.specs.Prelude.{◌≡◌, ◌≤◌, ◌-◌, ℕ, zero, suc, List, [], ◌∷◌, Option, None, Some}
 use Rattle.peer.specs.StatusSockets.{StatusSending, giving}
 use Rattle.subscriber.specs.Statuses.{Sent}
 use Rattle.subscriber.specs.declared.images.session_device.StatusNews.{StatusNews}
@@ -46,9 +46,15 @@ abbrev pub given_again : StatusSending → Option Sent → StatusSending
 given_again s None = s
 given_again s (Some sent) = giving s sent.to sent.bytes
 
--- what is to be repeated, and by which socket
+-- a step of one place, and the others stay; none, where there is no such place
+abbrev pub StepsAt : ℕ → ℕ → Option StatusNews → List Repeating → Option Sent → List Repeating → Type 0
+StepsAt place now news [] sent new = (sent ≡ None) × (new ≡ [])
+StepsAt zero now news (r ∷ others) sent new = (t : Repeating) × Steps now news r sent t × (new ≡ t ∷ others)
+StepsAt (suc place) now news (r ∷ others) sent new = (rest : List Repeating) × (new ≡ r ∷ rest) × StepsAt place now news others sent rest
+
+-- what is to be repeated of each place, and by which socket
 pub record RepeatingBy : Type 0 where
-  pub repeating : Repeating
+  pub repeating : List Repeating
   pub socket : StatusSending
 
 -- what was new at a moment, and what was sent then

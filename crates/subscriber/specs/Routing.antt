@@ -1,13 +1,14 @@
 -- Whose a datagram is that the socket brought, and where it goes.
-use Rattle.std.specs.Prelude.{◌≡◌, ℕ, zero, suc, Option, None, Some, Result}
+use Rattle.std.specs.Prelude.{◌≡◌, ◌⊎◌, ℕ, zero, suc, List, [], ◌∷◌, Option, None, Some, Result}
+use Rattle.std.specs.List.{AllByRecursion}
 use Rattle.std.specs.declared.net.SocketAddr.{SocketAddr}
 use Rattle.endpoint.specs.declared.datagrams.DeviceFailed.{DeviceFailed}
 use Rattle.peer.specs.Ties.{Came, sent_by}
-use Rattle.subscriber.specs.FirstFrames.{NamesNoOther, TellsFirst, named_first, setup_first}
+use Rattle.subscriber.specs.FirstFrames.{NamesNoOther, TellsFirst, header_first, named_first, setup_first}
 use Rattle.subscriber.specs.Hearings.{Routed, with_routed}
 use Rattle.subscriber.specs.Losing.{with_device}
 use Rattle.subscriber.specs.Offers.{SubscriberDevice}
-use Rattle.subscriber.specs.Receivings.{Receiving, bringing, keeping}
+use Rattle.subscriber.specs.Receivings.{Receiving, bringing, calling, keeping}
 use Rattle.subscriber.specs.Watches.{Timing, after_call, with_stranger}
 use Rattle.subscriber.specs.declared.images.session.Session.{Session}
 use Rattle.subscriber.specs.declared.listening.first_frame.FirstFrame.{FirstFrame}
@@ -17,26 +18,47 @@ pub record IsOf (d : SubscriberDevice) (from : SocketAddr) (first : FirstFrame) 
   pub sender : from ≡ d.inner.inner.inner.peer
   pub own : NamesNoOther (named_first first) d.session
 
--- a session, the socket, and what was seen
+-- the sessions, the socket, and what was seen
 pub record Hearer : Type 0 where
-  pub session : Session
+  pub sessions : List Session
   pub socket : Receiving
   pub seen : Timing
 
--- what is a session's is routed to it, and nothing else changes
-abbrev pub routed_to : Routed → Hearer → Hearer
-routed_to r h = record h { session = with_device h.session (with_routed h.session.duty.device r) }
+-- a datagram is routed to the first session whose it is, and no other changes
+abbrev pub GoesToIts : SocketAddr → Routed → List Session → List Session → Type 0
+GoesToIts from r [] new = ⊥
+GoesToIts from r (j ∷ others) new =
+    (IsOf j.duty.device from r.first × (new ≡ with_device j (with_routed j.duty.device r) ∷ others))
+    ⊎ ((¬ IsOf j.duty.device from r.first) × ((rest : List Session) × (new ≡ j ∷ rest) × GoesToIts from r others rest))
 
--- what is nobody's is counted, and a SETUP among that is kept
+-- the first whose it is stands at this place
+abbrev pub IsItsPlace : SocketAddr → FirstFrame → List Session → ℕ → Type 0
+IsItsPlace from first [] place = ⊥
+IsItsPlace from first (j ∷ others) zero = IsOf j.duty.device from first
+IsItsPlace from first (j ∷ others) (suc place) = (¬ IsOf j.duty.device from first) × IsItsPlace from first others place
+
+-- it is nobody's
+abbrev pub IsNobodys : SocketAddr → FirstFrame → List Session → Type 0
+IsNobodys from first sessions = AllByRecursion (λ (j : Session). ¬ IsOf j.duty.device from first) sessions
+
+-- a SETUP is kept, and who sent a frame of a stream
+abbrev pub kept_of : SocketAddr → FirstFrame → Receiving → Receiving
+kept_of from first r = calling from (header_first first) (keeping (sent_by from (setup_first first)) r)
+
+-- what is nobody's is counted, and that is kept of it
 abbrev pub passed_over : SocketAddr → FirstFrame → Hearer → Hearer
-passed_over from first h = record h { socket = keeping (sent_by from (setup_first first)) h.socket; seen = with_stranger h.seen }
+passed_over from first h = record h { socket = kept_of from first h.socket; seen = with_stranger h.seen }
+
+-- that is a session's
+pub record IsRoutedTo (c : Came) (first : FirstFrame) (old new : Hearer) : Type 0 where
+  pub goes : GoesToIts c.from (record { first = first; bytes = c.bytes }) old.sessions new.sessions
+  pub same : new ≡ record old { sessions = new.sessions }
 
 -- of what came, what stands first is read, and by that it goes to its session, or is passed over
 pub record RoutesCame (c : Came) (old new : Hearer) : Type 0 where
   pub first : FirstFrame
   pub tells : TellsFirst c.bytes first
-  pub own : IsOf old.session.duty.device c.from first → new ≡ routed_to (record { first = first; bytes = c.bytes }) old
-  pub other : ¬ IsOf old.session.duty.device c.from first → new ≡ passed_over c.from first old
+  pub goes : IsRoutedTo c first old new ⊎ (IsNobodys c.from first old.sessions × (new ≡ passed_over c.from first old))
 
 abbrev pub Routes : Option Came → Hearer → Hearer → Type 0
 Routes None old new = new ≡ old

@@ -1,5 +1,5 @@
 -- What a subscriber tells on its error output.
-use Rattle.std.specs.Prelude.{◌≡◌, ℕ, ℤ, Bool, true, false, List, [], ◌∷◌, ◌++◌, Option, None, Some, codes, decimal}
+use Rattle.std.specs.Prelude.{◌≡◌, ℕ, ℤ, Bool, true, false, List, [], ◌∷◌, ◌++◌, Option, None, Some, nat_eq, if◌then◌else◌, codes, decimal}
 use Rattle.std.specs.Fmt.{signed_decimal}
 use Rattle.std.specs.Net.Text.{socket_text}
 use Rattle.std.specs.declared.net.SocketAddr.{SocketAddr}
@@ -12,6 +12,7 @@ use Rattle.subscriber.specs.declared.images.Loss.{Loss}
 use Rattle.text.specs.Paces.{pace_text}
 use Rattle.subscriber.specs.declared.reporting.Counted.{Counted}
 use Rattle.subscriber.specs.declared.reporting.Counts.{Counts}
+use Rattle.subscriber.specs.declared.reporting.Followed.{Followed}
 use Rattle.subscriber.specs.declared.reporting.Line.{Line}
 use Rattle.subscriber.specs.declared.reporting.Line.TheVariants as lines
 use Rattle.subscriber.specs.declared.reporting.SessionId.{SessionId}
@@ -50,10 +51,14 @@ counted_text c = joined (
 abbrev pub nowhere : Positions
 nowhere = record { least = 0; rebuilt = 0; high_water = 0 }
 
+-- the one session, or how many there are
+abbrev pub followed_text : Followed → List ℕ
+followed_text f = if nat_eq f.sessions 1 then joined (codes "session " ∷ signed_decimal f.session ∷ []) else joined (decimal f.sessions ∷ codes " sessions" ∷ [])
+
 -- what it has done in all
 abbrev pub totals_text : Totals → List ℕ
 totals_text t = joined (
-    codes "wrote " ∷ decimal t.pace.count ∷ codes " messages, " ∷ decimal t.bytes ∷ codes " bytes of session " ∷ signed_decimal t.session
+    codes "wrote " ∷ decimal t.pace.count ∷ codes " messages, " ∷ decimal t.bytes ∷ codes " bytes of " ∷ followed_text t.of
     ∷ codes ", " ∷ pace_text t.pace ∷ codes "; " ∷ decimal t.naks ∷ codes " NAKs sent" ∷ [])
 
 -- ---- lines

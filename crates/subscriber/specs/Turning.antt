@@ -15,8 +15,7 @@ use Rattle.subscriber.specs.Followers.{IsFresh}
 use Rattle.subscriber.specs.Hearings.{turned_to}
 use Rattle.subscriber.specs.Meetings.{HasMet, OpensNothing}
 use Rattle.subscriber.specs.Calls.{IsMeeting}
-use Rattle.peer.specs.Ties.{Offer}
-use Rattle.subscriber.specs.Offers.{IsOffered, setup_taken, tied_anew}
+use Rattle.subscriber.specs.Offers.{setup_taken, tied_anew}
 use Rattle.subscriber.specs.Losing.{with_device, IsLeft}
 use Rattle.subscriber.specs.Images.{IsUnnamed, loss_between, next, next_images}
 use Rattle.subscriber.specs.Watches.{IsBehind, IsSilent, attending, hearing, keeping}
@@ -81,9 +80,9 @@ abbrev pub IsTiedTo : SocketAddr → Session → Session → Type 0
 IsTiedTo from old new = new ≡ with_device old (tied_anew old.duty.device from)
 
 -- a SETUP has opened a new image at the moment, whose peer is the one that sent it, and before which this is missing
-pub record IsRenewed (plan : SubscribePlan) (m : SetupOffer) (loss : Option Loss) (old new : Session) : Type 0 where
+pub record IsRenewed (plan : SubscribePlan) (share : ℕ) (m : SetupOffer) (loss : Option Loss) (old new : Session) : Type 0 where
   pub images : new.images ≡ next_images old.images loss
-  pub met : HasMet plan (next old.images.number) (setup_of m.setup) old.watch.moment new.follower.subscriber
+  pub met : HasMet plan (next old.images.number) share (setup_of m.setup) old.watch.moment new.follower.subscriber
   pub fresh : IsFresh new.follower m.opening.session plan.end.stream
   pub opening : new.opening ≡ m.opening
   pub device : new.duty ≡ record (old.duty) { device = turned_to (tied_anew old.duty.device m.from) m.opening.session }
@@ -93,12 +92,13 @@ pub record IsRenewed (plan : SubscribePlan) (m : SetupOffer) (loss : Option Loss
   pub warned : new.warned ≡ false
   pub ended : new.ended ≡ false
   pub unheard : new.unheard ≡ []
+  pub opened : new.opened ≡ old.watch.moment
 
 -- and what is missing is what was between them
-pub record Replaces (plan : SubscribePlan) (m : SetupOffer) (old new : Session) : Type 0 where
+pub record Replaces (plan : SubscribePlan) (share : ℕ) (m : SetupOffer) (old new : Session) : Type 0 where
   pub loss : Option Loss
   pub is : IsLoss m old loss
-  pub renewed : IsRenewed plan m loss old new
+  pub renewed : IsRenewed plan share m loss old new
 
 -- the image doesn't give way: nothing is made of it, but that another sender or session is noted
 pub record Passes (m : SetupOffer) (rebuilt : ℕ) (old new : Session) : Type 0 where
@@ -118,28 +118,28 @@ pub record Resumes (m : SetupOffer) (rebuilt : ℕ) (old new : Session) : Type 0
   pub tied : IsTiedTo m.from old new
 
 -- the image gives way
-pub record Renews (plan : SubscribePlan) (m : SetupOffer) (rebuilt : ℕ) (old new : Session) : Type 0 where
+pub record Renews (plan : SubscribePlan) (share : ℕ) (m : SetupOffer) (rebuilt : ℕ) (old new : Session) : Type 0 where
   pub way : GivesWay m rebuilt old
   pub other : ¬ IsAgain m rebuilt old
-  pub replaced : Replaces plan m old new
+  pub replaced : Replaces plan share m old new
 
 -- what is made of a SETUP that would open an image
-abbrev pub Turns : SubscribePlan → SetupOffer → Session → Session → Type 0
-Turns plan m old new =
-    (rebuilt : ℕ) × RebuiltTo old.follower.subscriber rebuilt × (Passes m rebuilt old new ⊎ Resumes m rebuilt old new ⊎ Renews plan m rebuilt old new)
+abbrev pub Turns : SubscribePlan → ℕ → SetupOffer → Session → Session → Type 0
+Turns plan share m old new =
+    (rebuilt : ℕ) × RebuiltTo old.follower.subscriber rebuilt × (Passes m rebuilt old new ⊎ Resumes m rebuilt old new ⊎ Renews plan share m rebuilt old new)
 
 -- what is made of any SETUP
-abbrev pub Considers : SubscribePlan → SocketAddr → Setup → Session → Session → Type 0
-Considers plan from f old new =
-    (OpensNothing plan (setup_of f) × (new ≡ old)) ⊎ ((m : SetupOffer) × IsMeeting plan from f m × Turns plan m old new)
+abbrev pub Considers : SubscribePlan → ℕ → SocketAddr → Setup → Session → Session → Type 0
+Considers plan share from f old new =
+    (OpensNothing plan (setup_of f) × (new ≡ old)) ⊎ ((m : SetupOffer) × IsMeeting plan from f m × Turns plan share m old new)
 
--- and of the one that came in a cycle, if one did
-abbrev pub ConsidersOffer : SubscribePlan → Offer → Session → Session → Type 0
-ConsidersOffer plan None old new = new ≡ old
-ConsidersOffer plan (Some offer) old new = Considers plan offer.0 offer.1 old new
+-- of its peer's own, the last one that came since, if one did
+abbrev pub ConsidersOwn : SubscribePlan → ℕ → Option Setup → Session → Session → Type 0
+ConsidersOwn plan share None old new = new ≡ old
+ConsidersOwn plan share (Some f) old new = Considers plan share old.duty.device.inner.inner.inner.peer f old new
 
-abbrev pub Attends : SubscribePlan → Offer → Session → Session → Type 0
-Attends plan others old new =
-    (offer : Offer) × IsOffered old.duty.device.notes.setup old.duty.device.inner.inner.inner.peer others offer
-    × (considered : Session) × ConsidersOffer plan offer (with_device old (setup_taken old.duty.device)) considered
+-- that is taken and considered, and so the turn is attended
+abbrev pub AttendsOwn : SubscribePlan → ℕ → Session → Session → Type 0
+AttendsOwn plan share old new =
+    (considered : Session) × ConsidersOwn plan share old.duty.device.notes.setup (with_device old (setup_taken old.duty.device)) considered
     × (new ≡ record considered { watch = attending considered.watch })

@@ -2,7 +2,8 @@
 -- The buffer has the system's 212,992 bytes, of which a quarter may be read already and not be free yet. A datagram takes
 -- more of it than its bytes: memory in powers of two, with up to 512 bytes round what was sent, and a record of 256. An eighth
 -- of what is left stays for datagrams that aren't full and for what is sent again.
-use Rattle.std.specs.Prelude.{ℕ, ◌+◌, ◌*◌, ◌/◌, max, min, nat_le, if◌then◌else◌}
+use Rattle.std.specs.Prelude.{◌≡◌, ℕ, ◌+◌, ◌*◌, ◌/◌, max, min, nat_le, if◌then◌else◌}
+use Rattle.theory.specs.Position.{IsMtu, IsTermLength}
 
 -- what a datagram of at most so many bytes takes of it
 abbrev pub room_of : ℕ → ℕ
@@ -18,6 +19,14 @@ room_of mtu =
 abbrev pub datagrams_of : ℕ → ℕ
 datagrams_of mtu = 139776 / room_of mtu
 
--- half a term or as much as finds room, but a datagram at the least
-abbrev pub window_of : ℕ → ℕ → ℕ
-window_of term_length mtu = max mtu (min (term_length / 2) (datagrams_of mtu * mtu))
+-- half a term or as much as finds room
+abbrev pub whole_window : ℕ → ℕ → ℕ
+whole_window term_length mtu = min (term_length / 2) (datagrams_of mtu * mtu)
+
+-- what one of so many images gets of that, in whole units of 32 bytes, but a datagram at the least
+abbrev pub window_of : ℕ → ℕ → ℕ → ℕ
+window_of share term_length mtu = max mtu (whole_window term_length mtu / max 1 share / 32 * 32)
+
+-- one alone gets all of it
+abbrev pub AloneGetsAll : Type 0
+AloneGetsAll = (term_length mtu : ℕ) → IsTermLength term_length → IsMtu term_length mtu → window_of 1 term_length mtu ≡ max mtu (whole_window term_length mtu)

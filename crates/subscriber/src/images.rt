@@ -50,13 +50,29 @@ pub fn loss_between(from: u64, to: u64) -> Option<Loss>
     None
 }
 
+/// A place, 0 to 15, and of how many images one is that is opened there.
+#[derive(Clone, Copy, Debug, PartialEq, Eq)]
+pub struct Seat {
+    pub place: usize,
+    pub share: u64,
+}
+
+impl Seat {
+    /// The first place, where one image is alone.
+    pub(crate) const FIRST: Seat = Seat { place: 0, share: 1 };
+}
+
+/// From the first number of a place to that of the next.
+const FIRST_NUMBERS: u64 = 1 << 60;
+
 impl Images {
-    /// The first one.
-    pub fn first() -> Images
-        ensures { result ≡ first_image }
+    /// The first one of a place, 0 to 15.
+    pub fn first(place: usize) -> Images
+        requires { place < 16 }
+        ensures { result ≡ first_image place }
     {
         Images {
-            number: 0,
+            number: place as u64 * FIRST_NUMBERS,
             missing: 0,
         }
     }

@@ -1,6 +1,6 @@
 //! A subscriber without an image.
 
-ghost use Rattle.std.specs.Prelude.{◌≡◌, IfNone, IfOk, IfSome, OnOk, option_map};
+ghost use Rattle.std.specs.Prelude.{◌≡◌, ◌<◌, IfNone, IfOk, IfSome, OnOk, option_map};
 ghost use Rattle.std.specs.Io.KnownBytes.{Appends};
 ghost use Rattle.theory.specs.Control.{asking_at};
 ghost use Rattle.theory.specs.Wire.{IsHeader, SM};
@@ -20,10 +20,10 @@ pub(crate) mod setup_offer;
 
 use crate::fault::SubscribeFault;
 use crate::images::follower::Follower;
-use crate::images::session::Session;
+use crate::images::session::{Session, Stand};
 use crate::images::session_device::{SessionDevice, SubscriberDevice};
 use crate::images::session_watch::SessionWatch;
-use crate::images::{Images, Unheard};
+use crate::images::{Images, Seat, Unheard};
 use crate::listening::first_frame::first_frame;
 use crate::listening::reception::Reception;
 use crate::listening::setup_offer::{SetupOffer, id_of, meeting_of, opened, takes_session};
@@ -134,21 +134,25 @@ fn session_duty(
     }
 }
 
-/// Opens the first image, whose peer is the one who sent the SETUP.
-fn join(
+/// Opens the first image of a place, whose peer is the one who sent the SETUP.
+pub(crate) fn join(
     alloc: Global,
     plan: &SubscribePlan,
+    seat: Seat,
     reception: &Reception,
     meeting: &SetupOffer,
     now: u64,
 ) -> Result<Session, SubscribeFault>
-    ensures { IfOk result (IsJoinedBy plan.now now meeting.now) }
+    requires { seat.place < 16 }
+    ensures { IfOk result (IsJoinedBy plan.now seat.place seat.share now meeting.now) }
 {
-    let subscriber = opened(alloc, plan, 0, &meeting.setup, now)?;
+    let images = Images::first(seat.place);
+    let setup = &meeting.setup;
+    let subscriber = opened(alloc, plan, images.number, seat.share, setup, now)?;
     let duty = session_duty(alloc, plan, reception, meeting)?;
     Ok(Session {
         opening: meeting.opening,
-        images: Images::first(),
+        images,
         follower: Follower {
             subscriber,
             session: meeting.opening.session,
@@ -162,6 +166,12 @@ fn join(
         warned: false,
         ended: false,
         unheard: Unheard::new(),
+        opened: now,
+        stood: Stand {
+            place: meeting.opening.position,
+            rebuilt: meeting.opening.position,
+            end: None,
+        },
     })
 }
 
@@ -195,7 +205,7 @@ pub fn listen<R: Wait + Clock, E: Write>(
     errors: &mut E,
     watch: &mut Watch,
 ) -> Result<Option<Session>, SubscribeFault>
-    ensures joined { IfOk result (λ found. IfSome found (IsJoined plan.now watch.new)) }
+    ensures joined { IfOk result (λ found. IfSome found (IsJoined plan.now 0 1 watch.new.moment)) }
     ensures quiet { IfOk result (λ found. IfNone found (HasWaited plan.now watch.new)) }
     // For each datagram that calls for a SETUP its sender was asked.
     ensures asks { reception.old.socket.asks ≡ watch.old.calls → OnOk result (reception.new.socket.asks ≡ watch.new.calls) }
@@ -206,7 +216,7 @@ pub fn listen<R: Wait + Clock, E: Write>(
         reception.hear(watch);
         let came = reception.last().is_some();
         if let Some(meeting) = heed(plan, reception, watch) {
-            return Ok(Some(join(alloc, plan, reception, &meeting, watch.moment())?));
+            return Ok(Some(join(alloc, plan, Seat::FIRST, reception, &meeting, watch.moment())?));
         }
         let _ = tell(plan, errors, watch);
         watch.check_works()?;

@@ -19,30 +19,35 @@ use std::time::{Clock, Duration};
 /// Milliseconds from one look to the next.
 const PAUSE: u64 = 100;
 
-/// What the thread is told.
-#[derive(Clone, Copy)]
-enum Told {
-    /// What is new of the status messages.
-    News(StatusNews),
-    /// To end.
-    End,
-}
-
-/// Where the thread is told something: the newest, until it has taken that.
+/// Where the thread is told something of each place: the newest, until it has taken that.
 #[derive(Drop)]
-pub(crate) struct Slot {
-    newest: ArrayQueue<Told>,
+pub(crate) struct Slots {
+    newest: Vec<ArrayQueue<StatusNews>>,
+    /// Holds something once it is to end.
+    end: ArrayQueue<()>,
 }
 
-impl Slot {
-    /// Tells what is new. What stood there before isn't told any more.
-    pub(crate) fn tell<R: Wait>(&self, rt: &R, news: StatusNews) {
-        self.newest.force_push(rt, Told::News(news));
+impl Slots {
+    /// Tells what is new of a place. What stood there before isn't told any more.
+    pub(crate) fn tell<R: Wait>(&self, rt: &R, place: usize, news: StatusNews) {
+        if let Some(newest) = self.newest.get(place) {
+            newest.force_push(rt, news);
+        }
     }
 
-    /// Tells it to end, which may be told again. Nothing else is told behind that.
+    /// What is new of a place, if anything is.
+    fn take<R: Wait>(&self, rt: &R, place: usize) -> Option<StatusNews> {
+        self.newest.get(place)?.pop(rt)
+    }
+
+    /// Tells it to end, which may be told again.
     pub(crate) fn end<R: Wait>(&self, rt: &R) {
-        self.newest.force_push(rt, Told::End);
+        self.end.force_push(rt, ());
+    }
+
+    /// Whether it was told to end.
+    fn has_ended<R: Wait>(&self, rt: &R) -> bool {
+        self.end.pop(rt).is_some()
     }
 }
 
@@ -53,18 +58,23 @@ fn moment_from<R: Clock>(rt: &R, began: &Began, before: u64) -> u64
     began.moment(rt).unwrap_or(before).max(before)
 }
 
-/// Looks each 100 ms for what is new, and repeats the last status message where it is due, until it is told to end.
-fn repeat_all<R: Wait + Clock>(rt: &R, slot: &Slot, began: &Began, mut repeater: StatusRepeater) {
+/// A turn of each place at a moment, with what is new of it.
+fn repeat_each<R: Wait>(rt: &R, slots: &Slots, repeater: &mut StatusRepeater, now: u64) {
+    for place in 0..repeater.places() {
+        repeater.turn(place, now, slots.take(rt, place));
+    }
+}
+
+/// Looks each 100 ms for what is new, and repeats the last status message of each place where it is due, until it is told to end.
+fn repeat_all<R: Wait + Clock>(rt: &R, slots: &Slots, began: &Began, mut repeater: StatusRepeater) {
     let mut now = 0;
     for _ in rt.forever() {
         thread::sleep(rt, Duration::from_millis(PAUSE));
-        let news = match slot.newest.pop(rt) {
-            Some(Told::End) => return,
-            Some(Told::News(news)) => Some(news),
-            None => None,
-        };
+        if slots.has_ended(rt) {
+            return;
+        }
         now = moment_from(rt, began, now);
-        repeater.turn(now, news);
+        repeat_each(rt, slots, &mut repeater, now);
     }
     unreachable!()
 }
@@ -72,14 +82,28 @@ fn repeat_all<R: Wait + Clock>(rt: &R, slot: &Slot, began: &Began, mut repeater:
 /// The thread, and where it is told something. It lives until `end`.
 #[derive(Drop)]
 pub(crate) struct Repeating {
-    slot: Arc<Slot, Global>,
+    slots: Arc<Slots, Global>,
     handle: JoinHandle<()>,
 }
 
-/// A slot, once for each thread.
-fn shared_slot(alloc: Global) -> Result<(Arc<Slot, Global>, Arc<Slot, Global>), AllocError> {
-    let newest = ArrayQueue::new(alloc, 1)?;
-    let ours = Arc::new(alloc, Slot { newest })?;
+/// A slot for each of so many places.
+fn slots_of(alloc: Global, places: usize) -> Result<Slots, AllocError> {
+    let mut newest = Vec::new(alloc);
+    for _place in 0..places {
+        if newest.push(ArrayQueue::new(alloc, 1)?).is_err() {
+            return Err(AllocError);
+        }
+    }
+    let end = ArrayQueue::new(alloc, 1)?;
+    Ok(Slots { newest, end })
+}
+
+/// Slots, once for each thread.
+fn shared_slots(
+    alloc: Global,
+    places: usize,
+) -> Result<(Arc<Slots, Global>, Arc<Slots, Global>), AllocError> {
+    let ours = Arc::new(alloc, slots_of(alloc, places)?)?;
     let theirs = Arc::try_clone(&ours)?;
     Ok((ours, theirs))
 }
@@ -94,23 +118,23 @@ impl Repeating {
         ensures { IfErr result IsStartFault }
     {
         let began = Began::now(rt)?;
-        let (slot, theirs) = shared_slot(alloc)?;
+        let (slots, theirs) = shared_slots(alloc, repeater.places())?;
         let there = *rt;
         match thread::spawn(rt, move || repeat_all(&there, &theirs, &began, repeater)) {
-            Ok(handle) => Ok(Repeating { slot, handle }),
+            Ok(handle) => Ok(Repeating { slots, handle }),
             Err(_) => Err(SubscribeFault::NoThread),
         }
     }
 
     /// Where the thread is told something.
-    pub(crate) fn slot(&self) -> &Slot {
-        &self.slot
+    pub(crate) fn slots(&self) -> &Slots {
+        &self.slots
     }
 
     /// Tells the thread to end, and waits until it has.
     pub(crate) fn end<R: Threads + Wait>(self, rt: &R) {
-        let Repeating { slot, handle } = self;
-        slot.end(rt);
+        let Repeating { slots, handle } = self;
+        slots.end(rt);
         handle.join(rt);
     }
 }

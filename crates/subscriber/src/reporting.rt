@@ -2,7 +2,9 @@
 
 ghost use Rattle.std.specs.Prelude.{◌≡◌, ◌≢◌, OnOk, Some};
 ghost use Rattle.std.specs.Io.KnownBytes.{Appends};
-ghost use Rattle.subscriber.specs.Texts.{IsClean, counted_text, line_of, line_text, losses_text, refused_line, session_text, told_end_text, totals_line, totals_text, unfinished_text};
+ghost use Rattle.subscriber.specs.Texts.{IsClean, counted_text, followed_text, line_of, line_text, losses_text, refused_line, session_text, told_end_text, totals_line, totals_text, unfinished_text};
+
+pub(crate) mod sessions;
 
 use crate::images::Loss;
 use frames::FaultCounts;
@@ -128,13 +130,31 @@ pub(crate) const NOWHERE: Positions = Positions {
     high_water: 0,
 };
 
+/// Whose bytes were written: the one session's that is followed, or those of so many.
+#[derive(Clone, Copy)]
+pub(crate) struct Followed {
+    pub session: i32,
+    pub sessions: u64,
+}
+
+impl fmt::Display for Followed {
+    ghost output = { λ followed. Some (followed_text followed) };
+
+    fn fmt<W: fmt::Write>(&self, f: &mut fmt::Formatter<W>) -> fmt::Result {
+        match self.sessions {
+            1 => write!(f, "session {}", self.session),
+            sessions => write!(f, "{sessions} sessions"),
+        }
+    }
+}
+
 /// What a subscriber has done at its end.
 #[derive(Clone, Copy)]
 pub(crate) struct Totals {
     /// How many messages were written, and in what time from the first image on.
     pub pace: Pace,
-    /// The session of the last image, and how many bytes of its stream were written, with headers and alignment.
-    pub session: i32,
+    /// Whose last images these are, and how many bytes of their streams were written, with headers and alignment.
+    pub of: Followed,
     pub bytes: u64,
     /// How many negative acknowledgements were sent.
     pub naks: u64,
@@ -146,14 +166,14 @@ impl fmt::Display for Totals {
     fn fmt<W: fmt::Write>(&self, f: &mut fmt::Formatter<W>) -> fmt::Result {
         let Totals {
             pace,
-            session,
+            of,
             bytes,
             naks,
         } = *self;
         let messages = pace.count;
         write!(
             f,
-            "wrote {messages} messages, {bytes} bytes of session {session}, {pace}; {naks} NAKs sent"
+            "wrote {messages} messages, {bytes} bytes of {of}, {pace}; {naks} NAKs sent"
         )
     }
 }

@@ -1,47 +1,46 @@
 //! A subscription from its begin to its end.
 
-ghost use Rattle.std.specs.Prelude.{◌≡◌, ◌≢◌, ◌≤◌, ◌/◌, ◌↔◌, ℤ, Option, false, IfErr, IfOk, IsTrue, OnErr, OnOk, Some};
+ghost use Rattle.std.specs.Prelude.{◌≡◌, ◌≢◌, ◌<◌, ◌≤◌, ◌-◌, ◌/◌, ◌↔◌, ℤ, Option, false, length, map, IfErr, IfOk, IsTrue, OnErr, OnOk, Some};
 ghost use Rattle.std.specs.Io.KnownBytes.{Appends};
+ghost use Rattle.std.specs.List.{AllByRecursion, AllZip};
 ghost use Rattle.endpoint.specs.declared.device_error.DeviceError.TheVariants.{Device};
 ghost use Rattle.peer.specs.StatusSockets.{unused};
 ghost use Rattle.peer.specs.declared.fault.BindError.{BindError};
-ghost use Rattle.subscriber.specs.Answering.{BidsFarewell, IsTicked, StaysAnswered};
-ghost use Rattle.subscriber.specs.Breaking.{BreaksActs, BreaksLife, BreaksLives};
-ghost use Rattle.subscriber.specs.Endings.{EndsSo, EndsWithImage, HasEnded};
-ghost use Rattle.subscriber.specs.Images.{has_lost};
-ghost use Rattle.subscriber.specs.Leavings.{HasEnough, IsEnding, IsQuietEnding, IsSettled, LeavesFrom, LivesUnpolled, NotesHeard, StandsStill, enough_ending, of_bind};
-ghost use Rattle.subscriber.specs.Living.{Follows, LivesOn, Writes, WritesLife, WritesLives};
-ghost use Rattle.subscriber.specs.Losing.{AsksAnew, JudgesTurn, with_device};
-ghost use Rattle.subscriber.specs.Offers.{news_taken, others_taken};
-ghost use Rattle.subscriber.specs.Telling.{TellsCounters, TellsLine, TellsUnfinished};
+ghost use Rattle.subscriber.specs.Answering.{IsTicked, StaysAnswered};
+ghost use Rattle.subscriber.specs.Breaking.{BreaksActs, BreaksPlaces};
+ghost use Rattle.subscriber.specs.Endings.{AreDone, AreQuiet, EndsWithSessions, HasEnded, HasEnoughOfAll, HasStood, IsDone, IsEndingOfAll, have_lost};
+ghost use Rattle.subscriber.specs.Leavings.{IsQuietEnding, NotesHeard, enough_ending, of_bind};
+ghost use Rattle.subscriber.specs.Living.{FollowsAll, LivesOn, Writes, WritesPlaces};
+ghost use Rattle.subscriber.specs.Losing.{JudgesTurn};
+ghost use Rattle.subscriber.specs.Places.{most_places};
+ghost use Rattle.subscriber.specs.Sessions.{BreaksOffFrom, FollowsOn, HasLeft, HasLooked, AreSettled, IsBegun, IsSettledSo, IsSized, LeavesAll, news_told};
 ghost use Rattle.subscriber.specs.Standing.{HasAll, Stands};
-ghost use Rattle.subscriber.specs.Texts.{nobody_line, not_whole_line, unfinished_line};
-ghost use Rattle.subscriber.specs.Turning.{Attends, Considers, IsRenewed, Replaces, TellsLoss, Turns};
+ghost use Rattle.subscriber.specs.Telling.{TellsCounters, TellsUnfinishedOf, missing_of};
+ghost use Rattle.subscriber.specs.Texts.{nobody_line, not_whole_line};
 ghost use Rattle.subscriber.specs.Watches.{AttendsEach, IsWithinTurn, JudgesEach, TellsWhereDue, beginning};
 ghost use Rattle.subscriber.specs.declared.ending.Ending.TheVariants.{Lost, Short, Whole};
 ghost use Rattle.subscriber.specs.declared.fault.SubscribeFault.TheVariants.{Failed};
-ghost use Rattle.subscriber.specs.declared.images.session.Stand.{Stand as Standing};
+
+pub(crate) mod callers;
+pub(crate) mod offers;
 
 use crate::ending::{Ending, Subscribed};
 use crate::fault::SubscribeFault;
 use crate::images::delivery::{CYCLE_MESSAGES, cycle};
-use crate::images::follower::Follower;
 use crate::images::session::{Session, Stand};
-use crate::images::sessions::Sessions;
-use crate::images::{Loss, Unheard};
+use crate::images::sessions::{Sessions, bid_farewell};
 use crate::listening::listen;
 use crate::listening::reception::Reception;
-use crate::listening::setup_offer::{SetupOffer, id_of, meeting_of, opened};
 use crate::repeating::repeater::StatusRepeater;
-use crate::repeating::{Repeating, Slot};
+use crate::repeating::{Repeating, Slots};
+use crate::reporting::sessions::{missing_of, tell_counters_of, tell_refused_of, tell_unfinished_of, totals_of};
 use crate::reporting::{Line, SessionId, tell, tell_refused, tell_totals};
-use crate::watch::Watch;
+use crate::watch::{SECOND, Watch};
 use agents::{IdleStrategy, REPLY};
 use endpoint::{Binding, DeviceError};
-use frames::{FaultCounts, Setup};
+use frames::FaultCounts;
 use options::SubscribePlan;
 use peer::{BindError, Listener, StatusSocket};
-use receiver::asking;
 use std::alloc::Global;
 use std::io;
 use std::io::Write;
@@ -50,16 +49,16 @@ use std::sync::Wait;
 use std::thread::Threads;
 use std::time::{Clock, Instant};
 
-/// Nanoseconds in a second.
-const SECOND: u64 = 1_000_000_000;
+/// How many places there are at the most.
+const MOST_PLACES: u32 = 16;
 
 /// What a subscriber is to do, and with what.
 #[derive(Drop)]
-struct Subscription<'a> {
-    alloc: Global,
-    plan: SubscribePlan,
-    /// Where the thread that repeats status messages is told something.
-    slot: &'a Slot,
+pub(crate) struct Subscription<'a> {
+    pub(crate) alloc: Global,
+    pub(crate) plan: SubscribePlan,
+    /// Where the thread that repeats status messages is told something of each place.
+    slots: &'a Slots,
 }
 
 /// Why there is no listener at this address.
@@ -102,14 +101,80 @@ fn enough_ending(lost: bool) -> Ending
     if lost { Ending::Lost } else { Ending::Whole }
 }
 
-/// Tells what is missing between an image and the next one, if anything is.
-fn tell_loss<E: Write>(errors: &mut E, session: i32, loss: Option<Loss>) -> io::Result<()>
-    ensures { OnOk result (TellsLoss session loss (E.contents errors.old) (E.contents errors.new)) }
+/// Whether each has all of its stream, as far as it was heard at all.
+fn is_each_done(sessions: &[Session]) -> bool
+    ensures { IsTrue result ↔ AllByRecursion IsDone sessions.now }
 {
-    match loss {
-        None => Ok(()),
-        Some(loss) => tell(errors, Line::Missing(SessionId(session), loss)),
+    match sessions {
+        [] => true,
+        [first, others @ ..] => first.is_done() && is_each_done(others),
     }
+}
+
+/// Whether none has all of its stream.
+fn is_none_whole(sessions: &[Session]) -> bool
+    ensures { IsTrue result ↔ AllByRecursion (λ j. ¬ HasAll j.stood) sessions.now }
+{
+    match sessions {
+        [] => true,
+        [first, others @ ..] => !first.stood.has_all() && is_none_whole(others),
+    }
+}
+
+/// Whether no image was opened for a second.
+fn are_settling(sessions: &[Session]) -> bool
+    ensures { IsTrue result ↔ AllByRecursion (λ j. 1000000000 ≤ j.watch.moment - j.opened) sessions.now }
+{
+    match sessions {
+        [] => true,
+        [first, others @ ..] => first.is_settling() && are_settling(others),
+    }
+}
+
+/// Whether all are quiet.
+fn are_quiet(sessions: &[Session], plan: &SubscribePlan) -> bool
+    ensures { IsTrue result ↔ AreQuiet plan.now sessions.now }
+{
+    match sessions {
+        [] => true,
+        [first, others @ ..] => first.watch.is_quiet(plan) && are_quiet(others, plan),
+    }
+}
+
+/// Whether each session that was heard has all of its stream, one at the least, and no other came for a second.
+fn are_done(sessions: &[Session]) -> bool
+    ensures { IsTrue result ↔ AreDone sessions.now }
+{
+    is_each_done(sessions)
+        && !is_none_whole(sessions)
+        && (sessions.len() == 1 || are_settling(sessions))
+}
+
+/// Whether one that stands so has all of its stream, and was quiet since.
+fn is_settled(session: &Session, stand: &Stand, plan: &SubscribePlan) -> bool
+    ensures { IsTrue result ↔ IsSettledSo plan.now session.now stand.now }
+{
+    stand.has_all() && session.watch.is_quiet(plan)
+}
+
+/// Whether each has all of its stream, and was quiet since.
+fn are_settled(sessions: &[Session], plan: &SubscribePlan) -> bool
+    ensures { AreSettled plan.now sessions.now result }
+{
+    match sessions {
+        [] => true,
+        [first, others @ ..] => {
+            let rest = are_settled(others, plan);
+            is_settled(first, &first.stand(), plan) & rest
+        }
+    }
+}
+
+/// Whether one of them has lost an image.
+fn have_lost(sessions: &[Session]) -> bool
+    ensures { result ≡ have_lost sessions.now }
+{
+    sessions.iter().any(|session| session.has_lost())
 }
 
 impl Subscription<'_> {
@@ -154,7 +219,14 @@ impl Subscription<'_> {
         Ok((all, (done.messages > 0) | moved))
     }
 
-    /// A turn up to where a loss is judged: how many messages were written in all, whether there was work, and where it stands.
+    /// How many places there are.
+    pub(crate) fn most_places(&self) -> usize
+        ensures { result ≡ most_places self.now.plan }
+    {
+        self.plan.sessions.clamp(1, MOST_PLACES) as usize
+    }
+
+    /// A session's turn up to where a loss is judged: how many messages were written in all, and whether there was work.
     fn look<W: Write, E: Write>(
         &self,
         session: &mut Session,
@@ -162,19 +234,17 @@ impl Subscription<'_> {
         errors: &mut E,
         watch: &mut Watch,
         written: u64,
-    ) -> Result<(u64, bool, Stand), SubscribeFault>
+    ) -> Result<(u64, bool), SubscribeFault>
         requires size { session.old.duty.mtu ≡ REPLY }
         requires few { written ≤ self.now.plan.messages }
         ensures size { session.new.duty.mtu ≡ REPLY }
         ensures images { session.new.images ≡ session.old.images }
-        // What the cycle showed was noted, and the loss judged by that, once.
-        ensures judges { OnOk result (JudgesTurn watch.old session.old session.new watch.new) }
-        ensures writes { IfOk result (λ r. (r.0 ≤ self.now.plan.messages) × Writes self.now.plan.end.form written (W.contents output.old) r.0 (W.contents output.new)) }
+        // What the cycle showed was noted, and the loss judged by that, once; where it stands is noted, and where it has all of its
+        // stream it has told that.
+        ensures looked { OnOk result (HasLooked session.old session.new) }
+        ensures few { IfOk result (λ r. r.0 ≤ self.now.plan.messages) }
         ensures lives { IfOk result (λ r. LivesOn self.now.plan.end.form written session.old.follower (W.contents output.old) r.0 session.new.follower (W.contents output.new)) }
-        ensures stands { IfOk result (λ r. Stands session.new.follower.subscriber session.new.follower.end r.2) }
-        ensures still { IfOk result (λ r. HasAll r.2 → IsTrue session.new.ended) }
-        // Where it has all of its stream it has told that.
-        ensures answered { OnOk result (StaysAnswered session.old session.new) }
+        ensures moment { watch.new.moment ≡ watch.old.moment }
         // At a fault all that was told is written.
         ensures broken { OnErr result (BreaksActs self.now.plan.end.form session.old.follower.subscriber (W.contents output.old) session.new.follower.subscriber (W.contents output.new)) }
     {
@@ -186,14 +256,45 @@ impl Subscription<'_> {
         let stand = session.answer_end(errors)?;
         let _ = session.tell_silence(errors);
         let _ = session.tell_loss(errors);
-        Ok((all, busy, stand))
+        session.stood = stand;
+        Ok((all, busy))
+    }
+
+    /// A turn of each session, one after the other: how many messages were written in all, and whether there was work.
+    fn look_at_each<W: Write, E: Write>(
+        &self,
+        sessions: &mut [Session],
+        output: &mut W,
+        errors: &mut E,
+        watch: &mut Watch,
+        written: u64,
+    ) -> Result<(u64, bool), SubscribeFault>
+        requires size { AllByRecursion IsSized sessions.old }
+        requires few { written ≤ self.now.plan.messages }
+        ensures size { AllByRecursion IsSized sessions.new }
+        ensures looked { OnOk result (AllZip HasLooked sessions.old sessions.new) }
+        ensures few { IfOk result (λ r. r.0 ≤ self.now.plan.messages) }
+        // Each session's messages are its own, and are written in the order in which they were given.
+        ensures lives { IfOk result (λ r. FollowsOn self.now.plan written sessions.old (W.contents output.old) r.0 sessions.new (W.contents output.new)) }
+        ensures moment { watch.new.moment ≡ watch.old.moment }
+        // At a fault all that was told is written.
+        ensures broken { OnErr result (BreaksOffFrom self.now.plan written sessions.old (W.contents output.old) (W.contents output.new)) }
+    {
+        let mut all = written;
+        let mut worked = false;
+        for session in sessions.iter_mut() {
+            let (more, busy) = self.look(session, output, errors, watch, all)?;
+            all = more;
+            worked = worked || busy;
+        }
+        Ok((all, worked))
     }
 
     /// Whether it has done what was wanted of it.
-    fn is_done(&self, written: u64, stand: &Stand) -> bool
-        ensures { IsTrue result ↔ HasEnough self.now.plan written stand.now }
+    fn is_done(&self, sessions: &[Session], written: u64) -> bool
+        ensures { IsTrue result ↔ HasEnoughOfAll self.now.plan written sessions.now }
     {
-        written >= self.plan.messages || (self.plan.once && stand.has_all())
+        written >= self.plan.messages || (self.plan.once && are_done(sessions))
     }
 
     /// How it ends where it is quiet.
@@ -207,198 +308,82 @@ impl Subscription<'_> {
         }
     }
 
-    /// How it ends with a session at the moment, behind so many messages, if it does.
-    fn ending_of(&self, session: &Session, written: u64, stand: &Stand) -> Option<Ending>
-        ensures { IsEnding self.now.plan written session.now.watch stand.now (has_lost session.now.lost session.now.images) result }
+    /// How it ends with these sessions at the moment, behind so many messages, if it does.
+    fn ending_of(&self, sessions: &[Session], written: u64) -> Option<Ending>
+        ensures { IsEndingOfAll self.now.plan written sessions.now result }
     {
-        if self.is_done(written, stand) {
-            return Some(enough_ending(session.has_lost()));
+        let lost = have_lost(sessions);
+        if self.is_done(sessions, written) {
+            return Some(enough_ending(lost));
         }
-        if !session.watch.is_quiet(&self.plan) {
+        if !are_quiet(sessions, &self.plan) {
             return None;
         }
         match self.quiet_ending() {
-            Ending::Whole => Some(enough_ending(session.has_lost())),
+            Ending::Whole => Some(enough_ending(lost)),
             Ending::Short | Ending::Lost => Some(Ending::Short),
         }
     }
 
-    /// Tells the counters, once a second.
+    /// Tells the counters of each, once a second.
     fn tell<E: Write>(
         &self,
-        session: &Session,
+        sessions: &[Session],
         errors: &mut E,
         watch: &mut Watch,
         written: u64,
     ) -> io::Result<()>
         ensures same { watch.new ≡ record watch.old { told = watch.new.told; written = watch.new.written } }
-        ensures tells { TellsWhereDue self.now.plan written watch.old watch.new (TellsCounters session.now watch.old written (λ p c. OnOk result (TellsLine p session.now.opening.session c (E.contents errors.old) (E.contents errors.new)))) (OnOk result (E.contents errors.new ≡ E.contents errors.old)) }
+        ensures tells { TellsWhereDue self.now.plan written watch.old watch.new (OnOk result (TellsCounters sessions.now watch.old written (E.contents errors.old) (E.contents errors.new))) (OnOk result (E.contents errors.new ≡ E.contents errors.old)) }
     {
-        let Some(since) = watch.tells(&self.plan, written) else {
-            return Ok(());
-        };
-        session.tell_counters(errors, watch, written, since)
+        match watch.tells(&self.plan, written) {
+            None => Ok(()),
+            Some(since) => tell_counters_of(sessions, errors, watch, written, since),
+        }
     }
 
-    /// Tells the counters at the end, behind so many messages, where they are asked for.
+    /// Tells the counters of each at the end, behind so many messages, where they are asked for.
     fn tell_last<E: Write>(
         &self,
-        session: &Session,
+        sessions: &[Session],
         errors: &mut E,
         watch: &Watch,
         written: u64,
     ) -> io::Result<()>
-        ensures asked { IsTrue self.now.plan.end.counters → TellsCounters session.now watch.now written (λ p c. OnOk result (TellsLine p session.now.opening.session c (E.contents errors.old) (E.contents errors.new))) }
+        ensures asked { IsTrue self.now.plan.end.counters → OnOk result (TellsCounters sessions.now watch.now written (E.contents errors.old) (E.contents errors.new)) }
         ensures quiet { self.now.plan.end.counters ≡ false → OnOk result (E.contents errors.new ≡ E.contents errors.old) }
     {
         if !self.plan.end.counters {
             return Ok(());
         }
-        session.tell_counters(errors, watch, written, watch.since(written))
+        tell_counters_of(sessions, errors, watch, written, watch.since(written))
     }
 
-    /// Asks the peer, at a frame, for a SETUP under the id of the next image, where what the image lacks doesn't come.
-    fn ask_anew(&self, session: &Session, reception: &mut Reception)
-        ensures asks { AsksAnew self.now.plan session.now reception.old.socket reception.new.socket }
-        ensures same { reception.new ≡ record reception.old { socket = reception.new.socket } }
+    /// Asks the peer of each session for a SETUP where its image lacks what doesn't come.
+    fn ask_each(&self, sessions: &mut Sessions)
+        ensures { sessions.new.list ≡ sessions.old.list }
     {
-        if session.ended || !session.watch.is_behind() || !session.watch.is_hearing() {
-            return;
-        }
-        let Some(frame) = session.duty.device().notes().last else {
-            return;
-        };
-        let next = session.images.next(None);
-        let status = asking(&frame.header(), id_of(&self.plan, next.number));
-        reception.ask(session.peer(), status);
-    }
-
-    /// Opens a new image in the place of one, behind which this is missing.
-    fn renew(
-        &self,
-        session: &mut Session,
-        meeting: &SetupOffer,
-        loss: Option<Loss>,
-    ) -> Result<(), SubscribeFault>
-        ensures renewed { OnOk result (IsRenewed self.now.plan meeting.now loss session.old session.new) }
-        ensures kept { OnErr result (session.new.follower.subscriber ≡ session.old.follower.subscriber) }
-        ensures size { session.new.duty.mtu ≡ session.old.duty.mtu }
-    {
-        let images = session.images.next(loss);
-        let now = session.watch.moment();
-        let subscriber = opened(self.alloc, &self.plan, images.number, &meeting.setup, now)?;
-        session.follower = Follower {
-            subscriber,
-            session: meeting.opening.session,
-            stream: self.plan.end.stream,
-            end: None,
-        };
-        session.images = images;
-        session.opening = meeting.opening;
-        session.lost = false;
-        session.silent = false;
-        session.warned = false;
-        session.ended = false;
-        session.unheard = Unheard::new();
-        session.watch.hear();
-        session.watch.keep();
-        let device = session.duty.device_mut();
-        device.turn(meeting.from, meeting.opening.session);
-        Ok(())
-    }
-
-    /// Closes an image, and opens the one that a SETUP opens in its place. What is missing between them is told.
-    fn replace<E: Write>(
-        &self,
-        session: &mut Session,
-        meeting: &SetupOffer,
-        errors: &mut E,
-    ) -> Result<(), SubscribeFault>
-        ensures renewed { OnOk result (Replaces self.now.plan meeting.now session.old session.new) }
-        ensures kept { OnErr result (session.new.follower.subscriber ≡ session.old.follower.subscriber) }
-        ensures size { session.new.duty.mtu ≡ session.old.duty.mtu }
-    {
-        let refused = session.follower.subscriber.refused();
-        let id = SessionId(session.opening.session);
-        let _ = tell(errors, Line::Closed(id, session.place(), refused));
-        let loss = meeting.loss_behind(session);
-        self.renew(session, meeting, loss)?;
-        let id = SessionId(session.opening.session);
-        let _ = tell(errors, Line::Joined(id, session.place()));
-        let _ = tell_loss(errors, session.opening.session, loss);
-        Ok(())
-    }
-
-    /// What is made of a SETUP that would open an image.
-    fn turns<E: Write>(
-        &self,
-        session: &mut Session,
-        meeting: &SetupOffer,
-        errors: &mut E,
-    ) -> Result<(), SubscribeFault>
-        ensures turns { OnOk result (Turns self.now.plan meeting.now session.old session.new) }
-        ensures kept { OnErr result (session.new.follower.subscriber ≡ session.old.follower.subscriber) }
-        ensures size { session.new.duty.mtu ≡ session.old.duty.mtu }
-    {
-        let rebuilt = session.rebuilt();
-        if !meeting.takes_the_place(session, rebuilt) {
-            let _ = session.warn(meeting, errors);
-            return Ok(());
-        }
-        if meeting.is_again(session, rebuilt) {
-            session.duty.device_mut().tie(meeting.from);
-            return Ok(());
-        }
-        self.replace(session, meeting, errors)
-    }
-
-    /// What is made of a SETUP, which this one sent.
-    fn consider<E: Write>(
-        &self,
-        session: &mut Session,
-        offer: (SocketAddr, Setup),
-        errors: &mut E,
-    ) -> Result<(), SubscribeFault>
-        ensures considers { OnOk result (Considers self.now.plan offer.0 offer.1 session.old session.new) }
-        ensures kept { OnErr result (session.new.follower.subscriber ≡ session.old.follower.subscriber) }
-        ensures size { session.new.duty.mtu ≡ session.old.duty.mtu }
-    {
-        match meeting_of(&self.plan, offer.0, &offer.1) {
-            None => Ok(()),
-            Some(meeting) => self.turns(session, &meeting, errors),
+        let Sessions { list, reception } = sessions;
+        for session in list.iter() {
+            self.ask_anew(session, reception);
         }
     }
 
-    /// What is made of the SETUP that came in a cycle, if one did.
-    ///
-    /// Where the stream has ended, and is written up to its end, only the next publisher's opens a new image in its place. Else,
-    /// while the session isn't silent, only its peer's own does, if what the image lacks doesn't come and it lies above what is
-    /// rebuilt. Of a silent session one of the same shape that isn't behind what was rebuilt makes who sent it the peer, and the
-    /// image goes on; any other opens a new one. The fault is that memory was refused; then nothing was opened.
-    fn attend<E: Write>(
-        &self,
-        sessions: &mut Sessions,
-        errors: &mut E,
-    ) -> Result<(), SubscribeFault>
-        ensures attends { OnOk result (Attends self.now.plan sessions.old.reception.offer sessions.old.session sessions.new.session) }
-        ensures left { sessions.new.reception ≡ others_taken sessions.old.session.duty.device.notes.setup sessions.old.reception }
-        ensures kept { OnErr result (sessions.new.session.follower.subscriber ≡ sessions.old.session.follower.subscriber) }
-        ensures size { sessions.new.session.duty.mtu ≡ sessions.old.session.duty.mtu }
+    /// Tells the thread that repeats what is new of the status messages that the device of a place was given.
+    fn tell_news_of<R: Wait>(&self, rt: &R, place: usize, session: &mut Session)
+        ensures { session.new ≡ news_told session.old }
     {
-        if let Some(offer) = sessions.offered() {
-            self.consider(&mut sessions.session, offer, errors)?;
+        if let Some(news) = session.duty.device_mut().take_news() {
+            self.slots.tell(rt, place, news);
         }
-        sessions.session.watch.attend();
-        Ok(())
     }
 
-    /// Tells the thread that repeats what is new of the status messages that the device was given.
-    fn tell_news<R: Wait>(&self, rt: &R, session: &mut Session)
-        ensures { session.new ≡ with_device session.old (news_taken session.old.duty.device) }
+    /// The same of each place.
+    fn tell_news<R: Wait>(&self, rt: &R, sessions: &mut [Session])
+        ensures { sessions.new ≡ map news_told sessions.old }
     {
-        let device = session.duty.device_mut();
-        if let Some(news) = device.take_news() {
-            self.slot.tell(rt, news);
+        for place in 0..sessions.len() {
+            self.tell_news_of(rt, place, &mut sessions[place]);
         }
     }
 
@@ -411,92 +396,79 @@ impl Subscription<'_> {
         errors: &mut E,
         watch: &mut Watch,
     ) -> Result<(u64, Ending), SubscribeFault>
-        requires size { sessions.old.session.duty.mtu ≡ REPLY }
-        requires begun { Follows self.now.plan (W.contents output.old) 0 sessions.old.session.images sessions.old.session.follower (W.contents output.old) }
-        requires going { sessions.old.session.ended ≡ false }
-        requires fresh { sessions.old.session.watch ≡ beginning sessions.old.session.watch.moment }
-        ensures size { sessions.new.session.duty.mtu ≡ REPLY }
+        requires begins { AllByRecursion IsBegun sessions.old.list.items }
+        requires some { 0 < length sessions.old.list.items }
+        requires places { length sessions.old.list.items ≤ most_places self.now.plan }
+        requires begun { FollowsAll self.now.plan (W.contents output.old) 0 sessions.old.list.items (W.contents output.old) }
+        ensures size { IfOk result (λ _. AllByRecursion IsSized sessions.new.list.items) }
         ensures few { IfOk result (λ r. r.0 ≤ self.now.plan.messages) }
-        ensures ended { IfOk result (λ r. EndsSo self.now.plan r.0 sessions.new.session.watch sessions.new.session.follower.subscriber sessions.new.session.follower.end (has_lost sessions.new.session.lost sessions.new.session.images) r.1) }
-        ensures writes { IfOk result (λ r. Writes self.now.plan.end.form 0 (W.contents output.old) r.0 (W.contents output.new)) }
+        ensures some { IfOk result (λ _. 0 < length sessions.new.list.items) }
+        ensures places { IfOk result (λ _. length sessions.new.list.items ≤ most_places self.now.plan) }
+        ensures ended { IfOk result (λ r. IsEndingOfAll self.now.plan r.0 sessions.new.list.items (Some r.1)) }
+        ensures stood { IfOk result (λ _. AllByRecursion HasStood sessions.new.list.items) }
         // In each turn, but in the last one, what came of SETUPs was attended.
-        ensures attended { IfOk result (λ _. AttendsEach sessions.new.session.watch) }
-        // In each turn, the last one too, it was noted what the image lacks, and judged by that whether it is lost.
-        ensures judged { IfOk result (λ _. JudgesEach sessions.new.session.watch) }
-        // What its images gave, each in its turn.
-        ensures lives { IfOk result (λ r. Follows self.now.plan (W.contents output.old) r.0 sessions.new.session.images sessions.new.session.follower (W.contents output.new)) }
-        ensures broken { OnErr result (BreaksLife self.now.plan (W.contents output.old) sessions.new.session.follower.subscriber (W.contents output.new)) }
+        ensures attended { IfOk result (λ _. AllByRecursion (λ j. AttendsEach j.watch) sessions.new.list.items) }
+        // In each turn, the last one too, it was noted what each image lacks, and judged by that whether it is lost.
+        ensures judged { IfOk result (λ _. AllByRecursion (λ j. JudgesEach j.watch) sessions.new.list.items) }
+        // What their images gave, each in its turn.
+        ensures lives { IfOk result (λ r. FollowsAll self.now.plan (W.contents output.old) r.0 sessions.new.list.items (W.contents output.new)) }
+        ensures broken { OnErr result (BreaksPlaces self.now.plan (W.contents output.old) (W.contents output.new)) }
     {
         let mut written: u64 = 0;
         let mut idle = IdleStrategy::new();
         for _ in rt.forever() {
             watch.see(rt)?;
-            sessions.session.watch.begin_turn(watch.moment());
+            sessions.begin_turn(watch.moment());
             let passed = sessions.read(self.alloc, watch)?;
-            let (all, busy, stand) = self.look(
-                &mut sessions.session,
-                output,
-                errors,
-                watch,
-                written,
-            )?;
+            let list = sessions.list.as_mut_slice();
+            let (all, busy) = self.look_at_each(list, output, errors, watch, written)?;
             written = all;
-            let _ = self.tell(&sessions.session, errors, watch, written);
-            if let Some(ending) = self.ending_of(&sessions.session, written, &stand) {
+            let _ = self.tell(list, errors, watch, written);
+            if let Some(ending) = self.ending_of(list, written) {
                 return Ok((written, ending));
             }
-            self.ask_anew(&sessions.session, &mut sessions.reception);
-            self.attend(sessions, errors)?;
-            self.tell_news(rt, &mut sessions.session);
+            self.ask_each(sessions);
+            self.attend(sessions, watch.moment(), errors)?;
+            self.ask_caller(sessions);
+            self.tell_news(rt, sessions.list.as_mut_slice());
             idle.after(rt, busy || passed);
         }
         unreachable!()
     }
 
-    /// Whether it has all of the stream, and was quiet since.
-    fn is_settled(&self, session: &Session, stand: &Stand) -> bool
-        ensures { IsTrue result ↔ IsSettled self.now.plan session.now.watch stand.now }
-    {
-        stand.has_all() && session.watch.is_quiet(&self.plan)
-    }
-
-    /// Leaves a session: unless all of its stream is there, and it was quiet since, it is told where the subscriber stands.
+    /// Leaves its sessions: unless all of their streams are there, and they were quiet since, each is told where the subscriber
+    /// stands.
     fn leave<R: Wait + Clock>(
         &self,
         rt: &R,
-        session: &mut Session,
+        sessions: &mut [Session],
         watch: &mut Watch,
     ) -> Result<(), SubscribeFault>
-        requires { session.old.duty.mtu ≡ REPLY }
-        ensures unpolled { LivesUnpolled session.old.follower.subscriber session.new.follower.subscriber }
-        ensures still { StandsStill session.old.follower.subscriber session.new.follower.subscriber }
-        ensures images { session.new.images ≡ session.old.images }
-        ensures leaves { (x : Standing) × Stands session.old.follower.subscriber session.old.follower.end x × LeavesFrom self.now.plan session.old.watch x (session.new ≡ session.old) (OnOk result (BidsFarewell session.old.follower.subscriber watch.old.moment session.new.follower.subscriber watch.new.moment)) }
+        requires { AllByRecursion IsSized sessions.old }
+        ensures left { AllZip HasLeft sessions.old sessions.new }
+        ensures leaves { LeavesAll self.now.plan watch.old.moment watch.new.moment sessions.old sessions.new (OnOk result) }
     {
-        if self.is_settled(session, &session.stand()) {
+        if are_settled(sessions, &self.plan) {
             return Ok(());
         }
-        session.bid_farewell(rt, watch)
+        bid_farewell(rt, sessions, watch)
     }
 
     /// Tells why one with an image ends short, or what it lost, where it does.
     fn tell_short<E: Write>(
         &self,
-        session: &Session,
+        sessions: &[Session],
         ending: Ending,
         errors: &mut E,
     ) -> io::Result<()>
-        ensures short { ending ≡ Short → TellsUnfinished session.now (λ left. OnOk result (Appends (E.contents errors.old) (E.contents errors.new) (unfinished_line (self.now.plan.quiet / 1000000000) left))) }
-        ensures lost { ending ≡ Lost → OnOk result (Appends (E.contents errors.old) (E.contents errors.new) (not_whole_line session.now.images.missing)) }
+        ensures short { ending ≡ Short → OnOk result (TellsUnfinishedOf (self.now.plan.quiet / 1000000000) sessions.now (E.contents errors.old) (E.contents errors.new)) }
+        ensures lost { ending ≡ Lost → OnOk result (Appends (E.contents errors.old) (E.contents errors.new) (not_whole_line (missing_of sessions.now))) }
         ensures whole { ending ≡ Whole → OnOk result (E.contents errors.new ≡ E.contents errors.old) }
     {
         match ending {
             Ending::Whole => Ok(()),
-            Ending::Short => {
-                let seconds = self.plan.quiet / SECOND;
-                tell(errors, Line::GaveUp(seconds, session.unfinished()))
-            }
-            Ending::Lost => tell(errors, Line::NotWhole(session.images.missing)),
+            Ending::Short => tell_unfinished_of(sessions, errors, self.plan.quiet / SECOND),
+            Ending::Lost => tell(errors, Line::NotWhole(missing_of(sessions))),
         }
     }
 
@@ -511,7 +483,7 @@ impl Subscription<'_> {
         tell(errors, Line::Nobody(self.plan.quiet / SECOND))
     }
 
-    /// Follows a session to the end, and leaves it. Nothing is repeated any more once all is written.
+    /// Follows all sessions to the end, and leaves them. Nothing is repeated any more once all is written.
     fn follow_all<R: Wait + Clock, W: Write, E: Write>(
         &self,
         rt: &R,
@@ -520,37 +492,30 @@ impl Subscription<'_> {
         errors: &mut E,
         watch: &mut Watch,
     ) -> Result<Subscribed, SubscribeFault>
-        requires size { sessions.old.session.duty.mtu ≡ REPLY }
-        requires begun { Follows self.now.plan (W.contents output.old) 0 sessions.old.session.images sessions.old.session.follower (W.contents output.old) }
-        requires going { sessions.old.session.ended ≡ false }
-        requires fresh { sessions.old.session.watch ≡ beginning sessions.old.session.watch.moment }
+        requires begins { AllByRecursion IsBegun sessions.old.list.items }
+        requires some { 0 < length sessions.old.list.items }
+        requires places { length sessions.old.list.items ≤ most_places self.now.plan }
+        requires begun { FollowsAll self.now.plan (W.contents output.old) 0 sessions.old.list.items (W.contents output.old) }
         ensures few { IfOk result (λ s. s.messages ≤ self.now.plan.messages) }
         ensures short { IfOk result (λ s. s.ending ≡ Short → IsTrue self.now.plan.once) }
-        ensures writes { IfOk result (λ s. Writes self.now.plan.end.form 0 (W.contents output.old) s.messages (W.contents output.new)) }
-        ensures lives { IfOk result (λ s. WritesLife self.now.plan (W.contents output.old) s.messages sessions.new.session.images sessions.new.session.follower.subscriber (W.contents output.new)) }
-        ensures ended { IfOk result (λ s. EndsWithImage self.now.plan (W.contents output.old) s (W.contents output.new)) }
-        ensures broken { OnErr result (BreaksLife self.now.plan (W.contents output.old) sessions.new.session.follower.subscriber (W.contents output.new)) }
+        ensures lives { IfOk result (λ s. WritesPlaces self.now.plan (W.contents output.old) s.messages (W.contents output.new)) }
+        ensures ended { IfOk result (λ s. EndsWithSessions self.now.plan (W.contents output.old) s (W.contents output.new)) }
+        ensures broken { OnErr result (BreaksPlaces self.now.plan (W.contents output.old) (W.contents output.new)) }
     {
-        let id = SessionId(sessions.session.opening.session);
-        let _ = tell(errors, Line::Joined(id, sessions.session.place()));
         let opened = watch.moment();
         let followed = self.follow(rt, sessions, output, errors, watch);
-        let session = &mut sessions.session;
-        self.slot.end(rt);
-        let _ = tell_refused(
-            errors,
-            session.follower.subscriber.refused(),
-            watch.strangers(),
-        );
+        let list = sessions.list.as_mut_slice();
+        self.slots.end(rt);
+        let _ = tell_refused_of(list, errors, watch.strangers());
         let (messages, ending) = followed?;
-        let _ = self.tell_last(session, errors, watch, messages);
-        let _ = self.tell_short(session, ending, errors);
-        let _ = tell_totals(errors, session.totals(watch, messages, opened));
-        let _ = self.leave(rt, session, watch);
+        let _ = self.tell_last(list, errors, watch, messages);
+        let _ = self.tell_short(list, ending, errors);
+        let _ = tell_totals(errors, totals_of(list, watch, messages, opened));
+        let _ = self.leave(rt, list, watch);
         Ok(Subscribed { messages, ending })
     }
 
-    /// Listens until an image opens, and follows it to the end.
+    /// Listens until an image opens, and follows it, and those that come behind it, to the end.
     fn listen_and_follow<R: Wait + Clock, W: Write, E: Write>(
         &self,
         rt: &R,
@@ -559,9 +524,8 @@ impl Subscription<'_> {
         errors: &mut E,
         watch: &mut Watch,
     ) -> Result<Subscribed, SubscribeFault>
-        ensures writes { IfOk result (λ s. Writes self.now.plan.end.form 0 (W.contents output.old) s.messages (W.contents output.new)) }
-        ensures lives { IfOk result (λ s. WritesLives self.now.plan (W.contents output.old) s.messages (W.contents output.new)) }
-        ensures broken { OnErr result (BreaksLives self.now.plan (W.contents output.old) (W.contents output.new)) }
+        ensures lives { IfOk result (λ s. WritesPlaces self.now.plan (W.contents output.old) s.messages (W.contents output.new)) }
+        ensures broken { OnErr result (BreaksPlaces self.now.plan (W.contents output.old) (W.contents output.new)) }
         ensures few { IfOk result (λ s. s.messages ≤ self.now.plan.messages) }
         ensures short { IfOk result (λ s. s.ending ≡ Short → IsTrue self.now.plan.once) }
         ensures ended { IfOk result (λ s. HasEnded self.now.plan (W.contents output.old) s (W.contents output.new)) }
@@ -576,7 +540,9 @@ impl Subscription<'_> {
                 })
             }
             Some(session) => {
-                let mut sessions = Sessions { session, reception };
+                let id = SessionId(session.opening.session);
+                let _ = tell(errors, Line::Joined(id, session.place()));
+                let mut sessions = Sessions::new(self.alloc, session, reception)?;
                 self.follow_all(rt, &mut sessions, output, errors, watch)
             }
         }
@@ -592,7 +558,7 @@ impl Subscription<'_> {
 /// plan takes. One that isn't ends whole where it was quiet. Where an image was lost, it ends as one that has lost something.
 ///
 /// `errors` gets what `Line` has. Behind a fault the output may end within a message, of which no status message has told.
-#[tactic(auto, using(crate::proofs::Breaking::before_image))]
+#[tactic(auto, using(crate::proofs::Placed::before_image, crate::proofs::Placed::none_breaks))]
 pub fn subscribe<R: Threads + Wait + Clock + Net + Copy + Send + 'static, W: Write, E: Write>(
     rt: &R,
     alloc: Global,
@@ -603,15 +569,15 @@ pub fn subscribe<R: Threads + Wait + Clock + Net + Copy + Send + 'static, W: Wri
 ) -> Result<Subscribed, SubscribeFault>
     // What was written is whole messages, one after the other.
     ensures writes { IfOk result (λ s. Writes plan.now.end.form 0 (W.contents output.old) s.messages (W.contents output.new)) }
-    // They are what the polls of its images gave, each image lived through as a receiver does.
-    ensures lives { IfOk result (λ s. WritesLives plan.now (W.contents output.old) s.messages (W.contents output.new)) }
+    // They are what the polls of its images gave, each image lived through as a receiver does: of each session whole, once and in
+    // order, between those of the others.
+    ensures lives { IfOk result (λ s. WritesPlaces plan.now (W.contents output.old) s.messages (W.contents output.new)) }
     // Behind a fault all is written of which a status message may have told.
-    ensures broken { OnErr result (BreaksLives plan.now (W.contents output.old) (W.contents output.new)) }
+    ensures broken { OnErr result (BreaksPlaces plan.now (W.contents output.old) (W.contents output.new)) }
     ensures few { IfOk result (λ s. s.messages ≤ plan.now.messages) }
     // Only one that was to end with the stream ends short.
     ensures short { IfOk result (λ s. s.ending ≡ Short → IsTrue plan.now.once) }
-    // It was quiet before any image, and wrote nothing, or it ended where its last image stood then; whole, only where no image
-    // before that was lost.
+    // It was quiet before any image, and wrote nothing, or it ended where its images stood then; whole, only where none was lost.
     ensures ended { IfOk result (λ s. HasEnded plan.now (W.contents output.old) s (W.contents output.new)) }
 {
     let Ok(began) = Instant::now(rt) else {
@@ -619,12 +585,12 @@ pub fn subscribe<R: Threads + Wait + Clock + Net + Copy + Send + 'static, W: Wri
     };
     let mut watch = Watch::new(began);
     let listener = bind(rt, alloc, binding)?;
-    let repeater = StatusRepeater::new(second_handle(&listener)?);
+    let repeater = StatusRepeater::new(alloc, MOST_PLACES as usize, second_handle(&listener)?)?;
     let repeating = Repeating::start(rt, alloc, repeater)?;
     let subscription = Subscription {
         alloc,
         plan: *plan,
-        slot: repeating.slot(),
+        slots: repeating.slots(),
     };
     let reception = Reception::new(listener);
     let done = subscription.listen_and_follow(rt, reception, output, errors, &mut watch);

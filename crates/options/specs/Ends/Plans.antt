@@ -121,6 +121,7 @@ pub record IsSubscribePlanWith (o : SubscribeOptions) (d : Drawn) (c : Channel) 
   pub messages : p.messages ≡ o.messages
   pub quiet : p.quiet ≡ quiet_of o * 1000000000
   pub once : p.once ≡ o.once
+  pub sessions : p.sessions ≡ o.sessions
 
 -- the text is a channel, and the plan is the one of that
 abbrev pub IsSubscribePlanOf : SubscribeOptions → Drawn → SubscribePlan → Type 0

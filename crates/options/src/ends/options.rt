@@ -42,4 +42,6 @@ pub struct SubscribeOptions<'a> {
     pub quiet: u32,
     /// Whether it ends with the stream.
     pub once: bool,
+    /// How many sessions it follows at a time at the most, 1 to 16.
+    pub sessions: u32,
 }

@@ -54,4 +54,6 @@ pub struct SubscribePlan {
     pub quiet: u64,
     /// Whether it ends with the stream.
     pub once: bool,
+    /// How many sessions it follows at a time at the most: 0 counts as 1, and what is above 16 as 16.
+    pub sessions: u32,
 }

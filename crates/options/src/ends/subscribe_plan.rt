@@ -66,6 +66,7 @@ fn plan_of<'a>(
         messages: options.messages,
         quiet: u64::from(quiet(options)) * NANOSECONDS_PER_SECOND,
         once: options.once,
+        sessions: options.sessions,
     })
 }
 

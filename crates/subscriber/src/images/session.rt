@@ -1,18 +1,20 @@
 //! A session that a subscriber follows.
 
-ghost use Rattle.std.specs.Prelude.{◌≡◌, ◌≢◌, ◌≤◌, ◌↔◌, ℕ, IfErr, IfOk, IsTrue, OnErr, OnOk};
+ghost use Rattle.std.specs.Prelude.{◌≡◌, ◌≢◌, ◌≤◌, ◌-◌, ◌↔◌, ℕ, IfErr, IfOk, IsTrue, OnErr, OnOk};
 ghost use Rattle.std.specs.Io.KnownBytes.{Appends};
 ghost use Rattle.endpoint.specs.declared.device_error.DeviceError.TheVariants.{Device};
 ghost use Rattle.receiver.specs.Receiving.{Receiver};
 ghost use Rattle.receiver.specs.Subscribing.{RepresentsSubscriber};
-ghost use Rattle.subscriber.specs.Answering.{AnswersEnd, BidsFarewell, NotesSilence, TellsPlace};
+ghost use Rattle.subscriber.specs.Answering.{AnswersEnd, NotesSilence, TellsPlace};
 ghost use Rattle.subscriber.specs.Images.{has_lost};
-ghost use Rattle.subscriber.specs.Leavings.{ListensOn, LivesUnpolled, NotesHeard, NotesWork, StandsStill};
+ghost use Rattle.subscriber.specs.Leavings.{ListensOn, LivesUnpolled, NotesHeard, NotesWork};
 ghost use Rattle.subscriber.specs.Losing.{LacksWhereLost, NotesKept, NotesLoss};
 ghost use Rattle.subscriber.specs.Standing.{HasAll, IsRebuiltTo, Stands, StandsAt, StandsHere, lacks, lies_above};
-ghost use Rattle.subscriber.specs.Telling.{AreCounts, AreTotals, IsUnfinished, TellsLine, TellsNow};
+ghost use Rattle.subscriber.specs.Telling.{AreCounts, IsUnfinished, TellsLine, TellsNow};
 ghost use Rattle.subscriber.specs.Texts.{another_line, ended_line, lost_line, silence_line, unheard_line};
+ghost use Rattle.subscriber.specs.Choosing.{IsOver, is_unheard};
 ghost use Rattle.subscriber.specs.Turning.{Warns};
+ghost use Rattle.subscriber.specs.Endings.{IsDone, IsUnheardYet};
 ghost use Rattle.subscriber.specs.Watches.{IsBroken, IsWithinTurn, judging};
 
 use crate::fault::SubscribeFault;
@@ -21,20 +23,14 @@ use crate::images::session_device::SubscriberDevice;
 use crate::images::session_watch::SessionWatch;
 use crate::images::{Images, Unheard};
 use crate::listening::setup_offer::{ImageParams, SetupOffer};
-use crate::reporting::{Counted, Counts, Line, SessionId, Totals, Unfinished, tell};
-use crate::watch::Watch;
-use agents::{Duty, IdleStrategy, REPLY};
+use crate::reporting::{Counted, Counts, Line, SessionId, Unfinished, tell};
+use crate::watch::{SECOND, Watch};
+use agents::{Duty, REPLY};
 use endpoint::DeviceError;
 use receiver::STATUS_INTERVAL;
 use std::io;
 use std::io::Write;
 use std::net::SocketAddr;
-use std::sync::Wait;
-use std::time::Clock;
-use text::Pace;
-
-/// How long a subscriber that has ended still tells where it stands, in nanoseconds.
-const FAREWELL: u64 = 1_000_000_000;
 
 /// Where a subscriber with an image stands, in bytes of the stream.
 #[derive(Clone, Copy, Debug, PartialEq, Eq)]
@@ -79,6 +75,10 @@ pub struct Session {
     pub ended: bool,
     /// Other sessions that were told as not heard.
     pub unheard: Unheard,
+    /// When its image was opened, in nanoseconds from the subscriber's begin.
+    pub opened: u64,
+    /// Where it stood at the end of its last turn.
+    pub stood: Stand,
 }
 
 /// Whether a position lies above what is rebuilt.
@@ -134,6 +134,21 @@ impl Session {
         ensures { result ≡ has_lost self.now.lost self.now.images }
     {
         self.lost || self.images.missing > 0
+    }
+
+    /// Whether its stream has ended, and no frame of it has come for a second.
+    pub(crate) fn is_over(&self) -> bool
+        ensures { IsTrue result ↔ IsOver self.now }
+    {
+        self.ended && self.watch.is_still()
+    }
+
+    /// Whether no frame of it has come yet, nor an end of its stream.
+    pub(crate) fn is_unheard(&self) -> bool
+        ensures unheard { IsTrue result ↔ IsUnheardYet self.now }
+        ensures value { result ≡ is_unheard self.now }
+    {
+        self.duty.device().notes().last.is_none() && self.follower.end.is_none()
     }
 
     /// Its peer.
@@ -249,7 +264,7 @@ impl Session {
     }
 
     /// A cycle without polls at a moment that is ahead of this one by 200 ms, so that a status message is due. Whether it was busy.
-    fn tell_place(&mut self, moment: u64) -> Result<bool, SubscribeFault>
+    pub(crate) fn tell_place(&mut self, moment: u64) -> Result<bool, SubscribeFault>
         requires { self.old.duty.mtu ≡ REPLY }
         ensures size { self.new.duty.mtu ≡ self.old.duty.mtu }
         ensures same { self.new ≡ record self.old { follower = self.new.follower; duty = self.new.duty } }
@@ -370,46 +385,32 @@ impl Session {
         }
     }
 
-    /// What it has done, in so many messages, since the first image was opened at a moment.
-    pub(crate) fn totals(&self, watch: &Watch, messages: u64, opened: u64) -> Totals
-        ensures { AreTotals self.now watch.now messages opened result }
+    /// How many bytes of its newest image's stream its consumer has come past.
+    pub(crate) fn bytes(&self) -> u64
+        ensures { (place : ℕ) × StandsHere self.now.follower.subscriber place × (result ≡ place - self.now.opening.position) }
     {
-        Totals {
-            pace: Pace {
-                count: messages,
-                nanoseconds: watch.moment().saturating_sub(opened),
-            },
-            session: self.opening.session,
-            bytes: self.place().saturating_sub(self.opening.position),
-            naks: self.duty.device().naks(),
-        }
+        self.place().saturating_sub(self.opening.position)
     }
 
-    /// Tells for a second where the subscriber stands, at once and each 200 ms, and polls nothing more.
-    pub(crate) fn bid_farewell<R: Wait + Clock>(
-        &mut self,
-        rt: &R,
-        watch: &mut Watch,
-    ) -> Result<(), SubscribeFault>
-        requires { self.old.duty.mtu ≡ REPLY }
-        ensures unpolled { LivesUnpolled self.old.follower.subscriber self.new.follower.subscriber }
-        ensures still { StandsStill self.old.follower.subscriber self.new.follower.subscriber }
-        ensures images { self.new.images ≡ self.old.images }
-        ensures farewell { OnOk result (BidsFarewell self.old.follower.subscriber watch.old.moment self.new.follower.subscriber watch.new.moment) }
+    /// How many negative acknowledgements it has sent.
+    pub(crate) fn naks(&self) -> u64
+        ensures { result ≡ self.now.duty.device.naks }
     {
-        watch.see(rt)?;
-        let ended = watch.moment();
-        let mut idle = IdleStrategy::new();
-        for _ in rt.forever() {
-            let now = watch.moment();
-            let busy = self.tell_place(now)?;
-            watch.see(rt)?;
-            if watch.moment().saturating_sub(ended) >= FAREWELL {
-                return Ok(());
-            }
-            idle.after(rt, busy);
-        }
-        unreachable!()
+        self.duty.device().naks()
+    }
+
+    /// Whether it has all of its stream, as far as it was heard at all.
+    pub(crate) fn is_done(&self) -> bool
+        ensures { IsTrue result ↔ IsDone self.now }
+    {
+        self.stood.has_all() || self.is_unheard()
+    }
+
+    /// Whether its image was opened a second ago or earlier.
+    pub(crate) fn is_settling(&self) -> bool
+        ensures { IsTrue result ↔ (1000000000 ≤ self.now.watch.moment - self.now.opened) }
+    {
+        self.watch.moment().saturating_sub(self.opened) >= SECOND
     }
 }
 

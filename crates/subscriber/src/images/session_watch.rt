@@ -1,6 +1,6 @@
 //! The time in which a session was heard, or not.
 
-ghost use Rattle.std.specs.Prelude.{◌≡◌, ◌↔◌, IsTrue};
+ghost use Rattle.std.specs.Prelude.{◌≡◌, ◌≤◌, ◌-◌, ◌↔◌, IsTrue};
 ghost use Rattle.subscriber.specs.Watches.{IsBehind, IsHearing, IsQuiet, IsSilent, attending, beginning, hearing, judging, keeping, looking, noting};
 
 use crate::watch::{SECOND, later_by};
@@ -114,6 +114,13 @@ impl SessionWatch {
         ensures { IsTrue result ↔ IsQuiet plan.now self.now }
     {
         self.moment.saturating_sub(self.heard) >= plan.quiet
+    }
+
+    /// Whether none has come for a second.
+    pub fn is_still(&self) -> bool
+        ensures { IsTrue result ↔ (1000000000 ≤ self.now.moment - self.now.heard) }
+    {
+        self.moment.saturating_sub(self.heard) >= SECOND
     }
 
     /// Whether none has come for 10 seconds.

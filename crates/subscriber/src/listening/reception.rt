@@ -1,22 +1,23 @@
 //! A subscriber's socket, at the one place where it is read.
 
-ghost use Rattle.std.specs.Prelude.{◌≡◌, Result, IfOk, OnOk, option_map};
+ghost use Rattle.std.specs.Prelude.{◌≡◌, ◌<◌, Result, Some, IfNone, IfOk, IfSome, OnOk, length, option_map};
 ghost use Rattle.endpoint.specs.declared.datagrams.DeviceFailed.{DeviceFailed as Failed};
-ghost use Rattle.frames.specs.Frames.{status_of};
+ghost use Rattle.frames.specs.Frames.{header_of, status_of};
 ghost use Rattle.peer.specs.Peers.{sending_to};
-ghost use Rattle.peer.specs.Ties.{asking, sent_by};
-ghost use Rattle.subscriber.specs.Losing.{with_device};
-ghost use Rattle.subscriber.specs.Receivings.{bringing, keeping, offer_given, receiving};
-ghost use Rattle.subscriber.specs.Routing.{ReadsOne, ReadsSocket, Routes};
+ghost use Rattle.peer.specs.Ties.{asking};
+ghost use Rattle.subscriber.specs.Receivings.{bringing, caller_given, keeping, offer_given, receiving};
+ghost use Rattle.subscriber.specs.Routing.{IsItsPlace, IsNobodys, ReadsOne, ReadsSocket, Routes, kept_of};
+ghost use Rattle.subscriber.specs.Sessions.{IsRouted};
 ghost use Rattle.subscriber.specs.Watches.{after_call};
-ghost use Rattle.theory.specs.Wire.{SM};
+ghost use Rattle.std.specs.List.{AllZip};
+ghost use Rattle.theory.specs.Wire.{IsHeader, SM};
 
 use crate::images::session::Session;
 use crate::images::session_device::RoutedDatagram;
-use crate::listening::first_frame::first_frame;
+use crate::listening::first_frame::{FirstFrame, HeardFrame, first_frame};
 use crate::watch::Watch;
 use endpoint::DeviceFailed;
-use frames::{Setup, Status};
+use frames::{Header, Setup, Status};
 use peer::{Listener, PeerDevice};
 use std::alloc::{AllocError, Global};
 use std::io;
@@ -37,12 +38,14 @@ pub enum Read {
     Passed,
 }
 
-/// The socket, and the SETUPs that are of no session which is followed: the first since one was taken, and the last behind it.
+/// The socket, and what of no session that is followed came by it: the first SETUP since one was taken, the last behind it, and the
+/// last frame of a stream since one was taken, each with who sent it.
 #[derive(Drop)]
 pub struct Reception {
     listener: Listener,
     offer: Option<(SocketAddr, Setup)>,
     later: Option<(SocketAddr, Setup)>,
+    caller: Option<(SocketAddr, HeardFrame)>,
 }
 
 impl Model for Reception {
@@ -50,7 +53,7 @@ impl Model for Reception {
 
     ghost Value = { Receiving };
 
-    ghost view = { λ r. record { socket = r.listener; offer = r.offer; later = r.later } };
+    ghost view = { λ r. record { socket = r.listener; offer = r.offer; later = r.later; caller = r.caller } };
 }
 
 /// Notes whether a call of the socket worked.
@@ -64,6 +67,22 @@ fn note_call(answer: Result<(), DeviceFailed>, watch: &mut Watch)
     }
 }
 
+/// Whether one of them has as much to take as it takes in a cycle.
+fn is_any_full(sessions: &[Session]) -> bool {
+    sessions.iter().any(|session| session.duty.device().is_full())
+}
+
+/// The place of the first whose a datagram is that this one sent, by what stands first in it.
+fn place_of(sessions: &[Session], from: SocketAddr, first: &FirstFrame) -> Option<usize>
+    ensures its { IfSome result (IsItsPlace from first.now sessions.now) }
+    ensures within { IfSome result (λ place. place < length sessions.now) }
+    ensures nobodys { IfNone result (IsNobodys from first.now sessions.now) }
+{
+    sessions
+        .iter()
+        .position(|session| session.duty.device().is_of(from, first))
+}
+
 impl Reception {
     /// Over this socket.
     pub fn new(listener: Listener) -> Reception
@@ -73,6 +92,7 @@ impl Reception {
             listener,
             offer: None,
             later: None,
+            caller: None,
         }
     }
 
@@ -117,77 +137,96 @@ impl Reception {
         first
     }
 
-    /// Keeps a SETUP, if that is one.
-    fn keep(&mut self, from: SocketAddr, found: Option<Setup>)
-        ensures { self.new ≡ keeping (sent_by from found) self.old }
+    /// Takes the last frame of a stream that it keeps, by its header, and who sent it.
+    pub(crate) fn take_caller(&mut self) -> Option<(SocketAddr, Header)>
+        ensures taken { result ≡ self.old.caller }
+        ensures legal { IfSome result (λ c. IsHeader (header_of c.1)) }
+        ensures left { self.new ≡ caller_given self.old }
     {
-        let Some(setup) = found else {
-            return;
-        };
+        let (from, frame) = self.caller?;
+        self.caller = None;
+        Some((from, frame.header()))
+    }
+
+    /// Keeps a SETUP.
+    fn keep(&mut self, from: SocketAddr, setup: Setup)
+        ensures { self.new ≡ keeping (Some (from, setup)) self.old }
+    {
         match self.offer {
             None => self.offer = Some((from, setup)),
             Some(_) => self.later = Some((from, setup)),
         }
     }
 
-    /// Gives what came to the session, if it is that's, and else passes it over. Where memory is refused it's lost.
+    /// Keeps a SETUP, or a frame of a stream, if that is one.
+    fn keep_first(&mut self, from: SocketAddr, first: &FirstFrame)
+        ensures { self.new ≡ kept_of from first.now self.old }
+    {
+        match *first {
+            FirstFrame::Heard(frame) => self.caller = Some((from, frame)),
+            FirstFrame::Setup(setup) => self.keep(from, setup),
+            FirstFrame::Other => {}
+        }
+    }
+
+    /// Gives what came to the session whose it is, and else passes it over. Where memory is refused it's lost.
     fn route(
         &mut self,
         alloc: Global,
-        session: &mut Session,
+        sessions: &mut [Session],
         watch: &mut Watch,
     ) -> Result<Read, AllocError>
-        ensures routes { OnOk result (Routes self.old.socket.came (record { session = session.old; socket = self.old; seen = watch.old }) (record { session = session.new; socket = self.new; seen = watch.new })) }
-        ensures kept { session.new ≡ with_device session.old session.new.duty.device }
+        ensures routes { OnOk result (Routes self.old.socket.came (record { sessions = sessions.old; socket = self.old; seen = watch.old }) (record { sessions = sessions.new; socket = self.new; seen = watch.new })) }
+        ensures kept { AllZip IsRouted sessions.old sessions.new }
         ensures moment { watch.new.moment ≡ watch.old.moment }
     {
         let Some((from, datagram)) = self.listener.last() else {
             return Ok(Read::Nothing);
         };
         let first = first_frame(datagram);
-        if session.duty.device().is_of(from, &first) {
-            let routed = RoutedDatagram::new(alloc, first, datagram)?;
-            session.duty.device_mut().route(routed)?;
-            return Ok(Read::Routed);
-        }
-        watch.count_stranger();
-        self.keep(from, first.setup());
-        Ok(Read::Passed)
+        let Some(place) = place_of(sessions, from, &first) else {
+            watch.count_stranger();
+            self.keep_first(from, &first);
+            return Ok(Read::Passed);
+        };
+        let routed = RoutedDatagram::new(alloc, first, datagram)?;
+        sessions[place].duty.device_mut().route(routed)?;
+        Ok(Read::Routed)
     }
 
-    /// Reads the socket once, and gives what came to the session, or passes it over.
+    /// Reads the socket once, and gives what came to the session whose it is, or passes it over.
     fn read_next(
         &mut self,
         alloc: Global,
-        session: &mut Session,
+        sessions: &mut [Session],
         watch: &mut Watch,
     ) -> Result<Read, AllocError>
-        ensures reads { OnOk result (ReadsOne (record { session = session.old; socket = self.old; seen = watch.old }) (record { session = session.new; socket = self.new; seen = watch.new })) }
-        ensures kept { session.new ≡ with_device session.old session.new.duty.device }
+        ensures reads { OnOk result (ReadsOne (record { sessions = sessions.old; socket = self.old; seen = watch.old }) (record { sessions = sessions.new; socket = self.new; seen = watch.new })) }
+        ensures kept { AllZip IsRouted sessions.old sessions.new }
         ensures moment { watch.new.moment ≡ watch.old.moment }
     {
         self.hear(watch);
-        self.route(alloc, session, watch)
+        self.route(alloc, sessions, watch)
     }
 
-    /// Reads the socket until nothing has come, as much is the session's as it takes in a cycle, or 272 datagrams came. Whether
+    /// Reads the socket until nothing has come, as much is one session's as it takes in a cycle, or 272 datagrams came. Whether
     /// any was passed over.
     pub(crate) fn read_all(
         &mut self,
         alloc: Global,
-        session: &mut Session,
+        sessions: &mut [Session],
         watch: &mut Watch,
     ) -> Result<bool, AllocError>
-        ensures reads { OnOk result (ReadsSocket (record { session = session.old; socket = self.old; seen = watch.old }) (record { session = session.new; socket = self.new; seen = watch.new })) }
-        ensures kept { session.new ≡ with_device session.old session.new.duty.device }
+        ensures reads { OnOk result (ReadsSocket (record { sessions = sessions.old; socket = self.old; seen = watch.old }) (record { sessions = sessions.new; socket = self.new; seen = watch.new })) }
+        ensures kept { AllZip IsRouted sessions.old sessions.new }
         ensures moment { watch.new.moment ≡ watch.old.moment }
     {
         let mut passed = false;
         for _ in 0..MOST_READ {
-            if session.duty.device().is_full() {
+            if is_any_full(sessions) {
                 return Ok(passed);
             }
-            match self.read_next(alloc, session, watch)? {
+            match self.read_next(alloc, sessions, watch)? {
                 Read::Nothing => return Ok(passed),
                 Read::Routed => {}
                 Read::Passed => passed = true,

@@ -6,7 +6,7 @@ ghost use Rattle.receiver.specs.Representing.{Represents};
 ghost use Rattle.subscriber.specs.Calls.{IsMeeting};
 ghost use Rattle.subscriber.specs.Meetings.{Admits, HasMet, IsOngoing, Opens, OpensNothing, TakesSession, TellsHeader, bytes_of, header_told, id_of, invited, window_in};
 ghost use Rattle.subscriber.specs.Turning.{GivesWay, GoesOn, IsAgain, IsAhead, IsAnother, IsLoss, IsNext, IsUnheard};
-ghost use Rattle.subscriber.specs.Windows.{datagrams_of, room_of, window_of};
+ghost use Rattle.subscriber.specs.Windows.{AloneGetsAll, datagrams_of, room_of, whole_window, window_of};
 ghost use Rattle.theory.specs.Image.{IsWindow};
 ghost use Rattle.theory.specs.Position.{IsMtu, IsTermLength};
 ghost use Rattle.theory.specs.Wire.{IsFrame, IsHeader, SETUP, spelling};
@@ -196,21 +196,34 @@ fn datagrams_of(mtu: u32) -> u64
     SURE_ROOM / room_of(mtu)
 }
 
-/// An image's window in bytes: half a term, or as much as its socket's buffer is sure to hold, but a datagram at the least.
-pub fn window_of(term_length: u32, mtu: u32) -> u32
-    ensures value { result ≡ window_of term_length mtu }
-    ensures allowed { IsTermLength term_length → IsMtu term_length mtu → IsWindow term_length mtu result }
+/// Half a term in bytes, or as much as a socket's buffer is sure to hold.
+fn whole_window(term_length: u32, mtu: u32) -> u64
+    ensures { result ≡ whole_window term_length mtu }
 {
     let room = datagrams_of(mtu) * u64::from(mtu);
-    let half = u64::from(term_length / 2).min(room) as u32;
-    half.max(mtu)
+    u64::from(term_length / 2).min(room)
 }
 
-/// The window of an image that a SETUP opens.
-fn window_in(setup: &Setup) -> u32
-    ensures { result ≡ window_in (setup_of setup.now) }
+/// The window in bytes of one of so many images: its share of half a term, or of as much as their socket's buffer is sure to
+/// hold, in whole units of 32 bytes, but a datagram at the least.
+pub fn window_of(share: u64, term_length: u32, mtu: u32) -> u32
+    ensures value { result ≡ window_of share term_length mtu }
+    ensures allowed { IsTermLength term_length → IsMtu term_length mtu → IsWindow term_length mtu result }
 {
-    window_of(bytes_of(setup.term_length), bytes_of(setup.mtu))
+    let shared = whole_window(term_length, mtu) / share.max(1) / 32 * 32;
+    (shared as u32).max(mtu)
+}
+
+/// A law: one image alone has the whole window.
+pub fn alone_gets_all()
+    ensures { AloneGetsAll }
+{}
+
+/// The window of an image that a SETUP opens as one of so many.
+fn window_in(share: u64, setup: &Setup) -> u32
+    ensures { result ≡ window_in share (setup_of setup.now) }
+{
+    window_of(share, bytes_of(setup.term_length), bytes_of(setup.mtu))
 }
 
 /// The image that a SETUP opens for the plan, if it opens one.
@@ -221,7 +234,7 @@ pub fn opening_of(plan: &SubscribePlan, setup: &Setup) -> Option<ImageParams>
     if !admits(plan, setup) {
         return None;
     }
-    match judge(setup, window_in(setup)) {
+    match judge(setup, window_in(1, setup)) {
         Ok((geometry, position)) => Some(ImageParams {
             session: setup.session,
             geometry,
@@ -247,9 +260,15 @@ fn datagram_of(setup: Setup) -> [u8; SETUP_BYTES]
     datagram
 }
 
-/// The receiver that a SETUP invites to the image with this number, which has met nothing.
-fn invited(alloc: Global, plan: &SubscribePlan, number: u64, setup: &Setup) -> ReceiverCore
-    ensures shown { Represents result (invited plan.now number (setup_of setup.now)) }
+/// The receiver that a SETUP invites to the image with this number, one of so many, which has met nothing.
+fn invited(
+    alloc: Global,
+    plan: &SubscribePlan,
+    number: u64,
+    share: u64,
+    setup: &Setup,
+) -> ReceiverCore
+    ensures shown { Represents result (invited plan.now number share (setup_of setup.now)) }
     ensures image { result.image ≡ None }
     ensures consumers { result.consumers ≡ 1 }
 {
@@ -257,23 +276,24 @@ fn invited(alloc: Global, plan: &SubscribePlan, number: u64, setup: &Setup) -> R
         alloc,
         setup.session,
         setup.stream,
-        window_in(setup),
+        window_in(share, setup),
         id_of(plan, number),
         1,
     )
 }
 
-/// The subscriber to the image with this number that a SETUP opens at a moment, in nanoseconds.
+/// The subscriber to the image with this number, one of so many, that a SETUP opens at a moment, in nanoseconds.
 pub fn opened(
     alloc: Global,
     plan: &SubscribePlan,
     number: u64,
+    share: u64,
     setup: &Setup,
     now: u64,
 ) -> Result<Subscriber, AllocError>
-    ensures { IfOk result (HasMet plan.now number (setup_of setup.now) now) }
+    ensures { IfOk result (HasMet plan.now number share (setup_of setup.now) now) }
 {
-    let core = invited(alloc, plan, number, setup);
+    let core = invited(alloc, plan, number, share, setup);
     let mut subscriber = Subscriber::new(alloc, core, GREATEST_MESSAGE);
     let datagram = datagram_of(*setup);
     subscriber.on_datagram(&datagram, now)?;

@@ -1,10 +1,11 @@
 //! What repeats a subscriber's last status message while its thread is held up.
 
-ghost use Rattle.std.specs.Prelude.{◌≡◌};
-ghost use Rattle.subscriber.specs.Repeats.{Repeats, RepeatsTheLast, Steps, given_again, held_by, holding_none};
+ghost use Rattle.std.specs.Prelude.{◌≡◌, length, replicate, IfOk};
+ghost use Rattle.subscriber.specs.Repeats.{Repeats, RepeatsTheLast, Steps, StepsAt, given_again, held_by, holding_none};
 
 use crate::images::session_device::{SentStatus, StatusNews};
 use peer::StatusSocket;
+use std::alloc::{AllocError, Global};
 use std::marker::Model;
 
 /// Nanoseconds after which a status message is sent again: one and a half of the intervals in which a subscriber sends one.
@@ -77,10 +78,10 @@ impl Repeater {
     }
 }
 
-/// A repeater with the socket by which it sends. Whoever has it can give it turns, and nothing else goes out.
+/// A repeater for each place, with the socket by which they send. Whoever has it can give them turns, and nothing else goes out.
 #[derive(Drop)]
 pub struct StatusRepeater {
-    repeater: Repeater,
+    repeaters: Vec<Repeater>,
     socket: StatusSocket,
 }
 
@@ -89,26 +90,43 @@ impl Model for StatusRepeater {
 
     ghost Value = { RepeatingBy };
 
-    ghost view = { λ r. record { repeating = r.repeater; socket = r.socket } };
+    ghost view = { λ r. record { repeating = r.repeaters.items; socket = r.socket } };
 }
 
 impl StatusRepeater {
-    /// One that was told of nothing yet, and sends by this socket.
-    pub fn new(socket: StatusSocket) -> StatusRepeater
-        ensures { result ≡ record { repeating = holding_none; socket = socket } }
+    /// Of so many places, none of which was told of anything yet, all of which send by this socket.
+    pub fn new(
+        alloc: Global,
+        places: usize,
+        socket: StatusSocket,
+    ) -> Result<StatusRepeater, AllocError>
+        ensures { IfOk result (λ r. r ≡ record { repeating = replicate places holding_none; socket = socket }) }
     {
-        StatusRepeater {
-            repeater: Repeater::new(),
-            socket,
+        let mut repeaters = Vec::new(alloc);
+        for _place in 0..places {
+            if repeaters.push(Repeater::new()).is_err() {
+                return Err(AllocError);
+            }
         }
+        Ok(StatusRepeater { repeaters, socket })
     }
 
-    /// A step at a moment, whose message goes to its peer. The answer is that message.
-    pub fn turn(&mut self, now: u64, news: Option<StatusNews>) -> Option<SentStatus>
-        ensures step { Steps now news self.old.repeating result self.new.repeating }
+    /// How many places there are.
+    pub(crate) fn places(&self) -> usize
+        ensures { result ≡ length self.now.repeating }
+    {
+        self.repeaters.len()
+    }
+
+    /// A step of a place at a moment, whose message goes to its peer. The answer is that message.
+    pub fn turn(&mut self, place: usize, now: u64, news: Option<StatusNews>) -> Option<SentStatus>
+        ensures step { StepsAt place now news self.old.repeating result self.new.repeating }
         ensures given { self.new.socket ≡ given_again self.old.socket result }
     {
-        let sent = self.repeater.step(now, news);
+        if place >= self.repeaters.len() {
+            return None;
+        }
+        let sent = self.repeaters[place].step(now, news);
         if let Some(status) = &sent {
             self.socket.send(status.to(), status.bytes());
         }

@@ -1,4 +1,4 @@
-use Rattle.std.proofs.Common.{◌∙◌, ⊎_elim, IsTrue, arith, inl, inr, subst, sym, Bool}
+use Rattle.std.proofs.Common.{⊎_elim, IsTrue, arith, inl, inr, subst, Bool}
 use Rattle.subscriber.specs.declared.ending.Ending.TheVariants.{Lost}
 use Rattle.commands.specs.Done.{IsSubscribed}
 use Rattle.commands.proofs.subscribe_command.subscribe_told.Goals as goal

@@ -6,7 +6,7 @@ use Rattle.subscriber.proofs.listening.setup_offer.opened.Goals as goal
 
 pub returns : goal.returns
 returns c =
-    let first = invited c.args.plan.now c.args.number (setup_of c.args.setup.now) in
+    let first = invited c.args.plan.now c.args.number c.args.share (setup_of c.args.setup.now) in
     let begun = c.new-subscriber.ensures.shown first c.invited-core.ensures.shown refl in
     let after = c.in_ok-on_datagram.ensures.heard first begun in
     let outcomes = c.in_ok-on_datagram.field-0.items in

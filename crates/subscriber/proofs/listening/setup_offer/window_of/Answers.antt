@@ -6,5 +6,5 @@ use Rattle.subscriber.proofs.listening.setup_offer.window_of.Goals as goal
 
 pub returns-clause-allowed : goal.returns-clause-allowed
 returns-clause-allowed c =
-    let value : c.max.result ≡ window_of c.args.term_length c.args.mtu = search rules in
-    λ term mtu. subst (λ (w : ℕ). IsWindow c.args.term_length c.args.mtu w) (sym value) (allowed c.args.term_length c.args.mtu term mtu)
+    let value : c.max-2.result ≡ window_of c.args.share c.args.term_length c.args.mtu = search rules in
+    λ term mtu. subst (λ (w : ℕ). IsWindow c.args.term_length c.args.mtu w) (sym value) (allowed c.args.share c.args.term_length c.args.mtu term mtu)

@@ -1,94 +1,154 @@
-use Rattle.std.proofs.Common.{◌∙◌, ◌≡◌, ap, subst, refl, sym}
+use Rattle.std.proofs.Common.{◌≡◌, ◌∙◌, ◌<◌, ◌≤◌, ℕ, List, ◌++◌, take, drop, map, length, ap, arith, subst, sym}
+use Rattle.std.proofs.lemmas.List.{length-map}
 use Rattle.std.proofs.lemmas.Result.{err_from_is_err_and}
-use Rattle.subscriber.proofs.Answered.{HasJudged, attended_answered, attended_judged, has_judged, same_answered, turn_ahead, turn_attended, turn_judged}
-use Rattle.subscriber.proofs.Breaking.{life_broken, life_kept}
-use Rattle.subscriber.proofs.Lived.{attended_life, life_on, told_life}
-use Rattle.subscriber.proofs.Looked.{looked_life}
-use Rattle.subscriber.proofs.Written.{writes_more}
-use Rattle.subscriber.specs.Living.{Follows}
-use Rattle.subscriber.specs.Watches.{JudgesEach, Seen}
+use Rattle.std.specs.List.{AllByRecursion, AllZip}
+use Rattle.subscriber.proofs.Chosen.{attended_everything}
+use Rattle.subscriber.proofs.Each.{zip_length}
+use Rattle.subscriber.proofs.Kept.{IsLookedAt, all_looked_kept, attended_kept, attended_sized, looked_ahead, looked_judged, looked_stood, told_kept, told_sized}
+use Rattle.subscriber.proofs.Placed.{follows_breaks, told_all}
+use Rattle.subscriber.proofs.Rounds.{attended_some, read_followed, read_length, read_sized}
+use Rattle.subscriber.proofs.Seated.{written_whole}
+use Rattle.subscriber.specs.Endings.{HasStood}
+use Rattle.subscriber.specs.Living.{FollowsAll}
+use Rattle.subscriber.specs.Places.{most_places}
+use Rattle.subscriber.specs.Sessions.{HasLooked, IsRouted, IsSized, news_told}
+use Rattle.subscriber.specs.Watches.{AttendsEach, JudgesEach}
 use Rattle.subscriber.specs.declared.images.session.Session.{Session}
+use Rattle.subscriber.proofs.Kept.{IsKept}
 use Rattle.subscriber.proofs.subscription.Subscription.follow.Goals as goal
-
-pub loop-preserved : goal.loop-preserved
-loop-preserved g c =
-    let begun : Session = record c.loop.sessions.session { watch = c.begin_turn.new.self } in
-    let now = c.read.new.self.session in
-    let read = c.read.ensures.kept in
-    let looked = c.in_ok-all.ensures in
-    let wrote = looked.writes in
-    let news = c.tell_news.ensures in
-    let attends = c.in_ok-attend.ensures.attends in
-    let size = ap (λ (j : Session). j.duty.mtu) news ∙ c.attend.ensures.size ∙ c.look.ensures.size in
-    let follows : Follows c.args.self.now.plan (g.W.Write.contents c.args.output.now) c.loop.written now.images now.follower (g.W.Write.contents c.loop.output) = told_life _ _ _ _ begun now _ read c.loop.invariant.3 in
-    let lived = looked_life _ _ _ _ _ _ now c.look.new.session c.look.ensures.images follows looked.lives in
-    let answered = same_answered begun now (ap (λ (j : Session). j.ended) read) (ap (λ (j : Session). j.follower.subscriber) read) c.loop.invariant.4 in
-    let attended = attended_answered _ _ _ c.attend.new.sessions.session attends (looked.answered answered) in
-    let judged = subst (λ (s : Seen). HasJudged s c.look.new.session.watch) (ap (λ (j : Session). j.watch) read) (has_judged _ _ _ c.look.new.session looked.judges) in
-    let watched = ap (λ (j : Session). j.watch) news in (
-      size,
-      wrote.0,
-      writes_more _ _ _ _ _ _ _ c.loop.invariant.2 wrote.1,
-      told_life _ _ _ _ c.attend.new.sessions.session c.tell_news.new.session _ news (attended_life _ _ _ _ _ _ _ attends lived),
-      same_answered c.attend.new.sessions.session c.tell_news.new.session (ap (λ (j : Session). j.ended) news) (ap (λ (j : Session). j.follower.subscriber) news) attended,
-      subst (λ (s : Seen). s.turns ≡ s.attended) (sym watched) (turn_attended _ _ c.loop.sessions.session.watch c.begin_turn.new.self _ _ c.attend.new.sessions.session c.loop.invariant.5 c.begin_turn.ensures judged attends),
-      subst JudgesEach (sym watched) (attended_judged _ _ _ c.attend.new.sessions.session (turn_judged c.loop.sessions.session.watch c.begin_turn.new.self _ _ c.loop.invariant.6 c.begin_turn.ensures judged) attends),
-    )
-
-pub returns-in-Some-ending_of-clause-writes : goal.returns-in-Some-ending_of-clause-writes
-returns-in-Some-ending_of-clause-writes g c = writes_more _ _ _ _ _ _ _ c.loop.invariant.2 c.in_ok-all.ensures.writes.1
-
-pub returns-in-Some-ending_of-clause-ended : goal.returns-in-Some-ending_of-clause-ended
-returns-in-Some-ending_of-clause-ended g c =
-    let begun : Session = record c.loop.sessions.session { watch = c.begin_turn.new.self } in
-    let read = c.read.ensures.kept in
-    let answered = same_answered begun c.read.new.self.session (ap (λ (j : Session). j.ended) read) (ap (λ (j : Session). j.follower.subscriber) read) c.loop.invariant.4 in
-    record {
-      stand = c.in_ok-all.stand;
-      stands = c.in_ok-all.ensures.stands;
-      ending = c.in-Some-ending_of.ensures;
-      answered = λ all. c.in_ok-all.ensures.answered answered (c.in_ok-all.ensures.still all);
-    }
-
-pub returns-in-Some-ending_of-clause-attended : goal.returns-in-Some-ending_of-clause-attended
-returns-in-Some-ending_of-clause-attended g c =
-    let judged = subst (λ (s : Seen). HasJudged s c.look.new.session.watch) (ap (λ (j : Session). j.watch) c.read.ensures.kept) (has_judged _ _ _ c.look.new.session c.in_ok-all.ensures.judges) in
-    turn_ahead c.loop.sessions.session.watch c.begin_turn.new.self _ _ c.loop.invariant.5 c.begin_turn.ensures judged
-
-pub returns-in-Some-ending_of-clause-judged : goal.returns-in-Some-ending_of-clause-judged
-returns-in-Some-ending_of-clause-judged g c =
-    let judged = subst (λ (s : Seen). HasJudged s c.look.new.session.watch) (ap (λ (j : Session). j.watch) c.read.ensures.kept) (has_judged _ _ _ c.look.new.session c.in_ok-all.ensures.judges) in
-    turn_judged c.loop.sessions.session.watch c.begin_turn.new.self _ _ c.loop.invariant.6 c.begin_turn.ensures judged
-
-pub returns-in-Some-ending_of-clause-lives : goal.returns-in-Some-ending_of-clause-lives
-returns-in-Some-ending_of-clause-lives g c =
-    let begun : Session = record c.loop.sessions.session { watch = c.begin_turn.new.self } in
-    let now = c.read.new.self.session in
-    let follows : Follows c.args.self.now.plan (g.W.Write.contents c.args.output.now) c.loop.written now.images now.follower (g.W.Write.contents c.loop.output) = told_life _ _ _ _ begun now _ c.read.ensures.kept c.loop.invariant.3 in
-    looked_life _ _ _ _ _ _ now c.look.new.session c.look.ensures.images follows c.in_ok-all.ensures.lives
 
 pub returns-in_err-see-clause-broken : goal.returns-in_err-see-clause-broken
 returns-in_err-see-clause-broken g c =
     let p = err_from_is_err_and c.from_residual.result c.from_residual.ensures.1 in
-    rw p.1 (life_kept _ _ _ _ _ _ _ refl c.loop.invariant.3.life)
+    rw p.1 (follows_breaks c.args.self.now.plan _ _ _ c.loop.sessions.list.items c.loop.invariant.places c.loop.invariant.lives)
 
 pub returns-in_err-passed-clause-broken : goal.returns-in_err-passed-clause-broken
 returns-in_err-passed-clause-broken g c =
     let p = err_from_is_err_and c.from_residual-in_err-passed.result c.from_residual-in_err-passed.ensures.1 in
-    rw p.1 (life_kept _ _ _ _ _ _ _ (ap (λ (j : Session). j.follower.subscriber) c.read.ensures.kept) c.loop.invariant.3.life)
+    rw p.1 (follows_breaks c.args.self.now.plan _ _ _ c.loop.sessions.list.items c.loop.invariant.places c.loop.invariant.lives)
+
+pub look_at_each-requires-clause-size : goal.look_at_each-requires-clause-size
+look_at_each-requires-clause-size g c =
+    let value = c.as_mut_slice-list.ensures.value in
+    subst (AllByRecursion IsSized) (sym value) (read_sized _ c.loop.sessions.list.items c.begin_turn.new.self.list.items c.read.new.self.list.items c.begin_turn.ensures.each c.read.ensures.kept c.loop.invariant.size)
 
 pub returns-in_err-all-clause-broken : goal.returns-in_err-all-clause-broken
 returns-in_err-all-clause-broken g c =
-    let begun : Session = record c.loop.sessions.session { watch = c.begin_turn.new.self } in
-    let now = c.read.new.self.session in
-    let follows : Follows c.args.self.now.plan (g.W.Write.contents c.args.output.now) c.loop.written now.images now.follower (g.W.Write.contents c.loop.output) = told_life _ _ _ _ begun now _ c.read.ensures.kept c.loop.invariant.3 in
+    let plan = c.args.self.now.plan in
+    let value = c.as_mut_slice-list.ensures.value in
+    let read : AllZip IsRouted c.begin_turn.new.self.list.items c.as_mut_slice-list.result.now = subst (AllZip IsRouted c.begin_turn.new.self.list.items) (sym value) c.read.ensures.kept in
+    let same = read_length _ c.loop.sessions.list.items _ _ c.begin_turn.ensures.each read in
     let p = err_from_is_err_and c.from_residual-in_err-all.result c.from_residual-in_err-all.ensures.1 in
-    rw p.1 (life_broken _ _ _ _ _ _ _ _ follows.life c.in_err-all.ensures.broken)
+    rw p.1 (c.in_err-all.ensures.broken (g.W.Write.contents c.args.output.now) (subst (λ (n : ℕ). n ≤ most_places plan) (sym same) c.loop.invariant.places)
+    (read_followed plan (g.W.Write.contents c.args.output.now) (g.W.Write.contents c.loop.output) c.loop.written _ c.loop.sessions.list.items _ _ c.begin_turn.ensures.each read c.loop.invariant.lives))
+
+pub returns-in-Some-ending_of-clause-some : goal.returns-in-Some-ending_of-clause-some
+returns-in-Some-ending_of-clause-some g c =
+    let value = c.as_mut_slice-list.ensures.value in
+    let zipped = zip_length HasLooked c.as_mut_slice-list.result.now c.look_at_each.new.sessions c.in_ok-all.ensures.looked in
+    let whole = written_whole c.read.new.self.list.items c.look_at_each.new.sessions c.read.new.self.list.len c.read.new.self.list.ok.0 (zipped ∙ ap length value) in
+    let same = read_length _ c.loop.sessions.list.items _ _ c.begin_turn.ensures.each c.read.ensures.kept in
+    subst (λ (zs : List Session). 0 < length zs) (sym whole) (subst (λ (n : ℕ). 0 < n) (sym (zipped ∙ ap length value ∙ same)) c.loop.invariant.some)
+
+pub returns-in-Some-ending_of-clause-places : goal.returns-in-Some-ending_of-clause-places
+returns-in-Some-ending_of-clause-places g c =
+    let plan = c.args.self.now.plan in
+    let value = c.as_mut_slice-list.ensures.value in
+    let zipped = zip_length HasLooked c.as_mut_slice-list.result.now c.look_at_each.new.sessions c.in_ok-all.ensures.looked in
+    let whole = written_whole c.read.new.self.list.items c.look_at_each.new.sessions c.read.new.self.list.len c.read.new.self.list.ok.0 (zipped ∙ ap length value) in
+    let same = read_length _ c.loop.sessions.list.items _ _ c.begin_turn.ensures.each c.read.ensures.kept in
+    subst (λ (zs : List Session). length zs ≤ most_places plan) (sym whole) (subst (λ (n : ℕ). n ≤ most_places plan) (sym (zipped ∙ ap length value ∙ same)) c.loop.invariant.places)
+
+pub returns-in-Some-ending_of-clause-stood : goal.returns-in-Some-ending_of-clause-stood
+returns-in-Some-ending_of-clause-stood g c =
+    let value = c.as_mut_slice-list.ensures.value in
+    let read : AllZip IsRouted c.begin_turn.new.self.list.items c.as_mut_slice-list.result.now = subst (AllZip IsRouted c.begin_turn.new.self.list.items) (sym value) c.read.ensures.kept in
+    let looked = all_looked_kept _ c.loop.sessions.list.items _ _ c.look_at_each.new.sessions c.loop.invariant.kept c.begin_turn.ensures.each read c.in_ok-all.ensures.looked in
+    let zipped = zip_length HasLooked c.as_mut_slice-list.result.now c.look_at_each.new.sessions c.in_ok-all.ensures.looked in
+    let whole = written_whole c.read.new.self.list.items c.look_at_each.new.sessions c.read.new.self.list.len c.read.new.self.list.ok.0 (zipped ∙ ap length value) in
+    subst (AllByRecursion HasStood) (sym whole) (looked_stood _ looked)
+
+pub returns-in-Some-ending_of-clause-attended : goal.returns-in-Some-ending_of-clause-attended
+returns-in-Some-ending_of-clause-attended g c =
+    let value = c.as_mut_slice-list.ensures.value in
+    let read : AllZip IsRouted c.begin_turn.new.self.list.items c.as_mut_slice-list.result.now = subst (AllZip IsRouted c.begin_turn.new.self.list.items) (sym value) c.read.ensures.kept in
+    let looked = all_looked_kept _ c.loop.sessions.list.items _ _ c.look_at_each.new.sessions c.loop.invariant.kept c.begin_turn.ensures.each read c.in_ok-all.ensures.looked in
+    let zipped = zip_length HasLooked c.as_mut_slice-list.result.now c.look_at_each.new.sessions c.in_ok-all.ensures.looked in
+    let whole = written_whole c.read.new.self.list.items c.look_at_each.new.sessions c.read.new.self.list.len c.read.new.self.list.ok.0 (zipped ∙ ap length value) in
+    subst (AllByRecursion (λ (j : Session). AttendsEach j.watch)) (sym whole) (looked_ahead _ looked)
+
+pub returns-in-Some-ending_of-clause-judged : goal.returns-in-Some-ending_of-clause-judged
+returns-in-Some-ending_of-clause-judged g c =
+    let value = c.as_mut_slice-list.ensures.value in
+    let read : AllZip IsRouted c.begin_turn.new.self.list.items c.as_mut_slice-list.result.now = subst (AllZip IsRouted c.begin_turn.new.self.list.items) (sym value) c.read.ensures.kept in
+    let looked = all_looked_kept _ c.loop.sessions.list.items _ _ c.look_at_each.new.sessions c.loop.invariant.kept c.begin_turn.ensures.each read c.in_ok-all.ensures.looked in
+    let zipped = zip_length HasLooked c.as_mut_slice-list.result.now c.look_at_each.new.sessions c.in_ok-all.ensures.looked in
+    let whole = written_whole c.read.new.self.list.items c.look_at_each.new.sessions c.read.new.self.list.len c.read.new.self.list.ok.0 (zipped ∙ ap length value) in
+    subst (AllByRecursion (λ (j : Session). JudgesEach j.watch)) (sym whole) (looked_judged _ looked)
+
+pub returns-in-Some-ending_of-clause-lives : goal.returns-in-Some-ending_of-clause-lives
+returns-in-Some-ending_of-clause-lives g c =
+    let plan = c.args.self.now.plan in
+    let value = c.as_mut_slice-list.ensures.value in
+    let read : AllZip IsRouted c.begin_turn.new.self.list.items c.as_mut_slice-list.result.now = subst (AllZip IsRouted c.begin_turn.new.self.list.items) (sym value) c.read.ensures.kept in
+    let follows = read_followed plan (g.W.Write.contents c.args.output.now) (g.W.Write.contents c.loop.output) c.loop.written _ c.loop.sessions.list.items _ _ c.begin_turn.ensures.each read c.loop.invariant.lives in
+    let zipped = zip_length HasLooked c.as_mut_slice-list.result.now c.look_at_each.new.sessions c.in_ok-all.ensures.looked in
+    let whole = written_whole c.read.new.self.list.items c.look_at_each.new.sessions c.read.new.self.list.len c.read.new.self.list.ok.0 (zipped ∙ ap length value) in
+    subst (λ (zs : List Session). FollowsAll plan (g.W.Write.contents c.args.output.now) c.in_ok-all.all zs (g.W.Write.contents c.look_at_each.new.output)) (sym whole)
+    (c.in_ok-all.ensures.lives (g.W.Write.contents c.args.output.now) follows)
+
+pub attend-requires-clause-few : goal.attend-requires-clause-few
+attend-requires-clause-few g c =
+    let plan = c.args.self.now.plan in
+    let value = c.as_mut_slice-list.ensures.value in
+    let zipped = zip_length HasLooked c.as_mut_slice-list.result.now c.look_at_each.new.sessions c.in_ok-all.ensures.looked in
+    let whole = written_whole c.read.new.self.list.items c.look_at_each.new.sessions c.read.new.self.list.len c.read.new.self.list.ok.0 (zipped ∙ ap length value) in
+    let same = read_length _ c.loop.sessions.list.items _ _ c.begin_turn.ensures.each c.read.ensures.kept in
+    let asked : c.ask_each.new.sessions.list.items ≡ c.look_at_each.new.sessions = ap (λ l. l.items) c.ask_each.ensures ∙ whole in
+    subst (λ (zs : List Session). length zs ≤ most_places plan) (sym asked) (subst (λ (n : ℕ). n ≤ most_places plan) (sym (zipped ∙ ap length value ∙ same)) c.loop.invariant.places)
 
 pub returns-in_err-attend-clause-broken : goal.returns-in_err-attend-clause-broken
 returns-in_err-attend-clause-broken g c =
-    let begun : Session = record c.loop.sessions.session { watch = c.begin_turn.new.self } in
-    let now = c.read.new.self.session in
-    let follows : Follows c.args.self.now.plan (g.W.Write.contents c.args.output.now) c.loop.written now.images now.follower (g.W.Write.contents c.loop.output) = told_life _ _ _ _ begun now _ c.read.ensures.kept c.loop.invariant.3 in
+    let plan = c.args.self.now.plan in
+    let value = c.as_mut_slice-list.ensures.value in
+    let read : AllZip IsRouted c.begin_turn.new.self.list.items c.as_mut_slice-list.result.now = subst (AllZip IsRouted c.begin_turn.new.self.list.items) (sym value) c.read.ensures.kept in
+    let follows = read_followed plan (g.W.Write.contents c.args.output.now) (g.W.Write.contents c.loop.output) c.loop.written _ c.loop.sessions.list.items _ _ c.begin_turn.ensures.each read c.loop.invariant.lives in
+    let zipped = zip_length HasLooked c.as_mut_slice-list.result.now c.look_at_each.new.sessions c.in_ok-all.ensures.looked in
+    let same = read_length _ c.loop.sessions.list.items _ _ c.begin_turn.ensures.each read in
     let p = err_from_is_err_and c.from_residual-in_err-attend.result c.from_residual-in_err-attend.ensures.1 in
-    rw p.1 (life_kept _ _ _ _ _ _ _ c.in_err-attend.ensures.kept (life_on _ _ _ _ _ _ _ _ _ follows.life c.in_ok-all.ensures.lives.acts))
+    rw p.1 (follows_breaks plan (g.W.Write.contents c.args.output.now) (g.W.Write.contents c.look_at_each.new.output) c.in_ok-all.all c.look_at_each.new.sessions
+    (subst (λ (n : ℕ). n ≤ most_places plan) (sym (zipped ∙ same)) c.loop.invariant.places)
+    (c.in_ok-all.ensures.lives (g.W.Write.contents c.args.output.now) follows))
+
+pub loop-preserved : goal.loop-preserved
+loop-preserved g c =
+    let plan = c.args.self.now.plan in
+    let value = c.as_mut_slice-list.ensures.value in
+    let read : AllZip IsRouted c.begin_turn.new.self.list.items c.as_mut_slice-list.result.now = subst (AllZip IsRouted c.begin_turn.new.self.list.items) (sym value) c.read.ensures.kept in
+    let follows = read_followed plan (g.W.Write.contents c.args.output.now) (g.W.Write.contents c.loop.output) c.loop.written _ c.loop.sessions.list.items _ _ c.begin_turn.ensures.each read c.loop.invariant.lives in
+    let looked = all_looked_kept _ c.loop.sessions.list.items _ _ c.look_at_each.new.sessions c.loop.invariant.kept c.begin_turn.ensures.each read c.in_ok-all.ensures.looked in
+    let zipped = zip_length HasLooked c.as_mut_slice-list.result.now c.look_at_each.new.sessions c.in_ok-all.ensures.looked in
+    let whole = written_whole c.read.new.self.list.items c.look_at_each.new.sessions c.read.new.self.list.len c.read.new.self.list.ok.0 (zipped ∙ ap length value) in
+    let same = read_length _ c.loop.sessions.list.items _ _ c.begin_turn.ensures.each read in
+    let asked : c.look_at_each.new.sessions ≡ c.ask_each.new.sessions.list.items = sym (ap (λ l. l.items) c.ask_each.ensures ∙ whole) in
+    let attends = c.in_ok-attend.ensures.attends in
+    let some : 0 < length c.ask_each.new.sessions.list.items = subst (λ (zs : List Session). 0 < length zs) asked (subst (λ (n : ℕ). 0 < n) (sym (zipped ∙ same)) c.loop.invariant.some) in
+    let lived = subst (λ (zs : List Session). FollowsAll plan (g.W.Write.contents c.args.output.now) c.in_ok-all.all zs (g.W.Write.contents c.look_at_each.new.output)) asked
+        (c.in_ok-all.ensures.lives (g.W.Write.contents c.args.output.now) follows) in
+    let called : c.attend.new.sessions.list.items ≡ c.ask_caller.new.sessions.list.items = sym (ap (λ l. l.items) c.ask_caller.ensures.same) in
+    let told : c.tell_news.new.sessions ≡ map news_told c.ask_caller.new.sessions.list.items = c.tell_news.ensures ∙ ap (map news_told) c.as_mut_slice.ensures.value in
+    let size = ap length told ∙ length-map c.ask_caller.new.sessions.list.items news_told in
+    let last = written_whole c.ask_caller.new.sessions.list.items c.tell_news.new.sessions c.ask_caller.new.sessions.list.len c.ask_caller.new.sessions.list.ok.0 size in
+    let rest = sym last in
+    let kept = attended_kept plan _ _ c.ask_each.new.sessions.list.items c.attend.new.sessions.list.items (subst (AllByRecursion IsLookedAt) asked looked) attends in
+    let sized = attended_sized plan _ _ c.ask_each.new.sessions.list.items c.attend.new.sessions.list.items (subst (AllByRecursion IsSized) asked c.look_at_each.ensures.size) attends in
+    let held = attended_everything plan (g.W.Write.contents c.args.output.now) (g.W.Write.contents c.look_at_each.new.output) c.in_ok-all.all _ _ c.ask_each.new.sessions.list.items c.attend.new.sessions.list.items attends lived in
+    record {
+      size = subst (AllByRecursion IsSized) rest (told_sized _ _ (subst (AllByRecursion IsSized) called sized) told);
+      some = subst (λ (zs : List Session). 0 < length zs) rest (subst (λ (n : ℕ). 0 < n) (sym (size ∙ sym (ap length called))) (attended_some plan _ _ c.ask_each.new.sessions.list.items c.attend.new.sessions.list.items attends some));
+      places = subst (λ (zs : List Session). length zs ≤ most_places plan) rest (subst (λ (n : ℕ). n ≤ most_places plan) (sym (size ∙ sym (ap length called))) c.in_ok-attend.ensures.few);
+      few = c.in_ok-all.ensures.few;
+      kept = subst (AllByRecursion IsKept) rest (told_kept _ _ (subst (AllByRecursion IsKept) called kept) told);
+      lives = subst (λ (zs : List Session). FollowsAll plan (g.W.Write.contents c.args.output.now) c.in_ok-all.all zs (g.W.Write.contents c.look_at_each.new.output)) rest
+          (told_all plan _ _ _ _ _ told (subst (λ (zs : List Session). FollowsAll plan (g.W.Write.contents c.args.output.now) c.in_ok-all.all zs (g.W.Write.contents c.look_at_each.new.output)) called held));
+    }

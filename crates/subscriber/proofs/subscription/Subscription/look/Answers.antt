@@ -5,19 +5,22 @@ use Rattle.receiver.specs.Lives.{Lives}
 use Rattle.subscriber.specs.Answering.{IsTicked}
 use Rattle.subscriber.specs.Leavings.{ListensOn, LivesUnpolled, NotesHeard, NotesWork}
 use Rattle.subscriber.specs.Living.{LivesOn, WritesActs}
+use Rattle.subscriber.specs.Losing.{JudgesTurn}
 use Rattle.subscriber.specs.Standing.{Stands}
 use Rattle.subscriber.specs.Watches.{IsWithinTurn}
 use Rattle.subscriber.proofs.Answered.{ends_answered, same_answered, ticked_at, within_on}
 use Rattle.subscriber.proofs.Looked.{acts_broken, heard_noted, listened_on, noted_same, same_else, unpolled_broken}
 use Rattle.subscriber.proofs.subscription.Subscription.look.Goals as goal
 
-pub returns-clause-judges : goal.returns-clause-judges
-returns-clause-judges g c =
+pub returns-clause-looked : goal.returns-clause-looked
+returns-clause-looked g c =
     let once = c.cycle_once.new.session in
     let cycled = c.note_kept.new.self in
     let noted = c.note_kept.ensures.same in
     let told = c.tell_silence.ensures.same in
     let acts = c.in_ok-all.ensures.lives.acts in
+    let lost = c.tell_loss.ensures.same in
+    let judged : JudgesTurn c.args.watch.now c.args.session.now (record c.tell_loss.new.self { stood = c.in_ok-stand.stand }) c.check_works.new.watch =
     record {
       cycled = cycled;
       cycle = record {
@@ -41,7 +44,20 @@ returns-clause-judges g c =
           (within_on _ once.watch _ c.cycle_once.ensures.turn (within_on _ cycled.watch _ c.note_kept.ensures.turn c.answer_end.ensures.turn));
       still = subst (λ (j : Session). IsTrue j.watch.noted) (sym told) (heard_noted _ _ cycled.watch c.answer_end.new.self.watch c.in_ok-stand.ensures.heard c.note_kept.ensures.noted);
       judges = c.tell_loss.ensures.noted;
-      kept_else = c.tell_loss.ensures.same;
+      kept_else = ap (λ (j : Session). record j { stood = c.in_ok-stand.stand }) c.tell_loss.ensures.same;
+    } in
+    record {
+      before = c.args.watch.now;
+      behind = c.check_works.new.watch;
+      judges = judged;
+      stands = subst (λ (j : Session). Stands j.follower.subscriber j.follower.end c.in_ok-stand.stand) (sym lost)
+          (subst (λ (j : Session). Stands j.follower.subscriber j.follower.end c.in_ok-stand.stand) (sym told) c.in_ok-stand.ensures.answers.stands);
+      still = λ all. subst (λ (j : Session). IsTrue j.ended) (sym lost) (subst (λ (j : Session). IsTrue j.ended) (sym told) (c.in_ok-stand.ensures.answers.still all));
+      answered = λ before. same_answered c.answer_end.new.self c.tell_loss.new.self (ap (λ (j : Session). j.ended) lost ∙ ap (λ (j : Session). j.ended) told) (ap (λ (j : Session). j.follower.subscriber) lost ∙ ap (λ (j : Session). j.follower.subscriber) told)
+          (ends_answered _ _ _ _ _ _ c.args.session.now c.note_kept.new.self c.answer_end.new.self _ (ap (λ (j : Session). j.ended) noted ∙ ap (λ (j : Session). j.ended) c.cycle_once.ensures.same)
+          (subst (λ (j : Session). WritesActs c.args.self.now.plan.end.form c.args.written c.args.session.now.follower.subscriber (g.W.Write.contents c.args.output.now) c.in_ok-all.all j.follower.subscriber (g.W.Write.contents c.cycle_once.new.output)) (sym noted) c.in_ok-all.ensures.lives.acts)
+          (ticked_at c.note_kept.new.self.follower.subscriber _ _ (c.note_kept.ensures.moment ∙ c.cycle_once.ensures.moment) (subst (λ (j : Session). IsTicked c.args.session.now.watch.moment j.follower.subscriber) (sym noted) c.in_ok-all.ensures.ticked))
+          c.answer_end.ensures.unpolled c.in_ok-stand.ensures.answers before);
     }
 
 pub returns-clause-lives : goal.returns-clause-lives
@@ -50,22 +66,6 @@ returns-clause-lives g c =
     (subst (λ (j : Session). LivesOn c.args.self.now.plan.end.form c.args.written c.args.session.now.follower (g.W.Write.contents c.args.output.now) c.in_ok-all.all j.follower (g.W.Write.contents c.cycle_once.new.output)) (sym (c.tell_silence.ensures.same))
     (listened_on _ _ _ _ _ _ _ _ c.in_ok-all.ensures.lives
     (subst (λ (j : Session). ListensOn j.follower c.answer_end.new.self.follower) c.note_kept.ensures.same c.in_ok-stand.ensures.listens)))
-
-pub returns-clause-stands : goal.returns-clause-stands
-returns-clause-stands g c =
-    subst (λ (j : Session). Stands j.follower.subscriber j.follower.end c.in_ok-stand.stand) (sym c.tell_loss.ensures.same)
-    (subst (λ (j : Session). Stands j.follower.subscriber j.follower.end c.in_ok-stand.stand) (sym c.tell_silence.ensures.same) c.in_ok-stand.ensures.answers.stands)
-
-pub returns-clause-answered : goal.returns-clause-answered
-returns-clause-answered g c =
-    let told = c.tell_silence.ensures.same in
-    let lost = c.tell_loss.ensures.same in
-    let noted = c.note_kept.ensures.same in
-    λ before. same_answered c.answer_end.new.self c.tell_loss.new.self (ap (λ (j : Session). j.ended) lost ∙ ap (λ (j : Session). j.ended) told) (ap (λ (j : Session). j.follower.subscriber) lost ∙ ap (λ (j : Session). j.follower.subscriber) told)
-    (ends_answered _ _ _ _ _ _ c.args.session.now c.note_kept.new.self c.answer_end.new.self _ (ap (λ (j : Session). j.ended) noted ∙ ap (λ (j : Session). j.ended) c.cycle_once.ensures.same)
-    (subst (λ (j : Session). WritesActs c.args.self.now.plan.end.form c.args.written c.args.session.now.follower.subscriber (g.W.Write.contents c.args.output.now) c.in_ok-all.all j.follower.subscriber (g.W.Write.contents c.cycle_once.new.output)) (sym noted) c.in_ok-all.ensures.lives.acts)
-    (ticked_at c.note_kept.new.self.follower.subscriber _ _ (c.note_kept.ensures.moment ∙ c.cycle_once.ensures.moment) (subst (λ (j : Session). IsTicked c.args.session.now.watch.moment j.follower.subscriber) (sym noted) c.in_ok-all.ensures.ticked))
-    c.answer_end.ensures.unpolled c.in_ok-stand.ensures.answers before)
 
 pub returns-in_err-check_works-clause-broken : goal.returns-in_err-check_works-clause-broken
 returns-in_err-check_works-clause-broken g c =

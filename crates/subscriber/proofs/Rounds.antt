@@ -1,0 +1,49 @@
+-- A turn of a subscriber, from its begin to its end, over all sessions.
+use Rattle.std.proofs.Common.{◌≡◌, ◌≢◌, ◌∙◌, ◌<◌, ◌≤◌, ◌+◌, ◌⊎◌, ℕ, List, [], ◌∷◌, ◌++◌, map, length, Option, None, Some, inl, inr, ap, sym, subst, arith, length-append}
+use Rattle.std.proofs.lemmas.List.{length-map}
+use Rattle.std.specs.List.{AllByRecursion, AllZip}
+use Rattle.options.specs.declared.ends.plans.SubscribePlan.{SubscribePlan}
+use Rattle.peer.specs.Ties.{Offer}
+use Rattle.subscriber.proofs.Each.{zip_length}
+use Rattle.subscriber.proofs.Kept.{begun_sized, routed_sized}
+use Rattle.subscriber.proofs.Placed.{begun_all, routed_all}
+use Rattle.subscriber.specs.Choosing.{AttendsAll, AttendsOther, ChangesAt, GoesTo, IsPlaced, Joins}
+use Rattle.subscriber.specs.Living.{FollowsAll}
+use Rattle.subscriber.specs.Sessions.{IsRouted, IsSized, share_of, turn_begun}
+use Rattle.subscriber.specs.Turning.{AttendsOwn}
+use Rattle.subscriber.specs.declared.images.session.Session.{Session}
+use Rattle.subscriber.specs.declared.listening.setup_offer.SetupOffer.{SetupOffer}
+use Rattle.subscriber.specs.declared.subscription.offers.Chosen.{Chosen}
+use Rattle.subscriber.specs.declared.subscription.offers.Chosen.TheVariants as chosen
+
+-- ---- the begin
+
+pub read_followed : (plan : SubscribePlan) (a b : Option (List ℕ)) (n now : ℕ) (xs ys zs : List Session) → ys ≡ map (turn_begun now) xs → AllZip IsRouted ys zs → FollowsAll plan a n xs b → FollowsAll plan a n zs b
+read_followed plan a b n now xs ys zs begins reads follows = routed_all plan a b n ys zs reads (begun_all plan a b n now xs ys begins follows)
+
+pub read_sized : (now : ℕ) (xs ys zs : List Session) → ys ≡ map (turn_begun now) xs → AllZip IsRouted ys zs → AllByRecursion IsSized xs → AllByRecursion IsSized zs
+read_sized now xs ys zs begins reads sized = routed_sized ys zs (begun_sized now xs ys sized begins) reads
+
+pub read_length : (now : ℕ) (xs ys zs : List Session) → ys ≡ map (turn_begun now) xs → AllZip IsRouted ys zs → length zs ≡ length xs
+read_length now xs ys zs begins reads = zip_length IsRouted ys zs reads ∙ ap length begins ∙ length-map xs (turn_begun now)
+
+-- ---- what came of SETUPs
+
+changed_some : (place : ℕ) (R : Session → Session → Type 0) (xs ys : List Session) → ChangesAt place R xs ys → 0 < length ys
+changed_some place R xs ys h = let size = ap length h.is ∙ length-append h.front (h.behind ∷ h.back) in omega (arith, size)
+
+goes_some : (plan : SubscribePlan) (m : SetupOffer) (moment : ℕ) (c : Chosen) (xs ys : List Session) → GoesTo plan m moment c xs ys → 0 < length ys
+goes_some plan m moment (chosen.Own place) xs ys h = changed_some place _ xs ys h
+goes_some plan m moment (chosen.Given place) xs ys h = changed_some place _ xs ys h
+goes_some plan m moment chosen.Further xs ys h = let size = ap length h.is ∙ length-append xs (h.session ∷ []) in omega (arith, size)
+goes_some plan m moment chosen.Nowhere xs ys h = changed_some 0 _ xs ys h
+
+other_some : (plan : SubscribePlan) (moment : ℕ) (offer : Offer) (xs ys : List Session) → AttendsOther plan moment offer xs ys → 0 < length xs → 0 < length ys
+other_some plan moment None xs ys h some = subst (λ (zs : List Session). 0 < length zs) (sym h) some
+other_some plan moment (Some offer) xs ys (inl h) some = subst (λ (zs : List Session). 0 < length zs) (sym h.1) some
+other_some plan moment (Some offer) xs ys (inr h) some = goes_some plan h.0 moment h.2.chosen xs ys h.2.goes
+
+pub attended_some : (plan : SubscribePlan) (moment : ℕ) (offer : Offer) (xs ys : List Session) → AttendsAll plan moment offer xs ys → 0 < length xs → 0 < length ys
+attended_some plan moment offer xs ys h some =
+    let same = zip_length (λ (j k : Session). AttendsOwn plan (share_of xs j) j k) xs h.middle h.own in
+    other_some plan moment offer h.middle ys h.others (omega (arith, same, some))
