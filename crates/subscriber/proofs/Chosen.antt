@@ -76,7 +76,7 @@ joined_further plan a b n moment from f m xs ys meeting joins h =
     let few : length xs ≤ length xs + 1 = omega arith in
     let share : open_count xs + 1 ≤ length xs + 1 = omega (arith, open_few xs) in
     let life : FollowsAt plan (length xs + 1) (length xs) joins.session.images joins.session.follower [] =
-      joined_life plan (length xs + 1) (length xs) (open_count xs + 1) moment m joins.session (omega arith) share meeting.opens joins.joined in
+    joined_life plan (length xs + 1) (length xs) (open_count xs + 1) moment m joins.session (omega arith) share meeting.opens joins.joined in
     let none : of_place (length xs) h.given ≡ [] = none_above (length xs) (length xs) h.given (omega arith) h.known in
     subst (λ zs. FollowsAll plan a n zs b) (sym joins.is) (record {
       given = h.given;

@@ -63,10 +63,10 @@ all_at_place P place R xs ys step c all =
 
 -- a fact of each that a SETUP leaves, and that one that joins has
 module _ (P : Session → Type 0)
-  (turned : (plan : SubscribePlan) (share : ℕ) (m : SetupOffer) (j k : Session) → Turns plan share m j k → P j → P k)
-  (replaced : (plan : SubscribePlan) (share : ℕ) (m : SetupOffer) (j k : Session) → Replaces plan share m j k → P j → P k)
-  (warned : (m : SetupOffer) (j k : Session) → Warns m j k → P j → P k)
-  (joined : (plan : SubscribePlan) (place share moment : ℕ) (m : SetupOffer) (j : Session) → IsJoinedBy plan place share moment m j → P j) where
+    (turned : (plan : SubscribePlan) (share : ℕ) (m : SetupOffer) (j k : Session) → Turns plan share m j k → P j → P k)
+    (replaced : (plan : SubscribePlan) (share : ℕ) (m : SetupOffer) (j k : Session) → Replaces plan share m j k → P j → P k)
+    (warned : (m : SetupOffer) (j k : Session) → Warns m j k → P j → P k)
+    (joined : (plan : SubscribePlan) (place share moment : ℕ) (m : SetupOffer) (j : Session) → IsJoinedBy plan place share moment m j → P j) where
   all_gone : (plan : SubscribePlan) (moment : ℕ) (m : SetupOffer) (chosen : Chosen) (xs ys : List Session) → GoesTo plan m moment chosen xs ys → AllByRecursion P xs → AllByRecursion P ys
   all_gone plan moment m (Own place) xs ys goes all =
       all_at_place P place (λ (j k : Session). Turns plan (share_of xs j) m j k) xs ys (λ j k. turned plan (share_of xs j) m j k) goes all

@@ -46,12 +46,12 @@ given_within plan m xs i (none, is) =
     elim is [
       | inl over ↦ first_within _ xs i over
       | inr other ↦ elim other.1.1 [
-          | inl ended ↦ first_within _ xs i ended
-          | inr rest ↦ elim rest.1 [
-              | inl oldest ↦ within oldest.1.front oldest.1.back oldest.1.here xs i oldest.1.parts oldest.1.at
-              | inr silent ↦ first_within _ xs i silent.1
-            ]
+        | inl ended ↦ first_within _ xs i ended
+        | inr rest ↦ elim rest.1 [
+          | inl oldest ↦ within oldest.1.front oldest.1.back oldest.1.here xs i oldest.1.parts oldest.1.at
+          | inr silent ↦ first_within _ xs i silent.1
         ]
+      ]
     ]
 
 -- a list that was written whole
@@ -68,7 +68,7 @@ pub attended : (plan : SubscribePlan) (moment len : ℕ) (other taken : Offer) (
     → (take len (middle ++ drop (length middle) old) ≡ middle → AttendsOther plan moment taken middle new) → AttendsAll plan moment other old new
 attended plan moment len other taken old began middle new is value own gives comes =
     let here : AllZip (λ (j k : Session). AttendsOwn plan (share_of old j) j k) old middle =
-        subst (λ (xs : List Session). AllZip (λ (j k : Session). AttendsOwn plan (share_of xs j) j k) xs middle) value own in
+    subst (λ (xs : List Session). AllZip (λ (j k : Session). AttendsOwn plan (share_of xs j) j k) xs middle) value own in
     let whole = written_whole old middle len is (zip_length (λ (j k : Session). AttendsOwn plan (share_of old j) j k) old middle here) in
     record {
       middle = middle;

@@ -216,7 +216,14 @@ pub fn listen<R: Wait + Clock, E: Write>(
         reception.hear(watch);
         let came = reception.last().is_some();
         if let Some(meeting) = heed(plan, reception, watch) {
-            return Ok(Some(join(alloc, plan, Seat::FIRST, reception, &meeting, watch.moment())?));
+            return Ok(Some(join(
+                alloc,
+                plan,
+                Seat::FIRST,
+                reception,
+                &meeting,
+                watch.moment(),
+            )?));
         }
         let _ = tell(plan, errors, watch);
         watch.check_works()?;

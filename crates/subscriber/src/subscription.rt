@@ -33,7 +33,9 @@ use crate::listening::listen;
 use crate::listening::reception::Reception;
 use crate::repeating::repeater::StatusRepeater;
 use crate::repeating::{Repeating, Slots};
-use crate::reporting::sessions::{missing_of, tell_counters_of, tell_refused_of, tell_unfinished_of, totals_of};
+use crate::reporting::sessions::{
+    missing_of, tell_counters_of, tell_refused_of, tell_unfinished_of, totals_of,
+};
 use crate::reporting::{Line, SessionId, tell, tell_refused, tell_totals};
 use crate::watch::{SECOND, Watch};
 use agents::{IdleStrategy, REPLY};

@@ -49,7 +49,11 @@ pub(crate) fn share_at(sessions: &[Session], place: usize) -> u64
     requires { place < length sessions.now }
     ensures { IsShareAt sessions.now place result }
 {
-    share_among(open_count(sessions), sessions.len() as u64, sessions[place].ended)
+    share_among(
+        open_count(sessions),
+        sessions.len() as u64,
+        sessions[place].ended,
+    )
 }
 
 /// A turn of each session begins at a moment.

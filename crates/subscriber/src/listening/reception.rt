@@ -69,7 +69,9 @@ fn note_call(answer: Result<(), DeviceFailed>, watch: &mut Watch)
 
 /// Whether one of them has as much to take as it takes in a cycle.
 fn is_any_full(sessions: &[Session]) -> bool {
-    sessions.iter().any(|session| session.duty.device().is_full())
+    sessions
+        .iter()
+        .any(|session| session.duty.device().is_full())
 }
 
 /// The place of the first whose a datagram is that this one sent, by what stands first in it.

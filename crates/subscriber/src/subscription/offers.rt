@@ -57,9 +57,7 @@ fn own_place(sessions: &[Session], meeting: &SetupOffer) -> Option<usize>
     ensures found { IfSome result (IsFirst (IsItsOwn meeting.now) sessions.now) }
     ensures none { IfNone result (IsNone (IsItsOwn meeting.now) sessions.now) }
 {
-    sessions
-        .iter()
-        .position(|session| session.opening.session == meeting.opening.session)
+    sessions.iter().position(|session| session.opening.session == meeting.opening.session)
 }
 
 /// The first place of a session whose stream ended more than a second ago.
@@ -92,7 +90,10 @@ fn first_silent(sessions: &[Session]) -> Option<usize>
 fn unheard_count(sessions: &[Session]) -> usize
     ensures { result ≡ unheard_count sessions.now }
 {
-    sessions.iter().filter(|session| session.is_unheard()).count()
+    sessions
+        .iter()
+        .filter(|session| session.is_unheard())
+        .count()
 }
 
 /// Whether a moment isn't later than another one, if there is another.
@@ -320,7 +321,14 @@ impl Subscription<'_> {
             place: sessions.list.len(),
             share: open_count(sessions.list.as_slice()) + 1,
         };
-        let session = join(self.alloc, &self.plan, seat, &sessions.reception, meeting, now)?;
+        let session = join(
+            self.alloc,
+            &self.plan,
+            seat,
+            &sessions.reception,
+            meeting,
+            now,
+        )?;
         let id = SessionId(session.opening.session);
         let at = session.place();
         if sessions.list.push(session).is_err() {

@@ -21,7 +21,7 @@ returns-in-Some-meeting_of-clause-attends g c =
     let m = c.in-Some-meeting_of.meeting in
     let new = c.place_offer.new.sessions.list.items in
     on_ok_weaker c.place_offer.result (λ placed.
-        attended plan c.args.now c.args.sessions.now.list.len c.args.sessions.now.reception.offer (Some (c.in-Some.from, c.in-Some.setup)) c.args.sessions.now.list.items c.as_mut_slice.result.now c.attend_each.new.sessions new
-        c.args.sessions.now.list.ok.0 c.as_mut_slice.ensures.value c.in_ok-attend_each.ensures.attends (sym c.take_offer.ensures.taken ∙ c.in-Some.is)
-        (λ whole. inr (m, c.in-Some-meeting_of.ensures.found, subst (λ (zs : List Session). IsPlaced plan m c.args.now zs new) whole placed)))
+    attended plan c.args.now c.args.sessions.now.list.len c.args.sessions.now.reception.offer (Some (c.in-Some.from, c.in-Some.setup)) c.args.sessions.now.list.items c.as_mut_slice.result.now c.attend_each.new.sessions new
+    c.args.sessions.now.list.ok.0 c.as_mut_slice.ensures.value c.in_ok-attend_each.ensures.attends (sym c.take_offer.ensures.taken ∙ c.in-Some.is)
+    (λ whole. inr (m, c.in-Some-meeting_of.ensures.found, subst (λ (zs : List Session). IsPlaced plan m c.args.now zs new) whole placed)))
     c.place_offer.ensures.placed

@@ -134,7 +134,7 @@ loop-preserved g c =
     let attends = c.in_ok-attend.ensures.attends in
     let some : 0 < length c.ask_each.new.sessions.list.items = subst (λ (zs : List Session). 0 < length zs) asked (subst (λ (n : ℕ). 0 < n) (sym (zipped ∙ same)) c.loop.invariant.some) in
     let lived = subst (λ (zs : List Session). FollowsAll plan (g.W.Write.contents c.args.output.now) c.in_ok-all.all zs (g.W.Write.contents c.look_at_each.new.output)) asked
-        (c.in_ok-all.ensures.lives (g.W.Write.contents c.args.output.now) follows) in
+    (c.in_ok-all.ensures.lives (g.W.Write.contents c.args.output.now) follows) in
     let called : c.attend.new.sessions.list.items ≡ c.ask_caller.new.sessions.list.items = sym (ap (λ l. l.items) c.ask_caller.ensures.same) in
     let told : c.tell_news.new.sessions ≡ map news_told c.ask_caller.new.sessions.list.items = c.tell_news.ensures ∙ ap (map news_told) c.as_mut_slice.ensures.value in
     let size = ap length told ∙ length-map c.ask_caller.new.sessions.list.items news_told in

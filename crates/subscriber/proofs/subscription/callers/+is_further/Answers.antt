@@ -20,5 +20,5 @@ returns-then-first-session t c =
     let fits : FitsSigned w32 c.args.session = search rules in
     let here : ¬ (c.first-item.result.opening.session ≡ c.args.session) = λ same. c.if-first-session.true (ap (λ (z : ℤ). of_z w32 z) same) in
     let rest : IsTrue c.is_further.result ↔ AllByRecursion (λ (j : Session). ¬ (j.opening.session ≡ c.args.session)) (take (length sessions - 1) (drop 1 sessions)) =
-        subst (λ (z : ℤ). IsTrue c.is_further.result ↔ AllByRecursion (λ (j : Session). ¬ (j.opening.session ≡ z)) (take (length sessions - 1) (drop 1 sessions))) (to_z-of_z w32 c.args.session fits) c.is_further.ensures in
+    subst (λ (z : ℤ). IsTrue c.is_further.result ↔ AllByRecursion (λ (j : Session). ¬ (j.opening.session ≡ z)) (take (length sessions - 1) (drop 1 sessions))) (to_z-of_z w32 c.args.session fits) c.is_further.ensures in
     one_more (λ (j : Session). ¬ (j.opening.session ≡ c.args.session)) sessions c.first-item.result c.is_further.result (omega (arith, some)) c.first-item.is here rest
