@@ -63,7 +63,7 @@ Counters, on standard error:
                that came
   naks         how many datagrams were sent that ask for what was lost
   lost         how many calls of the socket failed
-  strangers    how many datagrams came from others than the publisher
+  strangers    how many datagrams came that no followed session's publisher sent
   refused      how many datagrams that came were no frame, by what was wrong with them
 
 Exit status:

@@ -6,7 +6,7 @@ use Rattle.std.proofs.lemmas.List.{length-take}
 use Rattle.std.proofs.lemmas.List.Elements.{AllWithin-more, at_read}
 use Rattle.subscriber.proofs.Each.{parted}
 use Rattle.subscriber.specs.Choosing.{IsFirst, IsNone, IsOldest, is_unheard, unheard_count}
-use Rattle.subscriber.specs.Endings.{IsUnheardYet}
+use Rattle.subscriber.specs.Turning.{IsUnheardYet}
 use Rattle.subscriber.specs.declared.images.session.Session.{Session}
 
 -- ---- the first that is so

@@ -3,12 +3,15 @@ use Rattle.std.proofs.Common.{◌≡◌, ◌-◌, ◌^◌, ℕ, [], ◌∷◌, s
 use Rattle.options.specs.declared.ends.plans.SubscribePlan.{SubscribePlan}
 use Rattle.subscriber.specs.Answering.{ahead_of}
 use Rattle.subscriber.specs.Watches.{Seen}
-use Rattle.subscriber.specs.Endings.{AreDone, HasEnoughOfAll, IsDone, IsUnheardYet, NoneCame}
+use Rattle.subscriber.specs.Endings.{AreDone, HasEnoughOfAll, IsDone, NoneCame}
 use Rattle.subscriber.specs.Leavings.{HasEnough, IsEnding, IsQuietEnding}
 use Rattle.subscriber.specs.Standing.{HasAll, HasAllUpTo}
+use Rattle.subscriber.specs.Turning.{IsRenewed, IsUnheardYet}
+use Rattle.subscriber.specs.declared.images.Loss.{Loss}
 use Rattle.subscriber.specs.declared.ending.Ending.TheVariants.{Whole, Short, Lost}
 use Rattle.subscriber.specs.declared.images.session.Session.{Session}
 use Rattle.subscriber.specs.declared.images.session.Stand.{Stand}
+use Rattle.subscriber.specs.declared.listening.setup_offer.SetupOffer.{SetupOffer}
 
 -- an end at which both stand
 all_there : HasAllUpTo (Some 96) 96 96
@@ -48,17 +51,31 @@ came_alone : (j : Session) → NoneCame (j ∷ [])
 came_alone j = inl refl
 
 -- of two, one that came a nanosecond less than a second ago is waited for, and then none is
-just_came : (j k : Session) → k.watch.moment ≡ 3000000000 → k.opened ≡ 2000000001 → NoneCame (j ∷ k ∷ []) → ⊥
+just_came : (j k : Session) → k.watch.moment ≡ 3000000000 → k.came ≡ 2000000001 → NoneCame (j ∷ k ∷ []) → ⊥
 just_came j k now opened (inl one) = omega (arith, one)
 just_came j k now opened (inr all) = omega (arith, all.1.0, now, opened)
 
-came_before : (j k : Session) → j.watch.moment ≡ 3000000000 → j.opened ≡ 0 → k.watch.moment ≡ 3000000000 → k.opened ≡ 2000000000 → NoneCame (j ∷ k ∷ [])
+came_before : (j k : Session) → j.watch.moment ≡ 3000000000 → j.came ≡ 0 → k.watch.moment ≡ 3000000000 → k.came ≡ 2000000000 → NoneCame (j ∷ k ∷ [])
 came_before j k now first then second = inr (omega (arith, now, first), (omega (arith, then, second), tt))
 
 -- the first may have come last
-first_came : (j k : Session) → j.watch.moment ≡ 3000000000 → j.opened ≡ 2500000000 → NoneCame (j ∷ k ∷ []) → ⊥
+first_came : (j k : Session) → j.watch.moment ≡ 3000000000 → j.came ≡ 2500000000 → NoneCame (j ∷ k ∷ []) → ⊥
 first_came j k now opened (inl one) = omega (arith, one)
 first_came j k now opened (inr all) = omega (arith, all.0, now, opened)
+
+-- one that took the place of an unheard one just now isn't waited for, and one that took a heard one's is
+flooded : (plan : SubscribePlan) (share : ℕ) (m : SetupOffer) (loss : Option Loss) (j k l : Session) → j.watch.moment ≡ 3000000000 → j.came ≡ 0
+    → k.came ≡ 0 → IsUnheardYet k → IsRenewed plan share m loss k l → l.watch.moment ≡ 3000000000 → NoneCame (j ∷ l ∷ [])
+flooded plan share m loss j k l now first second unheard renewed then =
+    let came = renewed.came.unheard unheard in
+    inr (omega (arith, now, first), (omega (arith, then, second, came), tt))
+
+followed_another : (plan : SubscribePlan) (share : ℕ) (m : SetupOffer) (loss : Option Loss) (j k l : Session) → k.watch.moment ≡ 3000000000
+    → (IsUnheardYet k → ⊥) → IsRenewed plan share m loss k l → l.watch.moment ≡ 3000000000 → NoneCame (j ∷ l ∷ []) → ⊥
+followed_another plan share m loss j k l now heard renewed then (inl one) = omega (arith, one)
+followed_another plan share m loss j k l now heard renewed then (inr all) =
+    let came = renewed.came.heard heard in
+    omega (arith, all.1.0, now, then, came)
 
 -- without a session none is done
 nothing_done : AreDone [] → ⊥
@@ -83,7 +100,7 @@ beside_heard j k lacks heard h = by_case h.each.1.0
     by_case (inr unheard) = heard unheard
 
 -- where all have all of theirs, one that came just now is waited for
-done_and_came : (j k : Session) → k.watch.moment ≡ 3000000000 → k.opened ≡ 2000000001 → AreDone (j ∷ k ∷ []) → ⊥
+done_and_came : (j k : Session) → k.watch.moment ≡ 3000000000 → k.came ≡ 2000000001 → AreDone (j ∷ k ∷ []) → ⊥
 done_and_came j k now opened h = just_came j k now opened h.none
 
 -- they have enough by their messages, however many lack something

@@ -44,11 +44,11 @@ own_within plan m xs i is = first_within _ xs i is
 pub given_within : (plan : SubscribePlan) (m : SetupOffer) (xs : List Session) (i : ℕ) → IsChosen plan m xs (chosen.Given i) → i < length xs
 given_within plan m xs i (none, is) =
     elim is [
-      | inl over ↦ first_within _ xs i over
-      | inr other ↦ elim other.1.1 [
-        | inl ended ↦ first_within _ xs i ended
-        | inr rest ↦ elim rest.1 [
-          | inl oldest ↦ within oldest.1.front oldest.1.back oldest.1.here xs i oldest.1.parts oldest.1.at
+      | inl oldest ↦ within oldest.1.front oldest.1.back oldest.1.here xs i oldest.1.parts oldest.1.at
+      | inr vacant ↦ elim vacant.1 [
+        | inl over ↦ first_within _ xs i over
+        | inr full ↦ elim full.1.1 [
+          | inl ended ↦ first_within _ xs i ended
           | inr silent ↦ first_within _ xs i silent.1
         ]
       ]

@@ -103,6 +103,7 @@ pub record IsJoinedBy (plan : SubscribePlan) (place share moment : ℕ) (m : Set
   pub ended : j.ended ≡ false
   pub unheard : j.unheard ≡ []
   pub opened : j.opened ≡ moment
+  pub came : j.came ≡ moment
 
 -- the SETUP opens an image for the plan, and came at the moment
 pub record IsJoined (plan : SubscribePlan) (place share moment : ℕ) (j : Session) : Type 0 where

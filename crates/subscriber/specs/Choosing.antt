@@ -1,18 +1,17 @@
 -- Which place a SETUP goes to that would open an image, and what comes of it.
--- A session has its own. Else it goes to one whose stream ended more than a second ago, to a further one while there is one and fewer
--- than eight are held by sessions that weren't heard yet, to one whose stream has ended, to the oldest of eight that weren't heard, or to
--- one that is silent; else nowhere.
+-- A session has its own. Else, where eight are held by sessions that weren't heard yet, it goes to the oldest of those; or else to one whose
+-- stream ended more than a second ago, to a further one while there is one, to one whose stream has ended, or to one that is silent; else
+-- nowhere.
 use Rattle.std.specs.Prelude.{◌≡◌, ◌⊎◌, ◌<◌, ◌≤◌, ◌+◌, ◌-◌, ◌++◌, ℕ, Bool, true, false, IsTrue, List, [], ◌∷◌, length, Option, None, Some, if◌then◌else◌, ◌&&◌, is_none, map}
 use Rattle.std.specs.List.{AllByRecursion, AllZip, filter}
 use Rattle.frames.specs.Frames.{setup_of}
 use Rattle.options.specs.declared.ends.plans.SubscribePlan.{SubscribePlan}
 use Rattle.peer.specs.Ties.{Offer}
 use Rattle.subscriber.specs.Calls.{IsJoinedBy, IsMeeting}
-use Rattle.subscriber.specs.Endings.{IsUnheardYet}
 use Rattle.subscriber.specs.Meetings.{OpensNothing}
 use Rattle.subscriber.specs.Places.{most_places}
 use Rattle.subscriber.specs.Sessions.{open_count, share_of}
-use Rattle.subscriber.specs.Turning.{AttendsOwn, Replaces, Turns, Warns}
+use Rattle.subscriber.specs.Turning.{AttendsOwn, IsUnheardYet, Replaces, Turns, Warns}
 use Rattle.subscriber.specs.Watches.{IsSilent}
 use Rattle.subscriber.specs.declared.images.session.Session.{Session}
 use Rattle.subscriber.specs.declared.listening.setup_offer.SetupOffer.{SetupOffer}
@@ -64,25 +63,25 @@ pub record IsOldest (sessions : List Session) (place : ℕ) : Type 0 where
   pub is : IsUnheardYet here
   pub oldest : AllByRecursion (λ (j : Session). IsUnheardYet j → here.opened ≤ j.opened) sessions
 
--- a further place may be had
-pub record MayOpen (plan : SubscribePlan) (sessions : List Session) : Type 0 where
-  pub place : length sessions < most_places plan
-  pub few : unheard_count sessions < 8
+-- no further place may be had
+abbrev pub IsFull : SubscribePlan → List Session → Type 0
+IsFull plan sessions = most_places plan ≤ length sessions
 
--- where no further place may be had: one whose stream has ended, the oldest of eight that weren't heard, or one that is silent
-abbrev pub IsVacant : List Session → ℕ → Type 0
-IsVacant sessions place =
-    IsFirst IsEnded sessions place
-    ⊎ (IsNone IsEnded sessions × (((8 ≤ unheard_count sessions) × IsOldest sessions place) ⊎ ((unheard_count sessions < 8) × IsFirst IsSilentNow sessions place)))
+-- one whose stream ended more than a second ago; or where no further place may be had one whose stream has ended, or else one that is silent
+abbrev pub IsVacant : SubscribePlan → List Session → ℕ → Type 0
+IsVacant plan sessions place =
+    IsFirst IsOver sessions place
+    ⊎ (IsNone IsOver sessions × IsFull plan sessions × (IsFirst IsEnded sessions place ⊎ (IsNone IsEnded sessions × IsFirst IsSilentNow sessions place)))
 
 abbrev pub IsChosen : SubscribePlan → SetupOffer → List Session → Chosen → Type 0
 IsChosen plan m sessions (Own place) = IsFirst (IsItsOwn m) sessions place
 IsChosen plan m sessions (Given place) =
     IsNone (IsItsOwn m) sessions
-    × (IsFirst IsOver sessions place ⊎ (IsNone IsOver sessions × ((¬ MayOpen plan sessions) × IsVacant sessions place)))
-IsChosen plan m sessions Further = IsNone (IsItsOwn m) sessions × IsNone IsOver sessions × MayOpen plan sessions
+    × (((8 ≤ unheard_count sessions) × IsOldest sessions place) ⊎ ((unheard_count sessions < 8) × IsVacant plan sessions place))
+IsChosen plan m sessions Further =
+    IsNone (IsItsOwn m) sessions × (unheard_count sessions < 8) × IsNone IsOver sessions × (length sessions < most_places plan)
 IsChosen plan m sessions Nowhere =
-    IsNone (IsItsOwn m) sessions × (¬ MayOpen plan sessions) × IsNone IsEnded sessions × (unheard_count sessions < 8) × IsNone IsSilentNow sessions
+    IsNone (IsItsOwn m) sessions × (unheard_count sessions < 8) × IsFull plan sessions × IsNone IsEnded sessions × IsNone IsSilentNow sessions
 
 -- the session at a place becomes another one so, and the others stay
 pub record ChangesAt (place : ℕ) (Becomes : Session → Session → Type 0) (old new : List Session) : Type 0 where

@@ -14,6 +14,7 @@ use Rattle.subscriber.specs.Answering.{HasAnswered}
 use Rattle.subscriber.specs.Leavings.{IsEnding, IsQuietEnding}
 use Rattle.subscriber.specs.Living.{AreUnlost, FollowsAt}
 use Rattle.subscriber.specs.Standing.{HasAll, Stands}
+use Rattle.subscriber.specs.Turning.{IsUnheardYet}
 use Rattle.subscriber.specs.declared.ending.Ending.{Ending}
 use Rattle.subscriber.specs.declared.ending.Ending.TheVariants.{Lost, Short, Whole}
 use Rattle.subscriber.specs.Images.{has_lost}
@@ -40,18 +41,13 @@ pub record EndsSo (plan : SubscribePlan) (written : ℕ) (s : Seen) (t : Subscri
 
 -- ---- with any number of them
 
--- no frame of a session has come yet, nor an end of its stream
-pub record IsUnheardYet (j : Session) : Type 0 where
-  pub frames : j.duty.device.notes.last ≡ None
-  pub end : j.follower.end ≡ None
-
 -- it has all of its stream, or was never heard
 abbrev pub IsDone : Session → Type 0
 IsDone j = HasAll j.stood ⊎ IsUnheardYet j
 
--- there is one alone, or no image was opened for a second
+-- there is one alone, or none came for a second
 abbrev pub NoneCame : List Session → Type 0
-NoneCame sessions = (length sessions ≡ 1) ⊎ AllByRecursion (λ (j : Session). 1000000000 ≤ j.watch.moment - j.opened) sessions
+NoneCame sessions = (length sessions ≡ 1) ⊎ AllByRecursion (λ (j : Session). 1000000000 ≤ j.watch.moment - j.came) sessions
 
 -- each that was heard has all of its stream, one at the least; and no other came for a second
 pub record AreDone (sessions : List Session) : Type 0 where

@@ -1,5 +1,5 @@
 -- What a subscriber makes of an image that lacks what doesn't come.
-use Rattle.std.specs.Prelude.{◌≡◌, ℕ, IsTrue, List, Option, None, Some, ◌≢◌, ◌⊎◌, ◌↔◌, true, false}
+use Rattle.std.specs.Prelude.{◌≡◌, ℕ, IsTrue, List, [], ◌∷◌, Option, None, Some, ◌≢◌, ◌⊎◌, ◌↔◌, true, false}
 use Rattle.theory.specs.Control.{asking_at}
 use Rattle.frames.specs.Frames.{header_of}
 use Rattle.frames.specs.declared.frame.Header.{Header}
@@ -84,3 +84,8 @@ Asks plan (Some h) j old new = new ≡ asking old j.duty.device.inner.inner.inne
 pub record AsksAnew (plan : SubscribePlan) (j : Session) (old new : Listening) : Type 0 where
   pub asks : IsAskedFor j → Asks plan j.duty.device.notes.last j old new
   pub quiet : ¬ IsAskedFor j → new ≡ old
+
+-- and the peer of each of them so, one after the other
+abbrev pub AsksEach : SubscribePlan → List Session → Listening → Listening → Type 0
+AsksEach plan [] old new = new ≡ old
+AsksEach plan (j ∷ others) old new = (between : Listening) × AsksAnew plan j old between × AsksEach plan others between new

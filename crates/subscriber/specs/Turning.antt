@@ -75,6 +75,16 @@ abbrev pub TellsLoss : ℤ → Option Loss → Option (List ℕ) → Option (Lis
 TellsLoss session None before after = after ≡ before
 TellsLoss session (Some loss) before after = Appends before after (missing_line session loss)
 
+-- no frame of a session has come yet, nor an end of its stream
+pub record IsUnheardYet (j : Session) : Type 0 where
+  pub frames : j.duty.device.notes.last ≡ None
+  pub end : j.follower.end ≡ None
+
+-- when the next session of a place came: where the one before it wasn't heard, it counts as come with that one
+pub record CameAt (now : ℕ) (old : Session) (came : ℕ) : Type 0 where
+  pub unheard : IsUnheardYet old → came ≡ old.came
+  pub heard : ¬ IsUnheardYet old → came ≡ now
+
 -- the image is kept, and this is its peer
 abbrev pub IsTiedTo : SocketAddr → Session → Session → Type 0
 IsTiedTo from old new = new ≡ with_device old (tied_anew old.duty.device from)
@@ -93,6 +103,7 @@ pub record IsRenewed (plan : SubscribePlan) (share : ℕ) (m : SetupOffer) (loss
   pub ended : new.ended ≡ false
   pub unheard : new.unheard ≡ []
   pub opened : new.opened ≡ old.watch.moment
+  pub came : CameAt old.watch.moment old new.came
 
 -- and what is missing is what was between them
 pub record Replaces (plan : SubscribePlan) (share : ℕ) (m : SetupOffer) (old new : Session) : Type 0 where

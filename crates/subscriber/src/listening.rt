@@ -167,6 +167,7 @@ pub(crate) fn join(
         ended: false,
         unheard: Unheard::new(),
         opened: now,
+        came: now,
         stood: Stand {
             place: meeting.opening.position,
             rebuilt: meeting.opening.position,

@@ -11,7 +11,7 @@ ghost use Rattle.subscriber.specs.Breaking.{BreaksActs, BreaksPlaces};
 ghost use Rattle.subscriber.specs.Endings.{AreDone, AreQuiet, EndsWithSessions, HasEnded, HasEnoughOfAll, HasStood, IsDone, IsEndingOfAll, have_lost};
 ghost use Rattle.subscriber.specs.Leavings.{IsQuietEnding, NotesHeard, enough_ending, of_bind};
 ghost use Rattle.subscriber.specs.Living.{FollowsAll, LivesOn, Writes, WritesPlaces};
-ghost use Rattle.subscriber.specs.Losing.{JudgesTurn};
+ghost use Rattle.subscriber.specs.Losing.{AsksEach, JudgesTurn};
 ghost use Rattle.subscriber.specs.Places.{most_places};
 ghost use Rattle.subscriber.specs.Sessions.{BreaksOffFrom, FollowsOn, HasLeft, HasLooked, AreSettled, IsBegun, IsSettledSo, IsSized, LeavesAll, news_told};
 ghost use Rattle.subscriber.specs.Standing.{HasAll, Stands};
@@ -123,9 +123,9 @@ fn is_none_whole(sessions: &[Session]) -> bool
     }
 }
 
-/// Whether no image was opened for a second.
+/// Whether none came for a second.
 fn are_settling(sessions: &[Session]) -> bool
-    ensures { IsTrue result ↔ AllByRecursion (λ j. 1000000000 ≤ j.watch.moment - j.opened) sessions.now }
+    ensures { IsTrue result ↔ AllByRecursion (λ j. 1000000000 ≤ j.watch.moment - j.came) sessions.now }
 {
     match sessions {
         [] => true,
@@ -363,12 +363,12 @@ impl Subscription<'_> {
 
     /// Asks the peer of each session for a SETUP where its image lacks what doesn't come.
     fn ask_each(&self, sessions: &mut Sessions)
-        ensures { sessions.new.list ≡ sessions.old.list }
+        ensures asks { AsksEach self.now.plan sessions.old.list.items sessions.old.reception.socket sessions.new.reception.socket }
+        ensures same { sessions.new.list ≡ sessions.old.list }
+        ensures left { sessions.new.reception ≡ record sessions.old.reception { socket = sessions.new.reception.socket } }
     {
         let Sessions { list, reception } = sessions;
-        for session in list.iter() {
-            self.ask_anew(session, reception);
-        }
+        self.ask_all(list.as_slice(), reception);
     }
 
     /// Tells the thread that repeats what is new of the status messages that the device of a place was given.

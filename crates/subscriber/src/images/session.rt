@@ -13,8 +13,8 @@ ghost use Rattle.subscriber.specs.Standing.{HasAll, IsRebuiltTo, Stands, StandsA
 ghost use Rattle.subscriber.specs.Telling.{AreCounts, IsUnfinished, TellsLine, TellsNow};
 ghost use Rattle.subscriber.specs.Texts.{another_line, ended_line, lost_line, silence_line, unheard_line};
 ghost use Rattle.subscriber.specs.Choosing.{IsOver, is_unheard};
-ghost use Rattle.subscriber.specs.Turning.{Warns};
-ghost use Rattle.subscriber.specs.Endings.{IsDone, IsUnheardYet};
+ghost use Rattle.subscriber.specs.Turning.{CameAt, IsUnheardYet, Warns};
+ghost use Rattle.subscriber.specs.Endings.{IsDone};
 ghost use Rattle.subscriber.specs.Watches.{IsBroken, IsWithinTurn, judging};
 
 use crate::fault::SubscribeFault;
@@ -77,6 +77,8 @@ pub struct Session {
     pub unheard: Unheard,
     /// When its image was opened, in nanoseconds from the subscriber's begin.
     pub opened: u64,
+    /// When it came: then, too, but behind one that wasn't heard when that one came.
+    pub came: u64,
     /// Where it stood at the end of its last turn.
     pub stood: Stand,
 }
@@ -406,11 +408,19 @@ impl Session {
         self.stood.has_all() || self.is_unheard()
     }
 
-    /// Whether its image was opened a second ago or earlier.
+    /// Whether it came a second ago or earlier.
     pub(crate) fn is_settling(&self) -> bool
-        ensures { IsTrue result ↔ (1000000000 ≤ self.now.watch.moment - self.now.opened) }
+        ensures { IsTrue result ↔ (1000000000 ≤ self.now.watch.moment - self.now.came) }
     {
-        self.watch.moment().saturating_sub(self.opened) >= SECOND
+        self.watch.moment().saturating_sub(self.came) >= SECOND
+    }
+
+    /// When the next session at its place comes, whose SETUP came now. Of those that come and go without a frame an end waits for
+    /// the first alone.
+    pub(crate) fn next_came(&self, now: u64) -> u64
+        ensures { CameAt now self.now result }
+    {
+        if self.is_unheard() { self.came } else { now }
     }
 }
 

@@ -4,7 +4,7 @@ ghost use Rattle.std.specs.Prelude.{◌≡◌, ◌<◌, ◌≤◌, ◌↔◌, If
 ghost use Rattle.std.specs.List.{AllZip};
 ghost use Rattle.std.specs.Io.KnownBytes.{Appends};
 ghost use Rattle.subscriber.specs.Choosing.{AttendsAll, IsChosen, IsEnded, IsFirst, IsItsOwn, IsNone, IsOldest, IsOver, IsPlaced, IsSilentNow, Joins, unheard_count};
-ghost use Rattle.subscriber.specs.Losing.{AsksAnew};
+ghost use Rattle.subscriber.specs.Losing.{AsksAnew, AsksEach};
 ghost use Rattle.subscriber.specs.Places.{most_places};
 ghost use Rattle.subscriber.specs.Receivings.{offer_given};
 ghost use Rattle.subscriber.specs.Sessions.{share_of};
@@ -139,6 +139,18 @@ impl Subscription<'_> {
         reception.ask(session.peer(), status);
     }
 
+    /// So asks the peer of each of them, one after the other.
+    pub(crate) fn ask_all(&self, sessions: &[Session], reception: &mut Reception)
+        ensures asks { AsksEach self.now.plan sessions.now reception.old.socket reception.new.socket }
+        ensures same { reception.new ≡ record reception.old { socket = reception.new.socket } }
+    {
+        let [first, others @ ..] = sessions else {
+            return;
+        };
+        self.ask_anew(first, reception);
+        self.ask_all(others, reception);
+    }
+
     /// Opens a new image in the place of one, as one of so many, behind which this is missing.
     fn renew(
         &self,
@@ -155,6 +167,7 @@ impl Subscription<'_> {
         let now = session.watch.moment();
         let setup = &meeting.setup;
         let subscriber = opened(self.alloc, &self.plan, images.number, share, setup, now)?;
+        session.came = session.next_came(now);
         session.follower = Follower {
             subscriber,
             session: meeting.opening.session,
@@ -277,27 +290,26 @@ impl Subscription<'_> {
         Ok(())
     }
 
-    /// Which place a SETUP goes to that would open an image. A session has its own. Else it goes to one whose stream ended more
-    /// than a second ago, to a further one while there is one and fewer than eight are held by sessions that weren't heard yet,
-    /// to one whose stream has ended, to the oldest of eight that weren't heard, or to one that is silent; else nowhere.
+    /// Which place a SETUP goes to that would open an image. A session has its own. Else, where eight are held by sessions that
+    /// weren't heard yet, it goes to the oldest of those; or else to one whose stream ended more than a second ago, to a further
+    /// one while there is one, to one whose stream has ended, or to one that is silent; else nowhere.
     fn choose(&self, sessions: &[Session], meeting: &SetupOffer) -> Chosen
         ensures { IsChosen self.now.plan meeting.now sessions.now result }
     {
         if let Some(place) = own_place(sessions, meeting) {
             return Chosen::Own(place);
         }
+        if unheard_count(sessions) >= MOST_UNHEARD {
+            return Chosen::Given(oldest_unheard(sessions));
+        }
         if let Some(place) = first_over(sessions) {
             return Chosen::Given(place);
         }
-        let unheard = unheard_count(sessions);
-        if sessions.len() < self.most_places() && unheard < MOST_UNHEARD {
+        if sessions.len() < self.most_places() {
             return Chosen::Further;
         }
         if let Some(place) = first_ended(sessions) {
             return Chosen::Given(place);
-        }
-        if unheard >= MOST_UNHEARD {
-            return Chosen::Given(oldest_unheard(sessions));
         }
         match first_silent(sessions) {
             Some(place) => Chosen::Given(place),

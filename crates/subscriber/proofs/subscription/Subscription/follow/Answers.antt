@@ -104,7 +104,7 @@ attend-requires-clause-few g c =
     let zipped = zip_length HasLooked c.as_mut_slice-list.result.now c.look_at_each.new.sessions c.in_ok-all.ensures.looked in
     let whole = written_whole c.read.new.self.list.items c.look_at_each.new.sessions c.read.new.self.list.len c.read.new.self.list.ok.0 (zipped ∙ ap length value) in
     let same = read_length _ c.loop.sessions.list.items _ _ c.begin_turn.ensures.each c.read.ensures.kept in
-    let asked : c.ask_each.new.sessions.list.items ≡ c.look_at_each.new.sessions = ap (λ l. l.items) c.ask_each.ensures ∙ whole in
+    let asked : c.ask_each.new.sessions.list.items ≡ c.look_at_each.new.sessions = ap (λ l. l.items) c.ask_each.ensures.same ∙ whole in
     subst (λ (zs : List Session). length zs ≤ most_places plan) (sym asked) (subst (λ (n : ℕ). n ≤ most_places plan) (sym (zipped ∙ ap length value ∙ same)) c.loop.invariant.places)
 
 pub returns-in_err-attend-clause-broken : goal.returns-in_err-attend-clause-broken
@@ -130,7 +130,7 @@ loop-preserved g c =
     let zipped = zip_length HasLooked c.as_mut_slice-list.result.now c.look_at_each.new.sessions c.in_ok-all.ensures.looked in
     let whole = written_whole c.read.new.self.list.items c.look_at_each.new.sessions c.read.new.self.list.len c.read.new.self.list.ok.0 (zipped ∙ ap length value) in
     let same = read_length _ c.loop.sessions.list.items _ _ c.begin_turn.ensures.each read in
-    let asked : c.look_at_each.new.sessions ≡ c.ask_each.new.sessions.list.items = sym (ap (λ l. l.items) c.ask_each.ensures ∙ whole) in
+    let asked : c.look_at_each.new.sessions ≡ c.ask_each.new.sessions.list.items = sym (ap (λ l. l.items) c.ask_each.ensures.same ∙ whole) in
     let attends = c.in_ok-attend.ensures.attends in
     let some : 0 < length c.ask_each.new.sessions.list.items = subst (λ (zs : List Session). 0 < length zs) asked (subst (λ (n : ℕ). 0 < n) (sym (zipped ∙ same)) c.loop.invariant.some) in
     let lived = subst (λ (zs : List Session). FollowsAll plan (g.W.Write.contents c.args.output.now) c.in_ok-all.all zs (g.W.Write.contents c.look_at_each.new.output)) asked
