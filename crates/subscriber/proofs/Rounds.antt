@@ -3,13 +3,17 @@ use Rattle.std.proofs.Common.{◌≡◌, ◌≢◌, ◌∙◌, ◌<◌, ◌≤�
 use Rattle.std.proofs.lemmas.List.{length-map}
 use Rattle.std.specs.List.{AllByRecursion, AllZip}
 use Rattle.options.specs.declared.ends.plans.SubscribePlan.{SubscribePlan}
-use Rattle.peer.specs.Ties.{Offer}
+use Rattle.peer.specs.Ties.{Listening, Offer}
 use Rattle.subscriber.proofs.Each.{zip_length}
 use Rattle.subscriber.proofs.Kept.{begun_sized, routed_sized}
 use Rattle.subscriber.proofs.Placed.{begun_all, routed_all}
+use Rattle.subscriber.specs.Attending.{AnswersTurn}
+use Rattle.subscriber.specs.Callers.{AsksCaller}
 use Rattle.subscriber.specs.Choosing.{AttendsAll, AttendsOther, ChangesAt, GoesTo, IsPlaced, Joins}
 use Rattle.subscriber.specs.Living.{FollowsAll}
-use Rattle.subscriber.specs.Sessions.{IsRouted, IsSized, share_of, turn_begun}
+use Rattle.subscriber.specs.Losing.{AsksEach}
+use Rattle.subscriber.specs.Receivings.{Receiving, caller_given, offer_given}
+use Rattle.subscriber.specs.Sessions.{IsRouted, IsSized, news_told, share_of, turn_begun}
 use Rattle.subscriber.specs.Turning.{AttendsOwn}
 use Rattle.subscriber.specs.declared.images.session.Session.{Session}
 use Rattle.subscriber.specs.declared.listening.setup_offer.SetupOffer.{SetupOffer}
@@ -47,3 +51,27 @@ pub attended_some : (plan : SubscribePlan) (moment : ℕ) (offer : Offer) (xs ys
 attended_some plan moment offer xs ys h some =
     let same = zip_length (λ (j k : Session). AttendsOwn plan (share_of xs j) j k) xs h.middle h.own in
     other_some plan moment offer h.middle ys h.others (omega (arith, same, some))
+
+-- ---- what a turn is answered by
+
+pub turn_answered : (plan : SubscribePlan) (moment : ℕ) (old asked placed new : List Session) (heard between attended left : Receiving)
+    → asked ≡ old → AsksEach plan old heard.socket between.socket → between ≡ record heard { socket = between.socket }
+    → AttendsAll plan moment between.offer asked placed → attended ≡ offer_given between
+    → AsksCaller plan placed attended.caller attended.socket left.socket → left ≡ record (caller_given attended) { socket = left.socket }
+    → new ≡ map news_told placed → AnswersTurn plan moment old heard new left
+turn_answered plan moment old asked placed new heard between attended left same asks kept attends given calls called told =
+    let offer : between.offer ≡ heard.offer = ap (λ (r : Receiving). r.offer) kept in
+    let caller : attended.caller ≡ heard.caller = ap (λ (r : Receiving). r.caller) given ∙ ap (λ (r : Receiving). r.caller) kept in
+    let socket : attended.socket ≡ between.socket = ap (λ (r : Receiving). r.socket) given in
+    let here : AttendsAll plan moment heard.offer asked placed = subst (λ (o : Offer). AttendsAll plan moment o asked placed) offer attends in
+    let by : AsksCaller plan placed heard.caller attended.socket left.socket = subst (λ c. AsksCaller plan placed c attended.socket left.socket) caller calls in
+    let through : attended ≡ offer_given (record heard { socket = between.socket }) = given ∙ ap offer_given kept in
+    record {
+      asked = between.socket;
+      asks = asks;
+      placed = placed;
+      attends = subst (λ (xs : List Session). AttendsAll plan moment heard.offer xs placed) same here;
+      calls = subst (λ (s : Listening). AsksCaller plan placed heard.caller s left.socket) socket by;
+      told = told;
+      given = called ∙ ap (λ (r : Receiving). record (caller_given r) { socket = left.socket }) through;
+    }

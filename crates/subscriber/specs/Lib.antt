@@ -27,3 +27,4 @@ pub mod FirstFrames
 pub mod Sessions
 pub mod Callers
 pub mod Choosing
+pub mod Attending

@@ -7,6 +7,7 @@ ghost use Rattle.endpoint.specs.declared.device_error.DeviceError.TheVariants.{D
 ghost use Rattle.peer.specs.StatusSockets.{unused};
 ghost use Rattle.peer.specs.declared.fault.BindError.{BindError};
 ghost use Rattle.subscriber.specs.Answering.{IsTicked, StaysAnswered};
+ghost use Rattle.subscriber.specs.Attending.{AnswersTurn};
 ghost use Rattle.subscriber.specs.Breaking.{BreaksActs, BreaksPlaces};
 ghost use Rattle.subscriber.specs.Endings.{AreDone, AreQuiet, EndsWithSessions, HasEnded, HasEnoughOfAll, HasStood, IsDone, IsEndingOfAll, have_lost};
 ghost use Rattle.subscriber.specs.Leavings.{IsQuietEnding, NotesHeard, enough_ending, of_bind};
@@ -389,6 +390,28 @@ impl Subscription<'_> {
         }
     }
 
+    /// Answers a turn, once all that its images gave is written: asks for SETUPs where an image lacks what doesn't come, finds
+    /// those that came their places, asks who sent a frame of a session that nobody follows for one, and tells what is new of
+    /// status messages to the thread that repeats them.
+    fn answer_turn<R: Wait, E: Write>(
+        &self,
+        rt: &R,
+        sessions: &mut Sessions,
+        now: u64,
+        errors: &mut E,
+    ) -> Result<(), SubscribeFault>
+        requires few { length sessions.old.list.items ≤ most_places self.now.plan }
+        requires some { 0 < length sessions.old.list.items }
+        ensures answers { OnOk result (AnswersTurn self.now.plan now sessions.old.list.items sessions.old.reception sessions.new.list.items sessions.new.reception) }
+        ensures few { OnOk result (length sessions.new.list.items ≤ most_places self.now.plan) }
+    {
+        self.ask_each(sessions);
+        self.attend(sessions, now, errors)?;
+        self.ask_caller(sessions);
+        self.tell_news(rt, sessions.list.as_mut_slice());
+        Ok(())
+    }
+
     /// Goes round until it ends. The answer is how many messages were written, and how it ends.
     fn follow<R: Wait + Clock, W: Write, E: Write>(
         &self,
@@ -429,10 +452,7 @@ impl Subscription<'_> {
             if let Some(ending) = self.ending_of(list, written) {
                 return Ok((written, ending));
             }
-            self.ask_each(sessions);
-            self.attend(sessions, watch.moment(), errors)?;
-            self.ask_caller(sessions);
-            self.tell_news(rt, sessions.list.as_mut_slice());
+            self.answer_turn(rt, sessions, watch.moment(), errors)?;
             idle.after(rt, busy || passed);
         }
         unreachable!()

@@ -97,25 +97,32 @@ returns-in-Some-ending_of-clause-lives g c =
     subst (λ (zs : List Session). FollowsAll plan (g.W.Write.contents c.args.output.now) c.in_ok-all.all zs (g.W.Write.contents c.look_at_each.new.output)) (sym whole)
     (c.in_ok-all.ensures.lives (g.W.Write.contents c.args.output.now) follows)
 
-pub attend-requires-clause-few : goal.attend-requires-clause-few
-attend-requires-clause-few g c =
+pub answer_turn-requires-clause-few : goal.answer_turn-requires-clause-few
+answer_turn-requires-clause-few g c =
     let plan = c.args.self.now.plan in
     let value = c.as_mut_slice-list.ensures.value in
     let zipped = zip_length HasLooked c.as_mut_slice-list.result.now c.look_at_each.new.sessions c.in_ok-all.ensures.looked in
     let whole = written_whole c.read.new.self.list.items c.look_at_each.new.sessions c.read.new.self.list.len c.read.new.self.list.ok.0 (zipped ∙ ap length value) in
     let same = read_length _ c.loop.sessions.list.items _ _ c.begin_turn.ensures.each c.read.ensures.kept in
-    let asked : c.ask_each.new.sessions.list.items ≡ c.look_at_each.new.sessions = ap (λ l. l.items) c.ask_each.ensures.same ∙ whole in
-    subst (λ (zs : List Session). length zs ≤ most_places plan) (sym asked) (subst (λ (n : ℕ). n ≤ most_places plan) (sym (zipped ∙ ap length value ∙ same)) c.loop.invariant.places)
+    subst (λ (zs : List Session). length zs ≤ most_places plan) (sym whole) (subst (λ (n : ℕ). n ≤ most_places plan) (sym (zipped ∙ ap length value ∙ same)) c.loop.invariant.places)
 
-pub returns-in_err-attend-clause-broken : goal.returns-in_err-attend-clause-broken
-returns-in_err-attend-clause-broken g c =
+pub answer_turn-requires-clause-some : goal.answer_turn-requires-clause-some
+answer_turn-requires-clause-some g c =
+    let value = c.as_mut_slice-list.ensures.value in
+    let zipped = zip_length HasLooked c.as_mut_slice-list.result.now c.look_at_each.new.sessions c.in_ok-all.ensures.looked in
+    let whole = written_whole c.read.new.self.list.items c.look_at_each.new.sessions c.read.new.self.list.len c.read.new.self.list.ok.0 (zipped ∙ ap length value) in
+    let same = read_length _ c.loop.sessions.list.items _ _ c.begin_turn.ensures.each c.read.ensures.kept in
+    subst (λ (zs : List Session). 0 < length zs) (sym whole) (subst (λ (n : ℕ). 0 < n) (sym (zipped ∙ ap length value ∙ same)) c.loop.invariant.some)
+
+pub returns-in_err-answer_turn-clause-broken : goal.returns-in_err-answer_turn-clause-broken
+returns-in_err-answer_turn-clause-broken g c =
     let plan = c.args.self.now.plan in
     let value = c.as_mut_slice-list.ensures.value in
     let read : AllZip IsRouted c.begin_turn.new.self.list.items c.as_mut_slice-list.result.now = subst (AllZip IsRouted c.begin_turn.new.self.list.items) (sym value) c.read.ensures.kept in
     let follows = read_followed plan (g.W.Write.contents c.args.output.now) (g.W.Write.contents c.loop.output) c.loop.written _ c.loop.sessions.list.items _ _ c.begin_turn.ensures.each read c.loop.invariant.lives in
     let zipped = zip_length HasLooked c.as_mut_slice-list.result.now c.look_at_each.new.sessions c.in_ok-all.ensures.looked in
     let same = read_length _ c.loop.sessions.list.items _ _ c.begin_turn.ensures.each read in
-    let p = err_from_is_err_and c.from_residual-in_err-attend.result c.from_residual-in_err-attend.ensures.1 in
+    let p = err_from_is_err_and c.from_residual-in_err-answer_turn.result c.from_residual-in_err-answer_turn.ensures.1 in
     rw p.1 (follows_breaks plan (g.W.Write.contents c.args.output.now) (g.W.Write.contents c.look_at_each.new.output) c.in_ok-all.all c.look_at_each.new.sessions
     (subst (λ (n : ℕ). n ≤ most_places plan) (sym (zipped ∙ same)) c.loop.invariant.places)
     (c.in_ok-all.ensures.lives (g.W.Write.contents c.args.output.now) follows))
@@ -130,25 +137,20 @@ loop-preserved g c =
     let zipped = zip_length HasLooked c.as_mut_slice-list.result.now c.look_at_each.new.sessions c.in_ok-all.ensures.looked in
     let whole = written_whole c.read.new.self.list.items c.look_at_each.new.sessions c.read.new.self.list.len c.read.new.self.list.ok.0 (zipped ∙ ap length value) in
     let same = read_length _ c.loop.sessions.list.items _ _ c.begin_turn.ensures.each read in
-    let asked : c.look_at_each.new.sessions ≡ c.ask_each.new.sessions.list.items = sym (ap (λ l. l.items) c.ask_each.ensures.same ∙ whole) in
-    let attends = c.in_ok-attend.ensures.attends in
-    let some : 0 < length c.ask_each.new.sessions.list.items = subst (λ (zs : List Session). 0 < length zs) asked (subst (λ (n : ℕ). 0 < n) (sym (zipped ∙ same)) c.loop.invariant.some) in
-    let lived = subst (λ (zs : List Session). FollowsAll plan (g.W.Write.contents c.args.output.now) c.in_ok-all.all zs (g.W.Write.contents c.look_at_each.new.output)) asked
+    let turn = c.in_ok-answer_turn.ensures.answers in
+    let kept = attended_kept plan _ _ _ turn.placed (subst (AllByRecursion IsLookedAt) (sym whole) looked) turn.attends in
+    let sized = attended_sized plan _ _ _ turn.placed (subst (AllByRecursion IsSized) (sym whole) c.look_at_each.ensures.size) turn.attends in
+    let lived = subst (λ (zs : List Session). FollowsAll plan (g.W.Write.contents c.args.output.now) c.in_ok-all.all zs (g.W.Write.contents c.look_at_each.new.output)) (sym whole)
     (c.in_ok-all.ensures.lives (g.W.Write.contents c.args.output.now) follows) in
-    let called : c.attend.new.sessions.list.items ≡ c.ask_caller.new.sessions.list.items = sym (ap (λ l. l.items) c.ask_caller.ensures.same) in
-    let told : c.tell_news.new.sessions ≡ map news_told c.ask_caller.new.sessions.list.items = c.tell_news.ensures ∙ ap (map news_told) c.as_mut_slice.ensures.value in
-    let size = ap length told ∙ length-map c.ask_caller.new.sessions.list.items news_told in
-    let last = written_whole c.ask_caller.new.sessions.list.items c.tell_news.new.sessions c.ask_caller.new.sessions.list.len c.ask_caller.new.sessions.list.ok.0 size in
-    let rest = sym last in
-    let kept = attended_kept plan _ _ c.ask_each.new.sessions.list.items c.attend.new.sessions.list.items (subst (AllByRecursion IsLookedAt) asked looked) attends in
-    let sized = attended_sized plan _ _ c.ask_each.new.sessions.list.items c.attend.new.sessions.list.items (subst (AllByRecursion IsSized) asked c.look_at_each.ensures.size) attends in
-    let held = attended_everything plan (g.W.Write.contents c.args.output.now) (g.W.Write.contents c.look_at_each.new.output) c.in_ok-all.all _ _ c.ask_each.new.sessions.list.items c.attend.new.sessions.list.items attends lived in
+    let held = attended_everything plan (g.W.Write.contents c.args.output.now) (g.W.Write.contents c.look_at_each.new.output) c.in_ok-all.all _ _ _ turn.placed turn.attends lived in
+    let some = attended_some plan _ _ _ turn.placed turn.attends
+    (subst (λ (zs : List Session). 0 < length zs) (sym whole) (subst (λ (n : ℕ). 0 < n) (sym (zipped ∙ same)) c.loop.invariant.some)) in
+    let size = ap length turn.told ∙ length-map turn.placed news_told in
     record {
-      size = subst (AllByRecursion IsSized) rest (told_sized _ _ (subst (AllByRecursion IsSized) called sized) told);
-      some = subst (λ (zs : List Session). 0 < length zs) rest (subst (λ (n : ℕ). 0 < n) (sym (size ∙ sym (ap length called))) (attended_some plan _ _ c.ask_each.new.sessions.list.items c.attend.new.sessions.list.items attends some));
-      places = subst (λ (zs : List Session). length zs ≤ most_places plan) rest (subst (λ (n : ℕ). n ≤ most_places plan) (sym (size ∙ sym (ap length called))) c.in_ok-attend.ensures.few);
+      size = told_sized _ _ sized turn.told;
+      some = subst (λ (n : ℕ). 0 < n) (sym size) some;
+      places = c.in_ok-answer_turn.ensures.few;
       few = c.in_ok-all.ensures.few;
-      kept = subst (AllByRecursion IsKept) rest (told_kept _ _ (subst (AllByRecursion IsKept) called kept) told);
-      lives = subst (λ (zs : List Session). FollowsAll plan (g.W.Write.contents c.args.output.now) c.in_ok-all.all zs (g.W.Write.contents c.look_at_each.new.output)) rest
-          (told_all plan _ _ _ _ _ told (subst (λ (zs : List Session). FollowsAll plan (g.W.Write.contents c.args.output.now) c.in_ok-all.all zs (g.W.Write.contents c.look_at_each.new.output)) called held));
+      kept = told_kept _ _ kept turn.told;
+      lives = told_all plan _ _ _ _ _ turn.told held;
     }
