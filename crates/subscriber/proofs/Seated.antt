@@ -47,7 +47,7 @@ given_within plan m xs i (none, is) =
       | inl oldest ↦ within oldest.1.front oldest.1.back oldest.1.here xs i oldest.1.parts oldest.1.at
       | inr vacant ↦ elim vacant.1 [
         | inl over ↦ first_within _ xs i over
-        | inr full ↦ elim full.1.1 [
+        | inr full ↦ elim full.2 [
           | inl ended ↦ first_within _ xs i ended
           | inr silent ↦ first_within _ xs i silent.1
         ]
