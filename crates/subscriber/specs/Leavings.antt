@@ -1,5 +1,5 @@
 -- When a subscriber has heard its session, why it ends, what it lives through then, and why it can't begin.
-use Rattle.std.specs.Prelude.{◌≡◌, ◌⊎◌, ◌≤◌, ⊤, ℕ, List, [], ◌∷◌, Bool, true, false, IsTrue, Option, None, Some, if◌then◌else◌}
+use Rattle.std.specs.Prelude.{◌≡◌, ◌⊎◌, ◌≤◌, ⊤, ℕ, ℤ, List, [], ◌∷◌, Bool, true, false, IsTrue, Option, None, Some, if◌then◌else◌}
 use Rattle.peer.specs.declared.fault.BindError.{BindError}
 use Rattle.peer.specs.declared.fault.BindError.TheVariants as binds
 use Rattle.options.specs.declared.ends.plans.SubscribePlan.{SubscribePlan}
@@ -101,6 +101,10 @@ pub record LeavesFrom (plan : SubscribePlan) (s : Seen) (x : Stand) (silent tell
 -- why there is no second thread: the clock can't be read, the system refused it, or memory was refused
 abbrev pub IsStartFault : SubscribeFault → Type 0
 IsStartFault fault = (fault ≡ NoThread) ⊎ ((fault ≡ Failed Device) ⊎ (fault ≡ Failed Memory))
+
+-- why no image could be opened: memory was refused, or a handle of the socket
+abbrev pub IsOpenFault : SubscribeFault → Type 0
+IsOpenFault fault = (fault ≡ Failed Memory) ⊎ ((number : Option ℤ) × (fault ≡ NoSocket number))
 
 -- why there is no listener at this address
 abbrev pub of_bind : SocketAddr → BindError → SubscribeFault

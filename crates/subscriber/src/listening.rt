@@ -1,6 +1,6 @@
 //! A subscriber without an image.
 
-ghost use Rattle.std.specs.Prelude.{◌≡◌, ◌<◌, IfNone, IfOk, IfSome, OnOk, option_map};
+ghost use Rattle.std.specs.Prelude.{◌≡◌, ◌<◌, IfErr, IfNone, IfOk, IfSome, OnOk, option_map};
 ghost use Rattle.std.specs.Io.KnownBytes.{Appends};
 ghost use Rattle.theory.specs.Control.{asking_at};
 ghost use Rattle.theory.specs.Wire.{IsHeader, SM};
@@ -10,6 +10,7 @@ ghost use Rattle.peer.specs.Peers.{sending_to};
 ghost use Rattle.subscriber.specs.Hearings.{following};
 ghost use Rattle.frames.specs.Frames.{header_of, setup_of, status_of};
 ghost use Rattle.subscriber.specs.Calls.{Heeds, IsCall, IsFrameCall, IsJoined, IsJoinedBy};
+ghost use Rattle.subscriber.specs.Leavings.{IsOpenFault};
 ghost use Rattle.subscriber.specs.Meetings.{Opens, id_of};
 ghost use Rattle.subscriber.specs.Texts.{waiting_counts, waiting_line};
 ghost use Rattle.subscriber.specs.Watches.{HasWaited, TellsWhereDue};
@@ -120,6 +121,7 @@ fn session_duty(
     reception: &Reception,
     meeting: &SetupOffer,
 ) -> Result<Duty<SubscriberDevice>, SubscribeFault>
+    ensures refused { IfErr result IsOpenFault }
     ensures made { IfOk result (λ d. d ≡ record { device = following (begun (patient (sending_to meeting.now.from)) plan.now.end.rates plan.now.end.seed) meeting.now.opening.session plan.now.end.stream; mtu = 40 }) }
 {
     let peer = match reception.peer_device(meeting.from) {
@@ -144,7 +146,8 @@ pub(crate) fn join(
     now: u64,
 ) -> Result<Session, SubscribeFault>
     requires { seat.place < 16 }
-    ensures { IfOk result (IsJoinedBy plan.now seat.place seat.share now meeting.now) }
+    ensures refused { IfErr result IsOpenFault }
+    ensures joined { IfOk result (IsJoinedBy plan.now seat.place seat.share now meeting.now) }
 {
     let images = Images::first(seat.place);
     let setup = &meeting.setup;

@@ -10,7 +10,7 @@ ghost use Rattle.subscriber.specs.Answering.{IsTicked, StaysAnswered};
 ghost use Rattle.subscriber.specs.Attending.{AnswersTurn};
 ghost use Rattle.subscriber.specs.Breaking.{BreaksActs, BreaksPlaces};
 ghost use Rattle.subscriber.specs.Endings.{AreDone, AreQuiet, EndsWithSessions, HasEnded, HasEnoughOfAll, HasStood, IsDone, IsEndingOfAll, have_lost};
-ghost use Rattle.subscriber.specs.Leavings.{IsQuietEnding, NotesHeard, enough_ending, of_bind};
+ghost use Rattle.subscriber.specs.Leavings.{IsOpenFault, IsQuietEnding, NotesHeard, enough_ending, of_bind};
 ghost use Rattle.subscriber.specs.Living.{FollowsAll, LivesOn, Writes, WritesPlaces};
 ghost use Rattle.subscriber.specs.Losing.{AsksEach, JudgesTurn};
 ghost use Rattle.subscriber.specs.Places.{most_places};
@@ -402,6 +402,7 @@ impl Subscription<'_> {
     ) -> Result<(), SubscribeFault>
         requires few { length sessions.old.list.items ≤ most_places self.now.plan }
         requires some { 0 < length sessions.old.list.items }
+        ensures refused { IfErr result IsOpenFault }
         ensures answers { OnOk result (AnswersTurn self.now.plan now sessions.old.list.items sessions.old.reception sessions.new.list.items sessions.new.reception) }
         ensures few { OnOk result (length sessions.new.list.items ≤ most_places self.now.plan) }
     {

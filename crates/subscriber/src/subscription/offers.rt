@@ -1,14 +1,17 @@
 //! What a subscriber makes of SETUPs.
 
-ghost use Rattle.std.specs.Prelude.{◌≡◌, ◌<◌, ◌≤◌, ◌↔◌, IfNone, IfSome, IsTrue, OnErr, OnOk, length};
+ghost use Rattle.std.specs.Prelude.{◌≡◌, ◌<◌, ◌≤◌, ◌↔◌, IfErr, IfNone, IfSome, IsTrue, OnErr, OnOk, length};
 ghost use Rattle.std.specs.List.{AllZip};
 ghost use Rattle.std.specs.Io.KnownBytes.{Appends};
+ghost use Rattle.endpoint.specs.declared.device_error.DeviceError.TheVariants.{Memory};
 ghost use Rattle.subscriber.specs.Choosing.{AttendsAll, IsChosen, IsEnded, IsFirst, IsItsOwn, IsNone, IsOldest, IsOver, IsPlaced, IsSilentNow, Joins, unheard_count};
+ghost use Rattle.subscriber.specs.Leavings.{IsOpenFault};
 ghost use Rattle.subscriber.specs.Losing.{AsksAnew, AsksEach};
 ghost use Rattle.subscriber.specs.Places.{most_places};
 ghost use Rattle.subscriber.specs.Receivings.{offer_given};
 ghost use Rattle.subscriber.specs.Sessions.{share_of};
 ghost use Rattle.subscriber.specs.Turning.{AttendsOwn, Considers, IsRenewed, Replaces, TellsLoss, Turns};
+ghost use Rattle.subscriber.specs.declared.fault.SubscribeFault.TheVariants.{Failed};
 
 use crate::fault::SubscribeFault;
 use crate::images::follower::Follower;
@@ -159,6 +162,7 @@ impl Subscription<'_> {
         meeting: &SetupOffer,
         loss: Option<Loss>,
     ) -> Result<(), SubscribeFault>
+        ensures refused { IfErr result (λ fault. fault ≡ Failed Memory) }
         ensures renewed { OnOk result (IsRenewed self.now.plan share meeting.now loss session.old session.new) }
         ensures kept { OnErr result (session.new.follower.subscriber ≡ session.old.follower.subscriber) }
         ensures size { session.new.duty.mtu ≡ session.old.duty.mtu }
@@ -197,6 +201,7 @@ impl Subscription<'_> {
         meeting: &SetupOffer,
         errors: &mut E,
     ) -> Result<(), SubscribeFault>
+        ensures refused { IfErr result (λ fault. fault ≡ Failed Memory) }
         ensures renewed { OnOk result (Replaces self.now.plan share meeting.now session.old session.new) }
         ensures kept { OnErr result (session.new.follower.subscriber ≡ session.old.follower.subscriber) }
         ensures size { session.new.duty.mtu ≡ session.old.duty.mtu }
@@ -220,6 +225,7 @@ impl Subscription<'_> {
         meeting: &SetupOffer,
         errors: &mut E,
     ) -> Result<(), SubscribeFault>
+        ensures refused { IfErr result (λ fault. fault ≡ Failed Memory) }
         ensures turns { OnOk result (Turns self.now.plan share meeting.now session.old session.new) }
         ensures kept { OnErr result (session.new.follower.subscriber ≡ session.old.follower.subscriber) }
         ensures size { session.new.duty.mtu ≡ session.old.duty.mtu }
@@ -244,6 +250,7 @@ impl Subscription<'_> {
         offer: (SocketAddr, Setup),
         errors: &mut E,
     ) -> Result<(), SubscribeFault>
+        ensures refused { IfErr result (λ fault. fault ≡ Failed Memory) }
         ensures considers { OnOk result (Considers self.now.plan share offer.0 offer.1 session.old session.new) }
         ensures kept { OnErr result (session.new.follower.subscriber ≡ session.old.follower.subscriber) }
         ensures size { session.new.duty.mtu ≡ session.old.duty.mtu }
@@ -261,6 +268,7 @@ impl Subscription<'_> {
         share: u64,
         errors: &mut E,
     ) -> Result<(), SubscribeFault>
+        ensures refused { IfErr result (λ fault. fault ≡ Failed Memory) }
         ensures attends { OnOk result (AttendsOwn self.now.plan share session.old session.new) }
         ensures kept { OnErr result (session.new.follower.subscriber ≡ session.old.follower.subscriber) }
         ensures size { session.new.duty.mtu ≡ session.old.duty.mtu }
@@ -279,6 +287,7 @@ impl Subscription<'_> {
         sessions: &mut [Session],
         errors: &mut E,
     ) -> Result<(), SubscribeFault>
+        ensures refused { IfErr result (λ fault. fault ≡ Failed Memory) }
         ensures attends { OnOk result (AllZip (λ j k. AttendsOwn self.now.plan (share_of sessions.old j) j k) sessions.old sessions.new) }
     {
         let open = open_count(sessions);
@@ -326,6 +335,7 @@ impl Subscription<'_> {
         errors: &mut E,
     ) -> Result<(), SubscribeFault>
         requires { length sessions.old.list.items < 16 }
+        ensures refused { IfErr result IsOpenFault }
         ensures joins { OnOk result (Joins self.now.plan meeting.now now sessions.old.list.items sessions.new.list.items) }
         ensures same { sessions.new.reception ≡ sessions.old.reception }
     {
@@ -360,6 +370,7 @@ impl Subscription<'_> {
     ) -> Result<(), SubscribeFault>
         requires few { length sessions.old.list.items ≤ most_places self.now.plan }
         requires some { 0 < length sessions.old.list.items }
+        ensures refused { IfErr result IsOpenFault }
         ensures placed { OnOk result (IsPlaced self.now.plan meeting.now now sessions.old.list.items sessions.new.list.items) }
         ensures few { OnOk result (length sessions.new.list.items ≤ most_places self.now.plan) }
         ensures same { sessions.new.reception ≡ sessions.old.reception }
@@ -390,6 +401,7 @@ impl Subscription<'_> {
     ) -> Result<(), SubscribeFault>
         requires few { length sessions.old.list.items ≤ most_places self.now.plan }
         requires some { 0 < length sessions.old.list.items }
+        ensures refused { IfErr result IsOpenFault }
         ensures attends { OnOk result (AttendsAll self.now.plan now sessions.old.reception.offer sessions.old.list.items sessions.new.list.items) }
         ensures left { OnOk result (sessions.new.reception ≡ offer_given sessions.old.reception) }
         ensures few { OnOk result (length sessions.new.list.items ≤ most_places self.now.plan) }

@@ -27,4 +27,4 @@ pub returns : goal.returns
 returns g c =
     let same = c.loop-session.auto.sessions in
     let end = c.loop-session-test.false in
-    record { attends = zip_whole (λ j k. AttendsOwn c.args.self.now.plan (share_of c.args.sessions.now j) j k) c.loop-session.sessions c.args.sessions.now c.loop-session.session-index (omega (arith, same, end)) (omega (arith, end)) c.loop-session.invariant.done }
+    record { refused = tt; attends = zip_whole (λ j k. AttendsOwn c.args.self.now.plan (share_of c.args.sessions.now j) j k) c.loop-session.sessions c.args.sessions.now c.loop-session.session-index (omega (arith, same, end)) (omega (arith, end)) c.loop-session.invariant.done }
