@@ -1,7 +1,7 @@
 //! The rights to a region's bytes. They take no memory: what a contract says of them is ghost state.
 ghost use Rattle.std.specs.Prelude.{◌≡◌, ℕ, ◌+◌, ◌-◌, ◌^◌, ◌<◌, ◌≤◌, List, [], ◌++◌, length, take, drop};
 ghost use base.Fml.{ftrue};
-ghost use Rattle.region.specs.Identity.{Identity, Round, byte_address, identity_code, round_code, start_address};
+ghost use Rattle.region.specs.Identity.{Identity, Round, identity_code, round_code, start_address};
 ghost use Rattle.region.specs.Owned.{write_owns, read_owns, read_shares};
 
 use crate::region::{Region, RegionStart};
@@ -197,18 +197,7 @@ impl ReadAccess {
             × (len ≤ length self.now.items) }
         ensures { result.now ≡ take len self.now.items }
     {
-        let first = unsafe { start.address.byte_add(at) };
-        self.read(region, first.cast_const(), len)
-    }
-
-    /// The first bytes at `first`.
-    #[inline(always)]
-    fn read<'a>(&'a self, region: &'a Region, first: *const u8, len: usize) -> &'a [u8]
-        requires { (0 < self.now.count) × (self.now.identity ≡ region.now.identity)
-            × (first ≡ byte_address self.now.identity self.now.at) × (len ≤ length self.now.items) }
-        ensures { result.now ≡ take len self.now.items }
-    {
-        unsafe { slice::from_raw_parts(first, len) }
+        unsafe { slice::from_raw_parts(start.address.cast_const().add(at), len) }
     }
 
     /// All parts are back, and the round is over: the bytes are as they were, and may be written.

@@ -1,8 +1,8 @@
-//! Bytes copied in and out, and made zero.
-ghost use Rattle.std.specs.Prelude.{◌≡◌, ◌^◌, ◌≤◌, ◌<◌, ◌++◌, length, take, drop, replicate};
+//! Bytes copied in, and made zero.
+ghost use Rattle.std.specs.Prelude.{◌≡◌, ◌^◌, ◌≤◌, ◌<◌, ◌++◌, length, drop, replicate};
 ghost use Rattle.region.specs.Identity.{start_address};
 
-use crate::access::{ReadAccess, WriteAccess};
+use crate::access::WriteAccess;
 use crate::region::{Region, RegionStart};
 use std::sync::Arc;
 
@@ -56,20 +56,6 @@ impl WriteAccess {
         let (mut bytes, loan) = self.lend(region, start, at, len);
         make_zero(&mut bytes);
         loan.end(bytes)
-    }
-}
-
-impl ReadAccess {
-    /// Copies the first bytes, which lie `at` bytes behind the region's start.
-    #[inline(always)]
-    pub fn copy_to(&self, region: &Region, start: RegionStart, at: usize, into: &mut [u8])
-        requires some { 0 < self.now.count }
-        requires region { self.now.identity ≡ region.now.identity }
-        requires place { (start.address ≡ start_address self.now.identity) × (at ≡ self.now.at)
-            × (length into.old ≤ length self.now.items) }
-        ensures { into.new ≡ take (length into.old) self.now.items }
-    {
-        copy(into, self.bytes(region, start, at, into.len()));
     }
 }
 
