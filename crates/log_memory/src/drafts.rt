@@ -6,16 +6,13 @@ ghost use Rattle.region.specs.Identity.{start_address};
 ghost use Rattle.publication.specs.Steps.{frame};
 ghost use Rattle.log_memory.specs.Drafts.{IsDraft, IsParted, MayStore, StoresFrame, behind_of, words_of};
 ghost use Rattle.log_memory.specs.Kinds.{IsSeatOf};
-ghost use Rattle.log_memory.specs.Places.{head_place};
 ghost use Rattle.log_memory.specs.Rule.{ring};
 ghost use Rattle.log_memory.specs.Steps.{CarriesRange, IsRoomAt};
 
 use crate::memory::LogMemory;
-use crate::publisher::commit;
 use crate::rights::{LogSeat, Rowed, deal_parts, gather};
-use crate::steps::Picked;
+use crate::steps::{Commit, Picked};
 use region::{Region, RegionStart, WriteAccess};
-use std::marker::Brand;
 use std::sync::Arc;
 
 /// A frame that is stored: where it begins, how many bytes it covers, the three words of its header
@@ -74,7 +71,7 @@ fn write_parts(
 /// Stores a frame in the room that the seat carries in front, over the chosen slots, and puts the
 /// parts of the right to read it in its slots.
 #[inline(always)]
-pub fn store_frame<N: Rowed>(
+pub(crate) fn store_frame<N: Rowed>(
     memory: &LogMemory,
     seat: &mut LogSeat,
     home: Arc<Region>,
@@ -102,9 +99,10 @@ pub fn store_frame<N: Rowed>(
     home
 }
 
+/// Stores the word of a frame, which is committed then, and gives the parts of its memory, which
+/// are in front of what the seat carries.
 #[inline(always)]
-fn commit_as<N: Picked>(memory: &LogMemory, seat: &mut LogSeat, draft: &Draft<'_>, place: usize)
-    requires place { place ≡ head_place (ring memory.now.table.shared.key) draft.now.start }
+pub(crate) fn commit_word<N: Picked>(memory: &LogMemory, seat: &mut LogSeat, draft: &Draft<'_>)
     requires seat { IsSeatOf memory.now.table.shared.key memory.now.table.shared.table_id
         seat.old.table_id }
     requires draft { IsDraft draft.now }
@@ -118,34 +116,7 @@ fn commit_as<N: Picked>(memory: &LogMemory, seat: &mut LogSeat, draft: &Draft<'_
     ensures stores { StoresFrame draft.now (behind_of draft.now seat.old.me.1) seat.old.me
         seat.new.me }
 {
-    let table = &memory.table.shared;
-    commit::<N>(table, seat, place, draft.first);
-}
-
-/// Commits an open frame of the seat's pass whose room it carries in front, over the chosen slots:
-/// its bytes are written plainly, then its first word is stored, by one step, which gives its parts
-/// to those who read it.
-#[inline(always)]
-pub fn commit_frame<N: Rowed>(
-    memory: &LogMemory,
-    seat: &mut LogSeat,
-    home: Arc<Region>,
-    draft: &Draft<'_>,
-) -> Arc<Region>
-    requires seat { IsSeatOf memory.now.table.shared.key memory.now.table.shared.table_id
-        seat.old.table_id }
-    requires home { home.value.identity ≡ memory.now.table.shared.key.region.identity }
-    requires draft { IsDraft draft.now }
-    requires may { MayStore memory.now.table.shared.key draft.now seat.old.me }
-    requires row { CarriesRange memory.now.table.shared.key (IsRoomAt memory.now.table.shared.key)
-        draft.now.start draft.now.bytes N.behind seat.old.me.1 }
-    ensures home { result.value.identity ≡ home.value.identity }
-    ensures seat { (seat.new.table_id ≡ seat.old.table_id) × (seat.new.id ≡ seat.old.id) }
-    ensures stores { StoresFrame draft.now N.behind seat.old.me seat.new.me }
-{
-    let _ = &memory.table;
     let place = memory.head(draft.start);
-    let home = store_frame::<N>(memory, seat, home, draft);
-    commit_as::<Brand>(memory, seat, draft, place);
-    home
+    let table = &memory.table.shared;
+    table.store::<Commit<N>>(seat, place, draft.first);
 }

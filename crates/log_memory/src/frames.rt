@@ -12,38 +12,12 @@ ghost use Rattle.log_memory.specs.Steps.{Carries, Gives, MayTakeBack};
 
 use crate::keeper::{give_room, take_back};
 use crate::memory::LogMemory;
-use crate::reader::give;
 use crate::rights::{LogSeat, collect_parts, deal_room};
+use crate::steps::Give;
 use frame_words::head_in;
 use position::align32;
-use region::{Access, ReadAccess, Region, WriteAccess};
+use region::{Access, Region, WriteAccess};
 use std::sync::Arc;
-
-/// Copies what lies behind a frame's header.
-#[inline(always)]
-fn copy_behind(into: &mut [u8], bytes: &[u8])
-    requires { length bytes.now ≡ 32 + length into.old }
-    ensures { into.new ≡ drop 32 bytes.now }
-{
-    into.copy_from_slice(&bytes[32..]);
-}
-
-/// Copies the bytes behind the header of a frame of which a part shows all, as many as there are
-/// places. It lies `at` bytes behind the region's start.
-#[inline(always)]
-fn show_part(memory: &LogMemory, part: &ReadAccess, at: usize, into: &mut [u8])
-    requires part { (part.now.identity ≡ memory.now.table.shared.key.region.identity)
-        × (0 < part.now.count) }
-    requires place { part.now.at ≡ at }
-    requires inside { 32 + length into.old ≤ length part.now.items }
-    ensures { into.new ≡ take (length into.old) (drop 32 part.now.items) }
-{
-    let _ = &memory.table;
-    copy_behind(
-        into,
-        part.bytes(&memory.region, memory.start, at, 32 + into.len()),
-    );
-}
 
 /// Copies the bytes behind the header of the frame that begins at `start`, as many as there are
 /// places: the first slot that the seat carries has the part of the consumer with this number. The
@@ -70,7 +44,8 @@ pub fn copy_part(
     let table = &memory.table.shared;
     let slot = memory.slot(start) + number as usize;
     let Access { write, read } = table.exchange(seat, slot, Access::none());
-    show_part(memory, &read, at, into);
+    let bytes = read.bytes(&memory.region, memory.start, at, 32 + into.len());
+    into.copy_from_slice(&bytes[32..]);
     let _none = table.exchange(seat, slot, Access { write, read });
 }
 
@@ -84,7 +59,7 @@ pub fn give_back(memory: &LogMemory, seat: &mut LogSeat, place: usize)
     ensures seat { (seat.new.table_id ≡ seat.old.table_id) × (seat.new.id ≡ seat.old.id) }
     ensures told { Gives seat.old.me seat.new.me }
 {
-    give(&memory.table.shared, seat, place);
+    memory.table.shared.load::<Give>(seat, place);
 }
 
 /// Takes the memory of the frame that begins where memory was taken back, at `freed`, and that all

@@ -5,6 +5,7 @@ ghost use Rattle.log_memory.specs.Found.{PartsAreFound};
 
 /// Each kind of step, whatever stands when it happens, keeps the rule, and tells of its seat what
 /// its call says.
+#[inline(always)]
 pub fn steps_keep()
     ensures { StepsKeep }
 {}
@@ -17,6 +18,7 @@ pub fn seats_keep()
 
 /// A reader that found a frame where it stands carries its part of that in front, and may give it
 /// back; so does one that loaded the word of a frame that it has.
+#[inline(always)]
 pub fn parts_are_found()
     ensures { PartsAreFound }
 {}

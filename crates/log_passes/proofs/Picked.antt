@@ -13,7 +13,7 @@ use Rattle.publication.specs.declared.pass.Reading.{Reading}
 use Rattle.publication.specs.Steps.{term_of}
 use Rattle.log_rule.specs.Readings.{Has, IsConsumer}
 use Rattle.log_memory.specs.Steps.{MayReread}
-use Rattle.log_passes.specs.declared.reader.Consumer.{Consumer}
+use Rattle.log_memory.specs.declared.reader.Consumer.{Consumer}
 use Rattle.log_passes.specs.Readers.{IsAt, MayRereadAt, frame_from, had_at, reading_at}
 
 pub reading_is : (rs : List Reading) (place : ℕ) (r : Reading) → get_elem? rs place ≡ some r → reading_at place rs ≡ r

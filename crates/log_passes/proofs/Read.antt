@@ -27,7 +27,7 @@ use Rattle.log_memory.specs.Kinds.{LooksHere}
 use Rattle.log_memory.specs.Places.{slot_of}
 use Rattle.log_memory.specs.Rule.{ring}
 use Rattle.log_memory.specs.Steps.{Gives, Mine, Rereads}
-use Rattle.log_passes.specs.declared.reader.Consumer.{Consumer}
+use Rattle.log_memory.specs.declared.reader.Consumer.{Consumer}
 use Rattle.log_passes.specs.Readers.{Copies, IsAt, IsRead, MayRereadAt, frame_from, had_at, part_bytes, reading_at}
 use Rattle.log_passes.specs.Rests.{IsResting}
 use Rattle.log_passes.proofs.Heads.{behind_first, behind_header, part_inside}

@@ -12,7 +12,7 @@ use Rattle.publication.specs.Steps.{term_of}
 use Rattle.log_rule.specs.Readings.{Has, IsConsumer, IsFrameAt}
 use Rattle.log_memory.specs.Kinds.{no_frame, no_reading}
 use Rattle.log_passes.specs.Handles.{PublisherValue}
-use Rattle.log_passes.specs.declared.reader.Consumer.{Consumer}
+use Rattle.log_memory.specs.declared.reader.Consumer.{Consumer}
 
 -- the consumer at its place among those of the pass has its number, and stands where it says
 pub record IsAt (v : Pass) (c : Consumer) : Type 0 where

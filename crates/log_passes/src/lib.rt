@@ -21,6 +21,6 @@ mod reader;
 mod seats;
 
 pub use log::Log;
+pub use log_memory::Consumer;
 pub use meeting::meets_never_fall;
 pub use pass::LogPass;
-pub use reader::Consumer;

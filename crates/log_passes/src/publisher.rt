@@ -14,11 +14,12 @@ ghost use Rattle.log_passes.specs.Handles.{IsOf, Stepped};
 use crate::log::Log;
 use crate::pass::LogPass;
 use log_memory::{
-    Draft, add_open, commit_open, exchange_count, exchange_next, load_count, load_limit, load_next,
-    load_tail,
+    Arm, Count, Draft, ExchangeCount, See, add_open, commit_open, exchange_next, load_next,
+    steps_keep,
 };
-use log_rule::packed;
+use log_rule::{COUNT, packed, place_of};
 use region::Region;
+use std::marker::Brand;
 use std::sync::Arc;
 
 impl Log {
@@ -29,7 +30,8 @@ impl Log {
         ensures stepped { Stepped (steps.Limit result ∷ []) pass.old pass.new }
         ensures told { Sees pass.old.pass result pass.new.pass }
     {
-        load_limit(&self.memory.table.shared, &mut pass.seat)
+        steps_keep();
+        self.memory.table.shared.load::<See>(&mut pass.seat, 0)
     }
 
     /// Loads the active count.
@@ -39,7 +41,9 @@ impl Log {
         ensures stepped { Stepped (steps.Count result ∷ []) pass.old pass.new }
         ensures told { Counts pass.old.pass result pass.new.pass }
     {
-        load_count(&self.memory.table.shared, &mut pass.seat) as u32
+        steps_keep();
+        let table = &self.memory.table.shared;
+        table.load::<Count>(&mut pass.seat, COUNT) as u32
     }
 
     /// Loads the tail of the count that was loaded. The pass has a publisher's parts, and its
@@ -54,7 +58,9 @@ impl Log {
         ensures stepped { Stepped (tail_step pass.old.pass result ∷ []) pass.old pass.new }
         ensures told { Arms pass.old.pass result pass.new.pass }
     {
-        load_tail(&self.memory.table.shared, &mut pass.seat, count)
+        steps_keep();
+        let table = &self.memory.table.shared;
+        table.load::<Arm>(&mut pass.seat, place_of(count))
     }
 
     /// Adds what a message of `size` bytes covers to the tail for which the pass is armed. The
@@ -73,7 +79,7 @@ impl Log {
             size) (self.now.identity.geometry.term_length - offset_in result.0) }
     {
         let geometry = self.identity.geometry();
-        add_open(&self.memory, &mut pass.seat, &geometry, count, size)
+        add_open::<Brand>(&self.memory, &mut pass.seat, &geometry, count, size)
     }
 
     /// Loads the tail behind a count's, whose term is used up.
@@ -116,7 +122,10 @@ impl Log {
         ensures stepped { Stepped (steps.CountExchange count result ∷ []) pass.old pass.new }
         ensures told { ExchangesCount pass.old.pass count result pass.new.pass }
     {
-        exchange_count(&self.memory.table.shared, &mut pass.seat, count) as u32
+        steps_keep();
+        let table = &self.memory.table.shared;
+        let from = u64::from(count);
+        table.compare_exchange::<ExchangeCount>(&mut pass.seat, COUNT, from, from + 1) as u32
     }
 
     /// Commits one of the pass's open frames: its bytes are written plainly, then its first word is
@@ -131,6 +140,6 @@ impl Log {
         ensures stepped { Stepped [] pass.old pass.new }
         ensures told { Stores draft.now pass.old.pass pass.new.pass }
     {
-        commit_open(&self.memory, &mut pass.seat, home, draft)
+        commit_open::<Brand>(&self.memory, &mut pass.seat, home, draft)
     }
 }

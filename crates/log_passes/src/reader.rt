@@ -1,36 +1,18 @@
 //! A reader's steps.
 
-ghost use Rattle.std.specs.Prelude.{◌≡◌, ◌+◌, ◌-◌, ◌<◌, ◌≤◌, [], length};
+ghost use Rattle.std.specs.Prelude.{◌≡◌, ◌<◌, length};
 ghost use Rattle.std.specs.Int.{w64, to_le_bytes};
 ghost use Rattle.frame_words.specs.Contents.{head_by};
 ghost use Rattle.log_rule.specs.Readings.{Consumes, Looks, MayPass};
-ghost use Rattle.log_memory.specs.Kinds.{IsSeatOf, LooksHere, StoresPosition};
-ghost use Rattle.log_memory.specs.Places.{head_place};
-ghost use Rattle.log_memory.specs.Rule.{ring};
-ghost use Rattle.log_memory.specs.Steps.{IsIdle, Rereads};
 ghost use Rattle.log_passes.specs.Handles.{IsOf};
-ghost use Rattle.log_passes.specs.Readers.{CopiesHad, CopiesKnown, IsAt, MayRereadAt, ReadsAgain, SameSeat, frame_from, had_at, part_bytes, reading_at};
+ghost use Rattle.log_passes.specs.Readers.{CopiesHad, CopiesKnown, IsAt, MayRereadAt, ReadsAgain, SameSeat, part_bytes};
 
 use crate::log::Log;
 use crate::pass::LogPass;
 use frame_words::head_in;
-use log_memory::{
-    LogMemory, LogSeat, Picked, consume, copy_part, give_back, look, parts_are_found, reread,
-};
-use log_rule::Chosen;
+use log_memory::{Consumer, consume, copy_part, give_back, look, parts_are_found, reread};
 use position::FrameKind;
 use std::marker::Brand;
-
-/// One of the consumers that a pass is.
-#[derive(Clone, Copy)]
-pub struct Consumer {
-    /// Its place among those of the pass.
-    pub place: u64,
-    /// Its number, 0 to 7.
-    pub number: u64,
-    /// Where it stands.
-    pub position: u64,
-}
 
 /// How many bytes of a frame's payload are copied where there is so much room: all, or none where
 /// they are more. A padding has none.
@@ -46,111 +28,6 @@ fn part_in(word: u64, start: u64, room: usize) -> usize
         }
         FrameKind::Pad => 0,
     }
-}
-
-#[inline(always)]
-fn look_as<N: Picked>(
-    memory: &LogMemory,
-    seat: &mut LogSeat,
-    consumer: &Consumer,
-    head: usize,
-) -> u64
-    requires head { head ≡ head_place (ring memory.now.table.shared.key) consumer.now.position }
-    requires seat { IsSeatOf memory.now.table.shared.key memory.now.table.shared.table_id
-        seat.old.table_id }
-    requires idle { IsIdle seat.old.me.0 }
-    requires consumer { IsAt seat.old.me.0.view.pass consumer.now }
-    requires site { N.site ≡ memory.now.table.shared.key }
-    requires place { N.number ≡ consumer.now.place }
-    requires reading { N.reading ≡ reading_at consumer.now.place seat.old.me.0.view.pass.reading }
-    ensures seat { (seat.new.table_id ≡ seat.old.table_id) × (seat.new.id ≡ seat.old.id) }
-    ensures told { LooksHere memory.now.table.shared.key consumer.now.place (reading_at
-        consumer.now.place seat.old.me.0.view.pass.reading) seat.old.me result seat.new.me }
-{
-    let table = &memory.table.shared;
-    let _ = consumer;
-    look::<N>(table, seat, head)
-}
-
-/// Loads the word where the consumer stands. Its part of the frame that begins there, if there is
-/// one, is its seat's then.
-#[inline(always)]
-fn look_at(memory: &LogMemory, seat: &mut LogSeat, consumer: &Consumer, head: usize) -> u64
-    requires head { head ≡ head_place (ring memory.now.table.shared.key) consumer.now.position }
-    requires seat { IsSeatOf memory.now.table.shared.key memory.now.table.shared.table_id
-        seat.old.table_id }
-    requires idle { IsIdle seat.old.me.0 }
-    requires consumer { IsAt seat.old.me.0.view.pass consumer.now }
-    ensures seat { (seat.new.table_id ≡ seat.old.table_id) × (seat.new.id ≡ seat.old.id) }
-    ensures told { LooksHere memory.now.table.shared.key consumer.now.place (reading_at
-        consumer.now.place seat.old.me.0.view.pass.reading) seat.old.me result seat.new.me }
-{
-    look_as::<Brand>(memory, seat, consumer, head)
-}
-
-#[inline(always)]
-fn reread_as<N: Picked>(
-    memory: &LogMemory,
-    seat: &mut LogSeat,
-    consumer: &Consumer,
-    start: u64,
-    head: usize,
-) -> u64
-    requires head { head ≡ head_place (ring memory.now.table.shared.key) start }
-    requires seat { IsSeatOf memory.now.table.shared.key memory.now.table.shared.table_id
-        seat.old.table_id }
-    requires idle { IsIdle seat.old.me.0 }
-    requires may { MayRereadAt seat.old.me.0.view.pass consumer.now start }
-    requires site { N.site ≡ memory.now.table.shared.key }
-    requires place { N.number ≡ consumer.now.place }
-    requires reading { N.reading ≡ reading_at consumer.now.place seat.old.me.0.view.pass.reading }
-    requires frame { N.frame ≡ frame_from start (had_at consumer.now.place
-        seat.old.me.0.view.pass) }
-    ensures seat { (seat.new.table_id ≡ seat.old.table_id) × (seat.new.id ≡ seat.old.id) }
-    ensures told { Rereads memory.now.table.shared.key (reading_at consumer.now.place
-        seat.old.me.0.view.pass.reading) (frame_from start (had_at consumer.now.place
-        seat.old.me.0.view.pass)) seat.old.me result seat.new.me }
-{
-    let table = &memory.table.shared;
-    let _ = consumer;
-    let _ = start;
-    reread::<N>(table, seat, head)
-}
-
-/// Loads the word of a frame that the consumer has, and takes its part of it.
-#[inline(always)]
-fn reread_at(
-    memory: &LogMemory,
-    seat: &mut LogSeat,
-    consumer: &Consumer,
-    start: u64,
-    head: usize,
-) -> u64
-    requires head { head ≡ head_place (ring memory.now.table.shared.key) start }
-    requires seat { IsSeatOf memory.now.table.shared.key memory.now.table.shared.table_id
-        seat.old.table_id }
-    requires idle { IsIdle seat.old.me.0 }
-    requires may { MayRereadAt seat.old.me.0.view.pass consumer.now start }
-    ensures seat { (seat.new.table_id ≡ seat.old.table_id) × (seat.new.id ≡ seat.old.id) }
-    ensures told { Rereads memory.now.table.shared.key (reading_at consumer.now.place
-        seat.old.me.0.view.pass.reading) (frame_from start (had_at consumer.now.place
-        seat.old.me.0.view.pass)) seat.old.me result seat.new.me }
-{
-    reread_as::<Brand>(memory, seat, consumer, start, head)
-}
-
-#[inline(always)]
-fn consume_as<N: Chosen>(memory: &LogMemory, seat: &mut LogSeat, consumer: &Consumer, end: u64)
-    requires seat { IsSeatOf memory.now.table.shared.key memory.now.table.shared.table_id
-        seat.old.table_id }
-    requires idle { IsIdle seat.old.me.0 }
-    requires consumer { IsAt seat.old.me.0.view.pass consumer.now }
-    requires may { MayPass seat.old.me.0.view.pass consumer.now.place end }
-    requires chosen { N.number ≡ consumer.now.place }
-    ensures seat { (seat.new.table_id ≡ seat.old.table_id) × (seat.new.id ≡ seat.old.id) }
-    ensures told { StoresPosition consumer.now.place seat.old.me end seat.new.me }
-{
-    consume::<N>(&memory.table.shared, seat, consumer.number, end);
 }
 
 impl Log {
@@ -169,11 +46,11 @@ impl Log {
     {
         parts_are_found();
         let start = consumer.position;
-        let (head, at) = (self.memory.head(start), self.memory.byte(start));
-        let word = look_at(&self.memory, &mut pass.seat, consumer, head);
+        let word = look::<Brand>(&self.memory, &mut pass.seat, consumer);
         if word == 0 {
             return 0;
         }
+        let (head, at) = (self.memory.head(start), self.memory.byte(start));
         let count = part_in(word, start, bytes.len());
         copy_part(
             &self.memory,
@@ -208,7 +85,7 @@ impl Log {
     {
         parts_are_found();
         let (head, at) = (self.memory.head(start), self.memory.byte(start));
-        let word = reread_at(&self.memory, &mut pass.seat, consumer, start, head);
+        let word = reread::<Brand>(&self.memory, &mut pass.seat, consumer, start);
         let count = part_in(word, start, bytes.len());
         copy_part(
             &self.memory,
@@ -231,6 +108,6 @@ impl Log {
         ensures seat { SameSeat pass.old pass.new }
         ensures told { Consumes pass.old.pass consumer.now.place end pass.new.pass }
     {
-        consume_as::<Brand>(&self.memory, &mut pass.seat, consumer, end);
+        consume::<Brand>(&self.memory, &mut pass.seat, consumer, end);
     }
 }

@@ -12,7 +12,7 @@ use Rattle.log_memory.proofs.reader.consume.Goals as goal
 
 pub store-requires : goal.store-requires
 store-requires g c =
-    let t : Site = c.args.table.now.key in let id = c.args.seat.now.id in let m : Mine = c.args.seat.now.me in let slots = c.args.table.now.table_id.slots in let k : ℕ = g.N.Chosen.number in let who = c.requires.consumer in let end : ℕ = c.args.end in let number : ℕ = c.args.number in let low = c.requires.low in let is = who.number_is in (
+    let t : Site = c.args.memory.now.table.shared.key in let id = c.args.seat.now.id in let m : Mine = c.args.seat.now.me in let slots = c.args.memory.now.table.shared.table_id.slots in let k : ℕ = g.N.Chosen.number in let who = c.requires.consumer in let end : ℕ = c.args.end in let number : ℕ = c.args.consumer.now.number in let low = c.requires.low in let is = who.number_is in (
       c.requires.seat.of,
       (let w = c.requires.seat.words in omega arith),
       subst (λ (i : ℕ). Allows (LogMemoryRuled t) slots id m i (λ _. end) (λ _ w. StoresPosition k m end w)) (let e : consumer_place who.consumer.number ≡ 80 + 16 * number = omega arith in e)
