@@ -18,6 +18,7 @@ use Rattle.frame_words.specs.Contents.{bytes_in, head_by}
 use Rattle.publication.specs.Contents.{frame_in}
 use Rattle.frame_words.proofs.Contents.{head_said, legal_said}
 use Rattle.log_rule.specs.Claims.Memory.{IsCommittedFrame}
+use Rattle.log_memory.specs.declared.reader.Consumer.{Consumer}
 use Rattle.log_passes.specs.Readers.{Copies, CopiesHad, CopiesKnown, IsRead, MayRereadAt, ReadsAgain, SameSeat, fitting, part_bytes, part_of}
 use Rattle.log_passes.specs.Handles.{LogValue, PublisherValue}
 use Rattle.shared_log.specs.Readers.{Advances, Finds, FindsNone, FindsPart, Has, IsReaderOf, IsReading, MayReread, Misses, OnlyReads, ReaderValue, ReadsFrame, Rereads, Rests, Stays, consumer_of, known_at, known_of, misses_at, positions_of}
@@ -266,6 +267,11 @@ rereads_by l r q position n head before after g of is may room rests told shown 
       copied = whole head position f before after said (fits_block l.identity.geometry head (length before) legal room) (copied is.consumer f is.is has may.here);
       rests = rests;
     }
+
+-- ---- what the pass's look told, by the reader's value
+
+pub looked_by : (v r : ReaderValue) (w : PublisherValue) (k : Consumer) (n : ℕ) → v ≡ r → k ≡ consumer_of r → SameSeat v.held w → Looks v.held.pass k.place n w.pass → SameSeat r.held w × Looks r.held.pass r.place n w.pass
+looked_by v r w k n e is seat told = (subst (λ (x : ReaderValue). SameSeat x.held w) e seat, subst (λ (x : ReaderValue × ℕ). Looks x.0.held.pass x.1 n w.pass) (λ j. (e j, ap (λ (y : Consumer). y.place) is j)) told)
 
 -- ---- a look that found one
 

@@ -14,7 +14,7 @@ use Rattle.log_rule.specs.Says.{IsCommittedFor}
 use Rattle.log_rule.specs.Table.{reader_alone}
 use Rattle.theory.specs.Bytes.{Identity}
 use Rattle.log_passes.specs.Readers.{Copies, SameSeat, part_bytes}
-use Rattle.log_passes.specs.declared.reader.Consumer.{Consumer}
+use Rattle.log_memory.specs.declared.reader.Consumer.{Consumer}
 use Rattle.shared_log.specs.declared.home.Home.{Home}
 use Rattle.shared_log.specs.Handles.{HasHome}
 

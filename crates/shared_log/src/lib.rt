@@ -37,7 +37,6 @@ pub use opening::open_whole;
 pub use parts::{Parts, first_there, open};
 pub use publisher::Publisher;
 pub use publisher::calls::OnLog;
-pub use publisher::filling::{fill_data, fill_padding};
 pub use publisher::meeting::meet;
 pub use publisher::numbering::renumber;
 pub use publisher::retiring::retire;

@@ -5,11 +5,9 @@ ghost use Rattle.log_rule.specs.Shares.{claimed_bytes};
 ghost use Rattle.shared_log.specs.Handles.{OwnsClaims};
 
 pub(crate) mod calls;
-pub(crate) mod filling;
 pub(crate) mod meeting;
 pub(crate) mod numbering;
 pub(crate) mod retiring;
-pub(crate) mod steps;
 
 use crate::home::Home;
 use log_passes::LogPass;

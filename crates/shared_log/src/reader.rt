@@ -100,24 +100,6 @@ impl LogReader {
     }
 }
 
-/// Loads the first word where the reader stands, and copies the payload of the frame that begins
-/// there, if there is one, to the front of the bytes, where it fits.
-#[inline(always)]
-fn look_at(log: &Log, reader: &mut LogReader, bytes: &mut [u8]) -> u64
-    requires fits { IsReaderOf log.now reader.old }
-    ensures seat { SameSeat reader.old.held reader.new.held }
-    ensures same { reader.new ≡ record reader.old { held = reader.new.held } }
-    ensures told { Looks reader.old.held.pass reader.old.place result reader.new.held.pass }
-    ensures none { result ≡ 0 → bytes.new ≡ bytes.old }
-    ensures copied { 0 < result → CopiesKnown reader.new.held.pass (consumer_of
-        reader.old) (part_bytes (head_by reader.old.position (to_le_bytes w64
-        result)) (length bytes.old)) bytes.old bytes.new }
-    ensures same_length { length bytes.new ≡ length bytes.old }
-{
-    let consumer = reader.consumer();
-    log.look(&mut reader.pass, &consumer, bytes)
-}
-
 /// Finds the frame that is committed where the reader stands. Its payload is copied to the front of
 /// the bytes, where it fits.
 #[inline(always)]
@@ -132,25 +114,14 @@ pub(crate) fn look(log: &Log, reader: &mut LogReader, bytes: &mut [u8]) -> Optio
 {
     let _ = log.identity();
     let start = reader.position;
-    let word = look_at(log, reader, bytes);
+    let consumer = reader.consumer();
+    let word = log.look(&mut reader.pass, &consumer, bytes);
     if word == 0 {
         return None;
     }
     let head = head_in(word, start);
     reader.read_to = start + u64::from(align32(head.frame_length));
     Some(head)
-}
-
-/// Finds it so, and copies its payload to the block's front.
-#[inline(always)]
-fn find(log: &Log, reader: &mut LogReader, block: &mut Block) -> Option<FrameHead>
-    requires fits { IsReaderOf log.now reader.old }
-    ensures found { IfSome result (λ head. FindsPart log.now reader.old head block.old reader.new
-        block.new) }
-    ensures none { IfNone result (ReadsNone reader.old block.old reader.new block.new) }
-    ensures same_length { length block.new ≡ length block.old }
-{
-    look(log, reader, block.bytes_mut())
 }
 
 /// Reads the frame that is committed where the reader stands: a message's part is copied to the
@@ -167,7 +138,7 @@ pub fn next(log: &Log, reader: &mut LogReader, block: &mut Block) -> Option<Fram
     ensures none { IfNone result (ReadsNone reader.old block.old reader.new block.new) }
     ensures same_length { length block.new ≡ length block.old }
 {
-    let head = find(log, reader, block)?;
+    let head = look(log, reader, block.bytes_mut())?;
     Some(head)
 }
 
@@ -187,40 +158,6 @@ pub fn advance(log: &Log, reader: &mut LogReader) -> u64
     reader.read_to
 }
 
-/// Loads the first word of a frame that the reader has, and copies its payload to the front of the
-/// bytes, where it fits.
-fn reread_at(log: &Log, reader: &mut LogReader, position: u64, bytes: &mut [u8]) -> u64
-    requires fits { IsReaderOf log.now reader.old }
-    requires may { MayReread log.now reader.old position }
-    ensures is { IsReading reader.old.held.pass reader.old.place reader.old.number
-        reader.old.position reader.old.read_to }
-    ensures rests { Rests reader.old reader.new }
-    ensures told { ReadsAgain reader.old.held.pass (consumer_of reader.old) position result }
-    ensures copied { CopiesHad reader.old.held.pass (consumer_of
-        reader.old) position (part_bytes (head_by position (to_le_bytes w64 result)) (length
-        bytes.old)) bytes.old bytes.new }
-    ensures same_length { length bytes.new ≡ length bytes.old }
-{
-    let consumer = reader.consumer();
-    log.reread(&mut reader.pass, &consumer, position, bytes)
-}
-
-/// Loads and copies it so, to the block's front.
-fn reread_block(log: &Log, reader: &mut LogReader, position: u64, block: &mut Block) -> u64
-    requires fits { IsReaderOf log.now reader.old }
-    requires may { MayReread log.now reader.old position }
-    ensures is { IsReading reader.old.held.pass reader.old.place reader.old.number
-        reader.old.position reader.old.read_to }
-    ensures rests { Rests reader.old reader.new }
-    ensures told { ReadsAgain reader.old.held.pass (consumer_of reader.old) position result }
-    ensures copied { CopiesHad reader.old.held.pass (consumer_of
-        reader.old) position (part_bytes (head_by position (to_le_bytes w64 result)) (length
-        block.old)) block.old block.new }
-    ensures same_length { length block.new ≡ length block.old }
-{
-    reread_at(log, reader, position, block.bytes_mut())
-}
-
 /// Reads a frame again that the reader has: a message's part is copied to the block's front. The
 /// frame begins at the reader's position or below it, by three quarters of a term at the most.
 pub fn reread(log: &Log, reader: &mut LogReader, position: u64, block: &mut Block) -> FrameHead
@@ -232,6 +169,7 @@ pub fn reread(log: &Log, reader: &mut LogReader, position: u64, block: &mut Bloc
     ensures same_length { length block.new ≡ length block.old }
 {
     let _ = log.identity();
-    let word = reread_block(log, reader, position, block);
+    let consumer = reader.consumer();
+    let word = log.reread(&mut reader.pass, &consumer, position, block.bytes_mut());
     head_in(word, position)
 }

@@ -1,14 +1,17 @@
 //! The word calls of a log.
 
-ghost use Rattle.std.specs.Prelude.{◌≡◌};
-ghost use Rattle.log_passes.specs.Handles.{IsOf, LogValue, Took};
+ghost use Rattle.std.specs.Prelude.{◌≡◌, []};
+ghost use Rattle.log_memory.specs.Drafts.{IsDraft};
+ghost use Rattle.log_passes.specs.Drafts.{IsOpenDraft, Stores};
+ghost use Rattle.log_passes.specs.Handles.{IsOf, LogValue, Stepped, Took};
 ghost use Rattle.log_passes.specs.Leading.{took_more, took_none};
 
+use crate::home::Home;
 use crate::publisher::Publisher;
-use crate::publisher::filling::{fill_data, fill_padding};
-use crate::publisher::steps::{add, arm, count, exchange_count, next_tail, rotate, see};
+use frame_words::{first_word, header_words};
+use log_memory::Draft;
 use log_passes::Log;
-use position::Identity;
+use position::{Identity, UNFRAGMENTED, align32};
 use publication::{InOrder, WordCalls};
 use std::marker::Model;
 
@@ -24,6 +27,22 @@ impl<'a> Model for OnLog<'a> {
     ghost Value = { LogValue };
 
     ghost view = { λ l. l.log.now };
+}
+
+/// Commits one of the publisher's open frames, by one step: its home is lent for that.
+#[inline(always)]
+fn commit(log: &Log, publisher: &mut Publisher, draft: &Draft<'_>)
+    requires fits { IsOf log.now publisher.old }
+    requires draft { IsDraft draft.now }
+    requires open { IsOpenDraft log.now.identity draft.now publisher.old.pass }
+    ensures stepped { Stepped [] publisher.old publisher.new }
+    ensures told { Stores draft.now publisher.old.pass publisher.new.pass }
+{
+    let Some(home) = publisher.home.take() else {
+        unreachable!();
+    };
+    let region = log.commit(&mut publisher.pass, home.region, draft);
+    publisher.home = Some(Home { region });
 }
 
 impl<'a> OnLog<'a> {
@@ -57,37 +76,41 @@ impl<'a> WordCalls for OnLog<'a> {
 
     #[inline(always)]
     fn load_limit(&mut self, pass: &mut Publisher) -> u64 {
-        see(self.log, pass)
+        self.log.see(&mut pass.pass)
     }
 
     #[inline(always)]
     fn load_count(&mut self, pass: &mut Publisher) -> u32 {
-        count(self.log, pass)
+        self.log.count(&mut pass.pass)
     }
 
     #[inline(always)]
     fn load_tail(&mut self, pass: &mut Publisher, count: u32) -> u64 {
-        arm(self.log, pass, count)
+        self.log.arm(&mut pass.pass, count)
     }
 
     #[inline(always)]
     fn add(&mut self, _order: &InOrder, pass: &mut Publisher, count: u32, size: u32) -> u64 {
-        add(self.log, pass, count, size)
+        let log = self.log;
+        let _ = log.identity();
+        let (word, bytes) = log.add(&mut pass.pass, count, size);
+        pass.share += u64::from(bytes);
+        word
     }
 
     #[inline(always)]
     fn load_next(&mut self, pass: &mut Publisher, count: u32) -> u64 {
-        next_tail(self.log, pass, count)
+        self.log.next_tail(&mut pass.pass, count)
     }
 
     #[inline(always)]
     fn exchange_next(&mut self, pass: &mut Publisher, count: u32, from: u64) -> u64 {
-        rotate(self.log, pass, count, from)
+        self.log.rotate(&mut pass.pass, count, from)
     }
 
     #[inline(always)]
     fn exchange_count(&mut self, pass: &mut Publisher, count: u32) -> u32 {
-        exchange_count(self.log, pass, count)
+        self.log.exchange_count(&mut pass.pass, count)
     }
 
     #[inline(always)]
@@ -99,10 +122,22 @@ impl<'a> WordCalls for OnLog<'a> {
         flags: u8,
         payload: &[u8],
     ) {
-        fill_data(self.log, pass, start, flags, payload);
+        let log = self.log;
+        let identity = log.identity();
+        let (second, third) = header_words(&identity, start);
+        let frame_length = payload.len() as u32 + 32;
+        let first = first_word(false, flags, frame_length);
+        let draft = Draft {
+            start,
+            bytes: align32(frame_length),
+            first,
+            second,
+            third,
+            payload,
+        };
+        commit(log, pass, &draft);
     }
 
-    #[inline(always)]
     fn fill_padding(
         &mut self,
         _order: &InOrder,
@@ -110,7 +145,19 @@ impl<'a> WordCalls for OnLog<'a> {
         start: u64,
         frame_length: u32,
     ) {
-        fill_padding(self.log, pass, start, frame_length);
+        let log = self.log;
+        let identity = log.identity();
+        let (second, third) = header_words(&identity, start);
+        let first = first_word(true, UNFRAGMENTED, frame_length);
+        let draft = Draft {
+            start,
+            bytes: align32(frame_length),
+            first,
+            second,
+            third,
+            payload: &[],
+        };
+        commit(log, pass, &draft);
     }
 
     ghost none = { λ l p. took_none p };

@@ -1,6 +1,6 @@
 use Rattle.std.proofs.Common.{ℕ, ap, sym, ◌∙◌, subst}
 use Rattle.log_rule.specs.Readings.{Consumes}
-use Rattle.log_passes.specs.declared.reader.Consumer.{Consumer}
+use Rattle.log_memory.specs.declared.reader.Consumer.{Consumer}
 use Rattle.shared_log.specs.Readers.{Advances, ReaderValue}
 use Rattle.shared_log.proofs.Finding.{advances_by}
 use Rattle.shared_log.proofs.Holding.{passed_rest, reader_kept}
