@@ -1,10 +1,11 @@
 -- A datagram that goes along several ways, one after the other.
 use Rattle.std.proofs.Common.{◌≡◌, ◌∙◌, ◌⊎◌, inl, inr, ℕ, zero, suc, ◌<◌, ◌≤◌, List, [], ◌∷◌, ◌++◌, append-nil, append_assoc, get_or, set, take, drop, ◌+◌, length, length-append, Option, Result, Ok, Err, refl, sym, ap, subst, arith}
+use Rattle.std.proofs.Math.Seq.{take-append_seam}
 use Rattle.std.proofs.lemmas.Bool.{cases_lt}
-use Rattle.std.specs.Prelude.{IfOk, IfSome, IsErr}
+use Rattle.std.specs.Prelude.{IfOk, IfSome}
 use Rattle.endpoint.specs.Calls.{CountsFailure, CountsNone, Fills, Receives}
 use Rattle.endpoint.specs.Devices.{Device}
-use Rattle.endpoint.specs.Fans.{AllLive, AllSend, Fanned, with_ways, ReceivesAlong, ReceivesOne, SendsAlong, SendsOne, StopsAlong}
+use Rattle.endpoint.specs.Fans.{AllLive, AllSend, Fanned, with_ways, ReceivesAlong, ReceivesOne, SendsOne, StopsAlong}
 use Rattle.endpoint.specs.declared.datagrams.DeviceFailed.{DeviceFailed}
 
 -- the one behind the first so many
@@ -92,11 +93,6 @@ module _ {D : Type 0} (device : D → Device) (tells : D → Type 0) where
       let carried_is : now ≡ h.carried = h.are ∙ ap (λ (ys : List D). h.carried ++ ys) none ∙ append-nil h.carried in
       subst (λ (xs : List D). AllSend device tells xs datagram now) (sym front_is) (subst (λ (xs : List D). AllSend device tells h.front datagram xs) (sym carried_is) h.all_sent)
 
-  -- and its fault is answered
-  pub stopped : (old : List D) (datagram : List ℕ) (result : Result (Unit {0}) DeviceFailed) (new : List D) {fault : DeviceFailed} → IsErr result → StopsAlong device tells old datagram fault new → SendsAlong device tells old datagram result new
-  stopped old datagram (Ok u) new failed h = absurd cc
-  stopped old datagram (Err e) new failed h = h
-
 -- ---- a receive
 
 pub received_one : {D : Type 0} (device : D → Device) (tells : D → Type 0) (old : List D) (turn : ℕ) (before after : List ℕ) (result : Result (Option ℕ) DeviceFailed) (w v : D) → w ≡ get_or old turn w → Receives (tells (get_or old turn w)) (device (get_or old turn w)) before result after (device v) → (tells (get_or old turn w) → tells v) → ReceivesOne device tells old turn before result after (set old turn v)
@@ -129,6 +125,12 @@ pub refilled : {D : Type 0} (ways : List D) (turn failures nones count : ℕ) (w
 refilled {D} ways turn failures nones count w e =
     let made : ℕ → Fanned D = λ n. record { ways = take n (w ++ drop (length w) ways); turn = turn; failures = failures; nones = nones } in
     ap made e
+
+-- as many as there were are there still
+pub given_back : {D : Type 0} (P : List D → List D → Type 0) (start now was : List D) (count : ℕ) → start ≡ was → count ≡ length now → P start now → P was (take count (now ++ drop (length now) was))
+given_back P start now was count same many h =
+    let behind = drop (length now) was in
+    subst (λ a. P a (take count (now ++ behind))) same (subst (P start) (sym (ap (λ n. take n (now ++ behind)) many ∙ take-append_seam now behind)) h)
 
 -- ---- the ways live on
 

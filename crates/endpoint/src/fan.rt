@@ -74,29 +74,6 @@ impl<D> Fan<D> {
             Err(_) => self.failures = self.failures.saturating_add(1),
         }
     }
-
-    /// Counts what became of a send.
-    fn count_sent(&mut self, sent: &Result<(), DeviceFailed>)
-        ensures sent { OnOk sent.now (self.new ≡ self.old) }
-        ensures failed { OnErr sent.now (self.new ≡ record self.old { failures = counted self.old.failures }) }
-        ensures not_fallen { NeverFall (fan_device self.old) (fan_device self.new) }
-        ensures failures { CountsFailure sent.now self.old.failures self.new.failures }
-    {
-        if sent.is_err() {
-            self.failures = self.failures.saturating_add(1);
-        }
-    }
-}
-
-/// Sends a datagram along each of these ways, in order, up to a fault.
-fn send_along<D: Datagrams>(ways: &mut [D], datagram: &[u8]) -> Result<(), DeviceFailed>
-    ensures sends { SendsAlong D.device D.tells ways.old datagram.now result ways.new }
-    ensures lives { AllLive D.lives ways.old ways.new }
-{
-    for way in ways.iter_mut() {
-        way.send(datagram)?;
-    }
-    Ok(())
 }
 
 /// Takes what has come along the way of this number. Nothing has where there is none.
@@ -133,9 +110,13 @@ impl<D: Datagrams> Datagrams for Fan<D> {
         ensures sent { OnOk result (self.new ≡ record self.old { ways = self.new.ways }) }
         ensures failed { OnErr result (self.new ≡ record self.old { ways = self.new.ways; failures = counted self.old.failures }) }
     {
-        let sent = send_along(&mut self.ways, datagram);
-        self.count_sent(&sent);
-        sent
+        for way in self.ways.iter_mut() {
+            if let Err(failed) = way.send(datagram) {
+                self.failures = self.failures.saturating_add(1);
+                return Err(failed);
+            }
+        }
+        Ok(())
     }
 
     fn recv(&mut self, buffer: &mut [u8]) -> Result<Option<usize>, DeviceFailed>

@@ -24,16 +24,6 @@ struct Slot {
 impl Slot {
     ghost use Rattle.frames.specs.OutboxSlots.{bytes_in};
 
-    /// Holds this frame from now on.
-    fn fill(&mut self, frame: &Frame<'_>)
-        requires frame { IsFrame (wire frame.now) }
-        requires room { length (spelling (wire frame.now)) ≤ vec_len self.old.bytes }
-        ensures bytes { bytes_in self.new ≡ spelling (wire frame.now) }
-        ensures size { vec_len self.new.bytes ≡ vec_len self.old.bytes }
-    {
-        self.length = write_frame(frame, self.bytes.as_mut_slice());
-    }
-
     /// Holds this frame too, behind what it holds.
     fn append(&mut self, frame: &Frame<'_>)
         requires frame { IsFrame (wire frame.now) }
@@ -123,7 +113,7 @@ impl Outbox {
         ensures { self.new ≡ with_datagram self.old (spelling (wire frame.now)) }
     {
         let slot = &mut self.slots[self.count];
-        slot.fill(frame);
+        slot.length = write_frame(frame, slot.bytes.as_mut_slice());
         self.count += 1;
     }
 

@@ -1,5 +1,5 @@
 -- What a device that loses datagrams hands on.
-use Rattle.std.proofs.Common.{◌≡◌, ◌∙◌, ◌++◌, ◌<◌, [], ℕ, List, length, take, Result, Ok, Err, IsErr, Some, inl, inr, ap, refl, subst, sym, arith, append-nil}
+use Rattle.std.proofs.Common.{◌≡◌, ◌∙◌, ◌++◌, ◌<◌, [], ℕ, List, length, take, Result, Ok, Err, IsErr, Some, inl, inr, ap, refl, subst, sym, append-nil}
 use Rattle.std.specs.Prelude.{OnErr, OnOk}
 use Rattle.endpoint.specs.Calls.{Sends}
 use Rattle.endpoint.specs.Devices.{Device}

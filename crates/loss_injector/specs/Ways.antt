@@ -1,5 +1,5 @@
 -- What goes of a datagram by its way, and what an injector holds then.
-use Rattle.std.specs.Prelude.{ℕ, Bool, List, [], ◌∷◌, ◌++◌, Option, None, Some, if◌then◌else◌}
+use Rattle.std.specs.Prelude.{ℕ, Bool, List, [], ◌∷◌, ◌++◌, Some, if◌then◌else◌}
 use Rattle.std.specs.Option.{option_map, option_to_list}
 use Rattle.loss_injector.specs.Injecting.{Injecting}
 use Rattle.loss_injector.specs.declared.injector.Way.{Way}

@@ -1,13 +1,11 @@
 //! A device round another, through which datagrams get lost.
 
-ghost use Rattle.std.specs.Prelude.{◌≡◌, ◌++◌, map};
+ghost use Rattle.std.specs.Prelude.{◌≡◌, map};
 ghost use Rattle.std.specs.Borrow.{Lends, sem};
-ghost use Rattle.std.specs.Option.{option_map, option_to_list};
 ghost use Rattle.loss_injector.specs.contracts.lossy.Lossy.{the_row};
 ghost use Rattle.endpoint.specs.Calls.{Receives, Sends};
 ghost use Rattle.endpoint.specs.Devices.{NeverFall};
 ghost use Rattle.loss_injector.specs.Losing.{SendsAll, SendsThrough, begun};
-ghost use Rattle.loss_injector.specs.Ways.{repeated};
 
 use crate::injector::{Injector, Way};
 use crate::rates::Rates;
@@ -79,25 +77,6 @@ fn send_all<D: Datagrams>(device: &mut D, out: &[&[u8]]) -> Result<(), DeviceFai
     Ok(())
 }
 
-/// Hands a datagram to a device, once or twice, and then the one that goes behind it, up to a fault.
-fn send_out<D: Datagrams>(
-    device: &mut D,
-    datagram: &[u8],
-    twice: bool,
-    behind: Option<Vec<u8>>,
-) -> Result<(), DeviceFailed>
-    ensures counts { NeverFall (D.device device.old) (D.device device.new) }
-    ensures sends { SendsAll (D.tells device.old) (D.device device.old) (repeated twice datagram.now ++ option_to_list (option_map (λ d. d.items) behind)) result (D.device device.new) }
-    ensures still_tells { D.tells device.old → D.tells device.new }
-{
-    match (twice, &behind) {
-        (false, None) => send_all(device, &[datagram]),
-        (true, None) => send_all(device, &[datagram, datagram]),
-        (false, Some(held)) => send_all(device, &[datagram, held.as_slice()]),
-        (true, Some(held)) => send_all(device, &[datagram, datagram, held.as_slice()]),
-    }
-}
-
 impl<D: Datagrams> Datagrams for Lossy<D> {
     ghost device = { λ l. D.device l.inner };
 
@@ -120,7 +99,14 @@ impl<D: Datagrams> Datagrams for Lossy<D> {
                 let _ = self.injector.keep(datagram);
                 Ok(())
             }
-            Way::Goes { twice, behind } => send_out(&mut self.inner, datagram, twice, behind),
+            Way::Goes { twice, behind } => match (twice, &behind) {
+                (false, None) => send_all(&mut self.inner, &[datagram]),
+                (true, None) => send_all(&mut self.inner, &[datagram, datagram]),
+                (false, Some(held)) => send_all(&mut self.inner, &[datagram, held.as_slice()]),
+                (true, Some(held)) => {
+                    send_all(&mut self.inner, &[datagram, datagram, held.as_slice()])
+                }
+            },
         }
     }
 

@@ -1,8 +1,11 @@
 -- What a look at an input showed, and is taken of it.
-use Rattle.std.proofs.Common.{◌≡◌, ◌≢◌, ◌≤◌, ◌<◌, ℕ, zero, suc, Bool, true, false, List, [], ◌∷◌, ◌++◌, length, length-append, take, Option, Result, Ok, Err, inr, refl, sym, subst, arith}
-use Rattle.std.specs.Prelude.{IfErr, IsErrAnd, not}
+use Rattle.std.proofs.Common.{◌≡◌, ◌≢◌, ◌≤◌, ◌<◌, ℕ, zero, suc, Bool, true, false, List, [], ◌∷◌, ◌++◌, length, length-append, take, Option, None, Some, Result, Ok, Err, inr, refl, sym, subst, arith, rules}
+use Rattle.std.proofs.Math.Seq.{take-length}
+use Rattle.std.proofs.lemmas.List.{get_or-take, length-take}
+use Rattle.std.specs.Prelude.{IfErr, IsErrAnd, not, unwrap_or}
 use Rattle.std.specs.Io.KnownBytes.{Consumes, IsAtEnd, Keeps}
 use Rattle.std.proofs.KnownBytes.{Consumes-kept, Consumes-nil, Consumes-trans}
+use Rattle.memchr.specs.Find.{IsFirstByte, is_byte}
 use Rattle.messages.proofs.Taking.{taken_no_more}
 use Rattle.messages.specs.Blocks.{BreaksPart, TakesPart}
 use Rattle.messages.specs.Inputs.{Explains, Gives, IsOneLine}
@@ -30,11 +33,18 @@ one_line_front (x ∷ xs) (suc n) (suc m) le h = headed x (take m xs) (h zero (o
     headed y ys other one zero low = other
     headed y ys other one (suc i) low = one i (omega arith)
 
--- the first byte that is shown of a line
-pub first_shown : (shown : List ℕ) (n : ℕ) → 0 < n → 1 ≤ length shown → IsOneLine (take n shown) → (byte : ℕ) × (take 1 shown ≡ byte ∷ []) × (byte ≢ 10)
-first_shown [] n some within h = absurd (omega (arith, within))
-first_shown (x ∷ xs) zero some within h = absurd (omega (arith, some))
-first_shown (x ∷ xs) (suc n) some within h = (x, refl, h zero (omega arith))
+-- what stands before the first line feed, or all where there is none
+pub before_feed : (shown : List ℕ) (feed : Option ℕ) → IsFirstByte (is_byte 10) shown feed → IsOneLine (take (unwrap_or feed (length shown)) shown)
+before_feed shown None none = rw (take-length shown) (λ i low. search (rules, none i))
+before_feed shown (Some at) first = λ i low.
+    let below : i < at = omega (arith, low, length-take at shown) in
+    rw (get_or-take at shown i 0 below) (search (rules, first.0.before i))
+
+-- the first byte that is shown of a line is taken
+pub first_taken : (a b : Option (List ℕ)) (shown : List ℕ) (n : ℕ) → 0 < n → 1 ≤ length shown → IsOneLine (take n shown) → Consumes a b (take 1 shown) → (byte : ℕ) × Consumes a b (byte ∷ []) × (byte ≢ 10)
+first_taken a b [] n some within h taken = absurd (omega (arith, within))
+first_taken a b (x ∷ xs) zero some within h taken = absurd (omega (arith, some))
+first_taken a b (x ∷ xs) (suc n) some within h taken = (x, taken, h zero (omega arith))
 
 -- a look alone takes nothing
 after_look : (a b c : Option (List ℕ)) (bytes : List ℕ) → Keeps a b → Consumes b c bytes → Consumes a c bytes

@@ -1,8 +1,8 @@
 //! Lines.
 
-ghost use Rattle.std.specs.Prelude.{◌≡◌, ◌≤◌, ◌<◌, IfErr, IfOk, length, slice_index, take, true, false};
+ghost use Rattle.std.specs.Prelude.{◌≤◌, IfErr, IfOk, length};
 ghost use Rattle.messages.specs.declared.form.Form.TheVariants.{Lines};
-ghost use Rattle.messages.specs.Inputs.{Explains, Gives, IsOneLine};
+ghost use Rattle.messages.specs.Inputs.{Explains, Gives};
 ghost use Rattle.messages.specs.Shown.{BreaksLine, TakesShown};
 
 use crate::bytes::next_byte;
@@ -19,19 +19,6 @@ pub(crate) enum Shown {
     Rest,
     /// A part of it, perhaps none.
     Part,
-}
-
-/// How many bytes stand before the first line feed, or in all where there is none, and whether there is one.
-fn before_feed(bytes: &[u8]) -> (usize, bool)
-    ensures one_line { IsOneLine (take result.0 bytes.now) }
-    ensures feed { result.1 ≡ true → (result.0 < length bytes.now) × (slice_index bytes.now result.0 ≡ 10) }
-    ensures none { result.1 ≡ false → result.0 ≡ length bytes.now }
-    ensures inside { result.0 ≤ length bytes.now }
-{
-    match memchr(b'\n', bytes) {
-        Some(at) => (at, true),
-        None => (bytes.len(), false),
-    }
 }
 
 /// Takes one byte of a line, if the input has one, and adds it to what is held of the line.
@@ -79,7 +66,8 @@ fn take_shown<R: BufRead>(
         return take_byte(number, greatest, input, line);
     }
     let room = greatest - line.len();
-    let (size, ends) = before_feed(shown);
+    let feed = memchr(b'\n', shown);
+    let size = feed.unwrap_or(shown.len());
     if size > room {
         input.consume(room + 1);
         return Err(InputFault::TooLong(number, greatest));
@@ -88,7 +76,7 @@ fn take_shown<R: BufRead>(
         input.consume(1);
         return Err(InputFault::Memory);
     }
-    if ends {
+    if feed.is_some() {
         input.consume(size + 1);
         return Ok(Shown::Rest);
     }

@@ -1,6 +1,6 @@
 //! A message, written.
 
-ghost use Rattle.std.specs.Prelude.{◌≡◌, ◌++◌, ◌^◌, ◌≤◌, length, IsErr, OnErr, OnOk, Some};
+ghost use Rattle.std.specs.Prelude.{◌≡◌, ◌^◌, ◌≤◌, length, IsErr, OnErr, OnOk, Some};
 ghost use Rattle.std.specs.Io.KnownBytes.{Appends, Keeps};
 ghost use Rattle.messages.specs.Forms.{AppendsPart, block, output_text, spelled};
 
@@ -46,15 +46,6 @@ fn write_bytes<W: Write>(bytes: &[u8], output: &mut W) -> Result<(), OutputFaile
     Err(OutputFailed(None))
 }
 
-/// Writes some bytes, and others behind them.
-fn write_both<W: Write>(first: &[u8], second: &[u8], output: &mut W) -> Result<(), OutputFailed>
-    ensures done { OnOk result (Appends (W.contents output.old) (W.contents output.new) (first.now ++ second.now)) }
-    ensures part { OnErr result (AppendsPart (W.contents output.old) (W.contents output.new) (first.now ++ second.now)) }
-{
-    write_bytes(first, output)?;
-    write_bytes(second, output)
-}
-
 fn write_block<W: Write>(message: &[u8], output: &mut W) -> Result<(), OutputFailed>
     ensures done { OnOk result (Appends (W.contents output.old) (W.contents output.new) (block message.now)) }
     ensures part { OnErr result (AppendsPart (W.contents output.old) (W.contents output.new) (block message.now)) }
@@ -64,7 +55,8 @@ fn write_block<W: Write>(message: &[u8], output: &mut W) -> Result<(), OutputFai
         return Err(OutputFailed(None));
     }
     let length = (message.len() as u32).to_le_bytes();
-    write_both(&length, message, output)
+    write_bytes(&length, output)?;
+    write_bytes(message, output)
 }
 
 /// Writes a message as its form says. The error comes where the output fails, and then a part of that is written, perhaps
@@ -79,7 +71,10 @@ pub fn write_message<W: Write>(
     ensures long { form ≡ Form.Blocks → 2 ^ 32 ≤ length message.now → IsErr result × Keeps (W.contents output.old) (W.contents output.new) }
 {
     match form {
-        Form::Lines => write_both(message, b"\n", output),
+        Form::Lines => {
+            write_bytes(message, output)?;
+            write_bytes(b"\n", output)
+        }
         Form::Blocks => write_block(message, output),
     }
 }

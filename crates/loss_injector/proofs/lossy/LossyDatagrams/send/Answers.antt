@@ -20,10 +20,34 @@ returns-in-Kept-clause-through g c = rw (← c.self.view_is) (record {
   sends = none_sent _ _;
 })
 
-pub returns-in-Goes-clause-through : goal.returns-in-Goes-clause-through
-returns-in-Goes-clause-through g c = rw (← c.self.view_is) (record {
+pub returns-in-true-None-clause-through : goal.returns-in-true-None-clause-through
+returns-in-true-None-clause-through g c = rw (← c.self.view_is) (record {
   out = repeated c.in-Goes.twice c.args.datagram.now ++ option_to_list (option_map (λ d. d.items) c.in-Goes.behind);
   injects = inl (rw (← ap (λ p. p.0) c.next_word-word.ensures) (c.in-Goes.ensures.gives c.args.datagram.now));
   drew = ap (λ p. p.1) c.next_word-word.ensures;
-  sends = c.send_out.ensures.sends;
+  sends = rw c.in-true-None.is-0 (rw c.in-true-None.is-1 c.send_all.ensures.sends);
+})
+
+pub returns-in-false-None-clause-through : goal.returns-in-false-None-clause-through
+returns-in-false-None-clause-through g c = rw (← c.self.view_is) (record {
+  out = repeated c.in-Goes.twice c.args.datagram.now ++ option_to_list (option_map (λ d. d.items) c.in-Goes.behind);
+  injects = inl (rw (← ap (λ p. p.0) c.next_word-word.ensures) (c.in-Goes.ensures.gives c.args.datagram.now));
+  drew = ap (λ p. p.1) c.next_word-word.ensures;
+  sends = rw c.in-false-None.is-0 (rw c.in-false-None.is-1 c.send_all-in-false-None.ensures.sends);
+})
+
+pub returns-in-false-Some-clause-through : goal.returns-in-false-Some-clause-through
+returns-in-false-Some-clause-through g c = rw (← c.self.view_is) (record {
+  out = repeated c.in-Goes.twice c.args.datagram.now ++ option_to_list (option_map (λ d. d.items) c.in-Goes.behind);
+  injects = inl (rw (← ap (λ p. p.0) c.next_word-word.ensures) (c.in-Goes.ensures.gives c.args.datagram.now));
+  drew = ap (λ p. p.1) c.next_word-word.ensures;
+  sends = rw c.in-false-Some.is-0 (rw c.in-false-Some.is-1 (rw c.as_slice-in-false-Some.ensures.value at c.send_all-in-false-Some.ensures.sends));
+})
+
+pub returns-clause-through : goal.returns-clause-through
+returns-clause-through g c = rw (← c.self.view_is) (record {
+  out = repeated c.in-Goes.twice c.args.datagram.now ++ option_to_list (option_map (λ d. d.items) c.in-Goes.behind);
+  injects = inl (rw (← ap (λ p. p.0) c.next_word-word.ensures) (c.in-Goes.ensures.gives c.args.datagram.now));
+  drew = ap (λ p. p.1) c.next_word-word.ensures;
+  sends = rw c.in-true-Some.is-0 (rw c.in-true-Some.is-1 (rw c.as_slice.ensures.value at c.send_all-in-true-Some.ensures.sends));
 })
