@@ -5,10 +5,10 @@ ghost use Rattle.std.specs.Option.{option_map};
 ghost use Rattle.endpoint.specs.Calls.{CountsFailure, Receives, Sends};
 ghost use Rattle.endpoint.specs.Devices.{HasGrown, NeverFall};
 ghost use Rattle.theory.specs.Wire.{NAK, spelling};
-ghost use Rattle.frames.specs.Frames.{header_of, nak_of, wire};
+ghost use Rattle.frames.specs.Frames.{nak_of, wire};
 ghost use Rattle.peer.specs.Attends.{Attends, attends_on, attends_still};
 ghost use Rattle.peer.specs.Screening.{is_handed};
-ghost use Rattle.peer.specs.Watching.{CountsLook, CountsRefused, FillsLook, Finds, Gives, GivesFrame, LooksInto, NotesTold, Screens, Takes, after_frame, after_verdict, behind_of, disbelieving, due_of, given, header_in, held_after, is_again, is_behind, is_below, is_left_behind, missed, passed_after, passing, plus_one, refusing, released, screened, screened_of, told, told_by, told_last, watching, watching_device, with_end, with_none, with_told};
+ghost use Rattle.peer.specs.Watching.{CountsLook, CountsRefused, FillsLook, Finds, Gives, LooksInto, Screens, Takes, after_frame, after_verdict, behind_of, disbelieving, due_of, given, held_after, is_again, is_behind, is_below, is_left_behind, missed, passed_after, passing, plus_one, refusing, released, screened, screened_of, told, told_by, told_last, watching, watching_device, with_end, with_none, with_told};
 
 use crate::attendance::{Attendance, Heard};
 use crate::farewell::{end_told, farewell_bytes};
@@ -182,16 +182,6 @@ fn is_below(position: i64, most: u64) -> bool
     match u64::try_from(position) {
         Ok(position) => position < most,
         Err(_) => true,
-    }
-}
-
-/// The header of a frame, if it carries bytes of a stream.
-fn header_in(frame: &Frame<'_>) -> Option<Header>
-    ensures { option_map header_of result ≡ header_in (wire frame.now) }
-{
-    match *frame {
-        Frame::Data { header, .. } | Frame::Pad { header, .. } => Some(header),
-        _ => None,
     }
 }
 
@@ -469,7 +459,7 @@ impl<D> Attended<D> {
     fn is_again(&self, frame: &Frame<'_>) -> bool
         ensures { result ≡ is_again self.now.watch (wire frame.now) }
     {
-        let Some(header) = header_in(frame) else {
+        let (Frame::Data { header, .. } | Frame::Pad { header, .. }) = *frame else {
             return false;
         };
         let offset = header.term_offset.cast_signed();
@@ -486,39 +476,6 @@ impl<D> Attended<D> {
         self.tally.datagrams = self.tally.datagrams.wrapping_add(1);
         if again {
             self.tally.resends = self.tally.resends.wrapping_add(1);
-        }
-    }
-
-    /// Notes the end that a frame tells of the stream, if it tells one.
-    fn note_end(&mut self, frame: &Frame<'_>)
-        ensures noted { NotesTold self.old.watch.sent (wire frame.now) self.old.watch.ends self.new.watch.ends }
-        ensures same { self.new ≡ record self.old { watch = record self.old.watch { ends = self.new.watch.ends } } }
-    {
-        if let Some(end) = end_told(frame, self.sent.session(), self.sent.stream()) {
-            self.ends = Some(with_told(self.ends, end));
-        }
-    }
-
-    /// Counts a frame that is given to be sent at a datagram's front, and notes the end that it tells.
-    fn give_frame(&mut self, frame: &Frame<'_>)
-        ensures gives { GivesFrame self.old.watch (wire frame.now) self.new.watch }
-        ensures counted { self.new.watch.tally.datagrams ≡ plus_one self.old.watch.tally.datagrams }
-        ensures kept { (self.new.inner ≡ self.old.inner) × (self.new.watch.nones ≡ self.old.watch.nones) }
-    {
-        let again = self.is_again(frame);
-        self.count(again);
-        self.note_end(frame);
-    }
-
-    /// Counts a datagram that is given to be sent, by its first frame, and notes the end that this tells.
-    fn give(&mut self, datagram: &[u8])
-        ensures gives { Gives self.old.watch datagram.now self.new.watch }
-        ensures counted { self.new.watch.tally.datagrams ≡ plus_one self.old.watch.tally.datagrams }
-        ensures kept { (self.new.inner ≡ self.old.inner) × (self.new.watch.nones ≡ self.old.watch.nones) }
-    {
-        match read_frame(datagram) {
-            Ok((frame, _size)) => self.give_frame(&frame),
-            Err(_) => self.count(false),
         }
     }
 }
@@ -584,7 +541,8 @@ impl<D: Datagrams> Datagrams for Attended<D> {
 
     ghost lives_on = { λ a b c. attends_on D.device D.tells a b c };
 
-    /// Hands a datagram to the inner device, and counts it, whether that fails or not.
+    /// Hands a datagram to the inner device. Whether that fails or not, it counts by its first
+    /// frame, and the end that this tells is noted.
     fn send(&mut self, datagram: &[u8]) -> Result<(), DeviceFailed>
         ensures counts { NeverFall (watching_device (D.device self.old.inner) self.old.watch.nones) (watching_device (D.device self.new.inner) self.new.watch.nones) }
         ensures sends { Sends ⊥ (watching_device (D.device self.old.inner) self.old.watch.nones) datagram.now result (watching_device (D.device self.new.inner) self.new.watch.nones) }
@@ -595,7 +553,16 @@ impl<D: Datagrams> Datagrams for Attended<D> {
         ensures inner_counts { NeverFall (D.device self.old.inner) (D.device self.new.inner) }
         ensures inner_tells { D.tells self.old.inner → D.tells self.new.inner }
     {
-        self.give(datagram);
+        match read_frame(datagram) {
+            Ok((frame, _size)) => {
+                let again = self.is_again(&frame);
+                self.count(again);
+                if let Some(end) = end_told(&frame, self.sent.session(), self.sent.stream()) {
+                    self.ends = Some(with_told(self.ends, end));
+                }
+            }
+            Err(_) => self.count(false),
+        }
         self.inner.send(datagram)
     }
 

@@ -4,7 +4,7 @@ ghost use Rattle.std.specs.Prelude.{◌≡◌, ℕ, IfSome, IsSomeAnd, length, o
 ghost use Rattle.theory.specs.Wire.{SM, Spells, Status as Told, Wire, spelling};
 ghost use Rattle.frames.specs.Frames.{asks_of, setup_of, status_of, wire};
 ghost use Rattle.peer.specs.Numbering.{Numbers, numbered};
-ghost use Rattle.peer.specs.Setups.{TellsSetup, setup_told};
+ghost use Rattle.peer.specs.Setups.{TellsSetup};
 
 use frames::{Frame, Setup, Status, read_frame, write_frame};
 
@@ -22,24 +22,14 @@ fn frame_in(datagram: &[u8]) -> Option<Frame<'_>>
     Some(frame)
 }
 
-/// The SETUP that a frame is.
-fn setup_told(frame: &Frame<'_>) -> Option<Setup>
-    ensures { option_map setup_of result ≡ setup_told (wire frame.now) }
-{
-    match *frame {
-        Frame::Setup(setup) => Some(setup),
-        _ => None,
-    }
-}
-
 /// The SETUP that a datagram is.
 pub fn setup_in(datagram: &[u8]) -> Option<Setup>
     ensures { TellsSetup datagram.now (option_map setup_of result) }
 {
-    let Some(frame) = frame_in(datagram) else {
-        return None;
-    };
-    setup_told(&frame)
+    match frame_in(datagram) {
+        Some(Frame::Setup(setup)) => Some(setup),
+        _ => None,
+    }
 }
 
 /// The status message that a frame is, if it is one, and whether it asks for a SETUP.

@@ -5,7 +5,7 @@ ghost use Rattle.endpoint.specs.Calls.{CountsNone, Receives, Sends};
 ghost use Rattle.endpoint.specs.Devices.{HasGrown, NeverFall};
 ghost use Rattle.std.specs.Borrow.{Lends, sem};
 ghost use Rattle.peer.specs.contracts.patient.PatientDevice.{the_row};
-ghost use Rattle.peer.specs.Patience.{ReceivesPatiently, SendsPatiently, after_receive, after_send, found_by, patient, patient_device, with_loss, with_nothing, with_work};
+ghost use Rattle.peer.specs.Patience.{ReceivesPatiently, SendsPatiently, after_receive, found_by, patient, patient_device, with_loss, with_nothing, with_work};
 
 use endpoint::{Datagrams, DeviceFailed};
 use std::marker::Model;
@@ -93,18 +93,6 @@ impl<D> PatientDevice<D> {
         self.nones = self.nones.saturating_add(1);
     }
 
-    /// Counts a send by what the inner device answered.
-    fn note_send(&mut self, answer: Result<(), DeviceFailed>)
-        ensures counted { self.new ≡ after_send self.old answer }
-        ensures inner { self.new.inner ≡ self.old.inner }
-        ensures nones { self.new.nones ≡ self.old.nones }
-    {
-        match answer {
-            Ok(()) => self.work(),
-            Err(_) => self.lose(),
-        }
-    }
-
     /// Counts a receive by what the inner device answered. What was found.
     fn note_receive(&mut self, answer: Result<Option<usize>, DeviceFailed>) -> Option<usize>
         ensures found { result ≡ found_by answer }
@@ -148,8 +136,10 @@ impl<D: Datagrams> Datagrams for PatientDevice<D> {
         ensures never_fails { IsOk result }
         ensures patient { SendsPatiently D.device D.tells self.old datagram.now self.new }
     {
-        let answer = self.inner.send(datagram);
-        self.note_send(answer);
+        match self.inner.send(datagram) {
+            Ok(()) => self.work(),
+            Err(_) => self.lose(),
+        }
         Ok(())
     }
 
