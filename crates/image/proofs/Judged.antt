@@ -30,6 +30,13 @@ is_last false false true dup meets a b c d = absurd (cc)
 is_last false false false true meets a b c d = absurd (cc)
 is_last false false false false meets a b c d = refl
 
+is_again : (crosses below over dup meets : Bool) → crosses ≡ false → below ≡ false → over ≡ false → dup ≡ true → Duplicate ≡ chain crosses below over dup meets
+is_again true below over dup meets a b c d = absurd (cc)
+is_again false true over dup meets a b c d = absurd (cc)
+is_again false false true dup meets a b c d = absurd (cc)
+is_again false false false false meets a b c d = absurd (cc)
+is_again false false false true meets a b c d = refl
+
 -- ---- whether a frame is like another
 
 pub full_at : (ss : List Placed) (s : Placed) → AreLaid ss → Among s ss → 0 < covered s
@@ -90,6 +97,12 @@ pub answered : (g : Geometry) (ss : List Placed) (m window : ℕ) (h : Head) (fr
 answered g ss m window h free inside from near dup meets =
     ap (λ (b : Bool). cond b Overlap Stored) meets
     ∙ is_last (nat_lt g.term_length (h.at % g.term_length + aligned h.length)) (nat_lt h.at m) (nat_lt (min (m + window) (max_position g)) (window_end h)) (list_any (is_duplicate h) (map head_of ss)) (list_any (overlaps h) (map head_of ss))
+    inside (le-ltb h.at m from) (le-ltb (min (m + window) (max_position g)) (window_end h) near) (sym dup)
+
+pub again : (g : Geometry) (ss : List Placed) (m window : ℕ) (h : Head) → nat_lt g.term_length (h.at % g.term_length + aligned h.length) ≡ false → m ≤ h.at → window_end h ≤ min (m + window) (max_position g)
+    → true ≡ list_any (is_duplicate h) (map head_of ss) → Duplicate ≡ insert_answer g (map head_of ss) m window h
+again g ss m window h inside from near dup =
+    is_again (nat_lt g.term_length (h.at % g.term_length + aligned h.length)) (nat_lt h.at m) (nat_lt (min (m + window) (max_position g)) (window_end h)) (list_any (is_duplicate h) (map head_of ss)) (list_any (overlaps h) (map head_of ss))
     inside (le-ltb h.at m from) (le-ltb (min (m + window) (max_position g)) (window_end h) near) (sym dup)
 
 pub head_shown : (p : ℕ) (f : Frame) → heads.head_of p f ≡ head_at p f

@@ -11,15 +11,14 @@ use Rattle.theory.specs.Units.{HasUnit, IsContiguous}
 use Rattle.position.specs.declared.head.FrameHead.{FrameHead}
 use Rattle.position.specs.declared.head.FrameKind.TheVariants as kinds
 use Rattle.position.specs.Heads.{head_of}
-use Rattle.image.specs.Kinds.{head_at}
 use Rattle.image_rule.specs.declared.view.Frame.{Frame}
 use Rattle.image_rule.specs.declared.view.View.{View}
 use Rattle.image_rule.specs.Frames.{IsContent}
 use Rattle.image_rule.proofs.Units.{placed_among}
 use Rattle.image.specs.Handles.{ImageWords, IsReaderOf, ReaderSeat, position_of}
-use Rattle.image.specs.Reading.{FindsNone, LiesInFront, ShowsFrame}
+use Rattle.image.specs.Reading.{FindsNone, ShowsFrame}
 use Rattle.image.specs.Finding.{FindsFrame, FindsNothing, PassesOn}
-use Rattle.image.specs.Meeting.{AreAlone, IsShort, Meets, PassesFrame, ReadsPast, StandsAtEnd, number_of}
+use Rattle.image.specs.Meeting.{AreAlone, IsShort, Meets, PassesFrame, StandsAtEnd, number_of}
 use Rattle.image.specs.Rebuilding.{Inserting, join_of}
 
 module _ (image : ImageWords) (i : Inserting) (r : ReaderSeat) (alone : AreAlone image i r) where
@@ -138,17 +137,3 @@ pub in_front : (before front after : List ℕ) → length front ≤ length befor
 in_front before front after le e =
     let a = length-append front (drop (length front) before) in let d = length-drop (length front) before in
     e ∙ sym (take_all (length before) (front ++ drop (length front) before) (omega arith))
-
--- its payload copied to the front of a block that has room for each
-pub reads_past : (i : Inserting) (r : ReaderSeat) (head : FrameHead) (payload : List ℕ) (j : Inserting) (q : ReaderSeat) (before after : List ℕ) → PassesFrame i r head payload j q → LiesInFront before payload after → 65472 ≤ length before → ReadsPast i r before head j q after
-reads_past i r head payload j q before after f lies room =
-    let small = f.small in
-    let copied : after ≡ payload ++ drop (length payload) before = lies.fits (omega arith) in
-    let front : after ≡ with_front before (payload_of f.frame.frame) = in_front before payload after (omega arith) copied ∙ ap (with_front before) f.payload_is in
-    record {
-      shown = (f.frame, f.among, f.here, f.head_is ∙ ap (λ (u : ℕ). head_at u f.frame.frame) f.here, front);
-      short = f.short;
-      past = (f.frame, f.among, f.here, f.ends);
-      inserter = f.inserter;
-      misses = f.misses;
-    }

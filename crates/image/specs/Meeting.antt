@@ -10,7 +10,6 @@ use Rattle.image_rule.specs.Frames.{placed_of}
 use Rattle.image.specs.Kinds.{head_at}
 use Rattle.image.specs.Handles.{ImageWords, IsReaderOf, ReaderSeat, known_by, misses_of, position_of}
 use Rattle.image.specs.Rebuilding.{Inserting, IsInserterOf, join_of}
-use Rattle.image.specs.Seen.{IsShown}
 
 abbrev pub number_of : ReaderSeat → ℕ
 number_of r = r.view.reading.number
@@ -61,14 +60,5 @@ pub record PassesFrame (i : Inserting) (r : ReaderSeat) (head : FrameHead) (payl
   pub small : length payload ≤ 65472
   pub short : IsShort head
   pub ends : position_of q ≡ end_of frame
-  pub inserter : j ≡ record i { seen = position_of q ∷ [] }
-  pub misses : misses_of q ≡ misses_of r
-
--- it was shown a frame that was stored where it stood, and stands where that ends: there the inserter saw it, and else nothing
--- has changed
-pub record ReadsPast (i : Inserting) (r : ReaderSeat) (before : List ℕ) (head : FrameHead) (j : Inserting) (q : ReaderSeat) (after : List ℕ) : Type 0 where
-  pub shown : IsShown i.stored (position_of r) before head after
-  pub short : IsShort head
-  pub past : (s : Placed) × Among s i.stored × (s.at ≡ position_of r) × (position_of q ≡ end_of s)
   pub inserter : j ≡ record i { seen = position_of q ∷ [] }
   pub misses : misses_of q ≡ misses_of r

@@ -2,11 +2,8 @@
 use Rattle.std.specs.Prelude.{◌≡◌, ℕ, ◌+◌, ◌-◌, ◌%◌, ◌<◌, ◌≤◌, Bool, false, ℤ, pos, negsuc, List, [], ◌∷◌, min, nat_lt}
 use Rattle.std.specs.List.{fold}
 use Rattle.theory.specs.Position.{Geometry, max_position}
-use Rattle.theory.specs.Placed.{Among, Placed, covered, end_of, frame_length, payload_of}
+use Rattle.theory.specs.Placed.{Among, Placed, covered, end_of, frame_length}
 use Rattle.theory.specs.Image.{is_accepted}
-use Rattle.block.specs.Bytes.{with_front}
-use Rattle.position.specs.declared.head.FrameHead.{FrameHead}
-use Rattle.image.specs.Kinds.{head_at}
 
 -- the least of the positions
 abbrev pub least : List ℕ → ℕ
@@ -41,8 +38,3 @@ crosses term_length (negsuc n) bytes = nat_lt term_length (term_length - 1 - n %
 -- a frame starts there
 abbrev pub StartsAt : List Placed → ℕ → Type 0
 StartsAt frames p = (s : Placed) × Among s frames × (s.at ≡ p)
-
--- the frame that starts at p is shown by this head, and its payload stands in front of the block's other bytes
-abbrev pub IsShown : List Placed → ℕ → List ℕ → FrameHead → List ℕ → Type 0
-IsShown frames p before head after =
-    (s : Placed) × Among s frames × (s.at ≡ p) × (head ≡ head_at p s.frame) × (after ≡ with_front before (payload_of s.frame))

@@ -25,7 +25,7 @@ pub(crate) mod spelling;
 pub(crate) mod storing;
 
 use crate::fault::{CONSUMERS, ImageError};
-use crate::inserter::clearing::{clear_to, sweep};
+use crate::inserter::clearing::{clear_to, see_all};
 use crate::inserter::frame_store::FrameStore;
 use crate::inserter::hand::Hand;
 use crate::inserter::room::Room;
@@ -326,8 +326,11 @@ pub fn least(image: &Image, inserter: &mut Inserter) -> u64
     ensures unit { result % 32 ≡ 0 }
 {
     let _ = inserter.words.floor();
-    let lowest = sweep(image, &mut inserter.words);
-    clear_to(image, &mut inserter.words, lowest);
+    let store = &mut inserter.words;
+    let _ = &image.words;
+    let _ = &store.hand;
+    let lowest = 32 * see_all(&image.words, &mut store.hand);
+    clear_to(image, store, lowest);
     lowest
 }
 

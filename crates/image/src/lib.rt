@@ -15,7 +15,7 @@
 //! A reader hands the frame where it stands, where it lies, to a [`FrameHandler`] (`read_with`), or copies it to a block
 //! (`read`), and moves behind it (`advance`). Where it and the inserter meet (`meet`),
 //! the reader knows just the frames that were stored, and the inserter has seen it where it stands. So where one hand has
-//! both, `read_past` is exact. What `insert` and `heartbeat` say is an event of the definitions' image
+//! both, `read_past_with` is exact. What `insert` and `heartbeat` say is an event of the definitions' image
 //! (`calls_are_events`), and with more units the contiguous end is no smaller (`units_grow`).
 #![tactic(auto)]
 
@@ -37,7 +37,7 @@ pub use inserter::gap::{first_gap, held_word};
 pub use inserter::inserting::{heartbeat, insert};
 pub use inserter::{Inserter, deal, least, open};
 pub use law::{calls_are_events, units_grow};
-pub use meeting::{meet, read_past, read_past_with};
+pub use meeting::{meet, read_past_with};
 pub use reader::ImageReader;
 pub use reader::reading::{advance, read, read_with};
 pub use steps::Steps;

@@ -7,7 +7,7 @@ ghost use Rattle.image_rule.specs.Frames.{Among, Has, byte_place, end_of, image_
 ghost use Rattle.image_rule.specs.Bits.{Cleared, DropsBits, IsExact, MayDrop, MayRise, Sweeps};
 ghost use Rattle.image_rule.specs.Steps.{Carries, MayRaise, MayTake, with_out};
 ghost use Rattle.image.specs.Handles.{IsStoreOf};
-ghost use Rattle.image.specs.Inserting.{ClearedTo, MayClearTo, Swept};
+ghost use Rattle.image.specs.Inserting.{ClearedTo, MayClearTo};
 ghost use Rattle.image.specs.Memory.{HasMemory, IsNext, found_at};
 ghost use Rattle.image.specs.Parts.{AnyPart, IsShare};
 
@@ -21,8 +21,9 @@ use position::align32;
 use region::ReadAccess;
 use std::marker::Brand;
 
-/// Loads the position of each consumer once. The answer is the unit of the least.
-fn see_all(image: &Words, hand: &mut Hand) -> u64
+/// Loads the position of each consumer once. The answer is the unit of the least: no frame lies on both sides of it, and all
+/// from the floor to it was stored.
+pub(crate) fn see_all(image: &Words, hand: &mut Hand) -> u64
     requires fits { hand.old.seat.table_id ≡ image.now.table.shared.table_id }
     requires some { 0 < image.now.key.consumers }
     requires seen { length hand.old.seat.me.0.seen ≡ image.now.key.consumers }
@@ -210,18 +211,6 @@ fn free_units(image: &Words, hand: &mut Hand, room: Room, heads: &[u64], to: u64
         at += u64::from(align32(head.frame_length)) / 32;
     }
     room
-}
-
-/// Loads the position of each consumer once. The answer is the least, in bytes; no frame lies on both sides of it, and all
-/// from the floor to it was stored.
-pub(crate) fn sweep(image: &Image, inserter: &mut FrameStore) -> u64
-    requires fits { IsStoreOf image.now inserter.old }
-    ensures fits { IsStoreOf image.now inserter.new }
-    ensures swept { Swept inserter.old result inserter.new }
-{
-    let _ = &image.words;
-    let _ = &inserter.hand;
-    32 * see_all(&image.words, &mut inserter.hand)
 }
 
 /// Takes the memory of all frames below a position back, and clears their bits, where each consumer was seen there or further

@@ -2,15 +2,14 @@
 
 ghost use Rattle.std.specs.Prelude.{◌≡◌, ◌+◌, ◌*◌, ◌%◌, ◌^◌, ◌<◌, ◌≤◌, ℕ, false, true, pos, map, ◌-◌, ◌/◌};
 ghost use Rattle.frames.specs.Frames.{wire};
-ghost use Rattle.theory.specs.Insert.{head_of, insert_answer_at, insert_answer, is_duplicate};
-ghost use Rattle.theory.specs.Placed as placed;
+ghost use Rattle.theory.specs.Insert.{head_of, insert_answer_at, is_duplicate};
 ghost use Rattle.theory.specs.Placed.{frame_length, is_padding};
 ghost use Rattle.theory.specs.Wire.{IsFrame};
-ghost use Rattle.image.specs.Seen.{accepts, least, crosses};
+ghost use Rattle.image.specs.Seen.{accepts, least};
 ghost use Rattle.image.specs.Stored.{IsOfStream, IsUnit, meant, stream_frame};
-ghost use Rattle.image.specs.Rebuilding.{FitsIn, Inserts, IsInserterOf, Looked, geometry_of, with_frame, AreLaid};
+ghost use Rattle.image.specs.Rebuilding.{Inserts, IsInserterOf, Looked, geometry_of, AreLaid};
 ghost use Rattle.std.specs.List.{list_any};
-ghost use Rattle.theory.specs.Position.{aligned, max_position};
+ghost use Rattle.theory.specs.Position.{max_position};
 ghost use Rattle.image.specs.Kinds.{is_pad};
 ghost use Rattle.image.specs.Handles as seats;
 ghost use Rattle.image.specs.Handles.{floor_of, stored_by};
@@ -20,7 +19,7 @@ ghost use Rattle.image.specs.Runs.{AreBelow, IsRun};
 use crate::answer::Insert;
 use crate::held::{crosses_term, is_like, measure};
 use crate::inserter::frame_store::FrameStore;
-use crate::inserter::looking::{head_at, is_free};
+use crate::inserter::looking::{head_at, units_free};
 use crate::inserter::storing::store_frame;
 use crate::inserter::{Inserter, least};
 use crate::words::Image;
@@ -75,49 +74,6 @@ fn has_like(
     is_like(&head, kind, frame_length)
 }
 
-/// What becomes of a frame at a position from 0 on that doesn't pass the end of its term.
-fn judge_inside(
-    image: &Image,
-    words: &mut FrameStore,
-    window: u32,
-    start: u64,
-    kind: FrameKind,
-    frame_length: u32,
-) -> Insert
-    requires fits { seats.IsStoreOf image.now words.old }
-    requires laid { AreLaid (stored_by words.old) }
-    requires low { floor_of words.old ≤ max_position words.old.key.identity.geometry }
-    requires window { window ≤ words.old.key.identity.geometry.term_length / 2 }
-    requires start { start < 2 ^ 63 }
-    requires unit { start % 32 ≡ 0 }
-    requires long { 32 ≤ frame_length }
-    requires length { frame_length ≤ 2 ^ 24 }
-    requires inside { crosses words.old.key.identity.geometry.term_length (pos start) (aligned frame_length) ≡ false }
-    ensures same { words.new ≡ words.old }
-    ensures answer { meant result ≡ insert_answer words.old.key.identity.geometry (map head_of (stored_by words.old)) (floor_of words.old) window (record { at = start; padding = is_pad kind; length = frame_length }) }
-{
-    let geometry = image.identity().geometry();
-    let least = words.floor();
-    if start < least {
-        return Insert::Below;
-    }
-    let size = align32(frame_length);
-    let needed = match kind {
-        FrameKind::Data => start + u64::from(size),
-        FrameKind::Pad => start + 32,
-    };
-    let reach = (least + u64::from(window)).min(geometry.max_position());
-    if needed > reach {
-        Insert::OverWindow
-    } else if has_like(image, words, start, kind, frame_length) {
-        Insert::Duplicate
-    } else if is_free(image, words, start, start + u64::from(size)) {
-        Insert::Stored
-    } else {
-        Insert::Overlap
-    }
-}
-
 /// What becomes of a frame, where the consumers were just looked at.
 pub(crate) fn judge(
     image: &Image,
@@ -134,42 +90,38 @@ pub(crate) fn judge(
     ensures answer { meant result ≡ insert_answer_at (geometry_of inserter.old) (map head_of inserter.old.stored) inserter.old.floor inserter.old.window position (is_pad kind) frame_length }
 {
     let geometry = image.identity().geometry();
-    if crosses_term(&geometry, position, align32(frame_length)) {
+    let size = align32(frame_length);
+    if crosses_term(&geometry, position, size) {
         return Insert::CrossesTerm;
     }
     if position < 0 {
         return Insert::Below;
     }
-    judge_inside(
-        image,
-        &mut inserter.words,
-        inserter.window,
-        position as u64,
-        kind,
-        frame_length,
-    )
-}
-
-/// Stores one more frame, of this length.
-fn store(image: &Image, inserter: &mut Inserter, start: u64, frame_length: u32, frame: &Frame<'_>)
-    requires fits { IsInserterOf image.now inserter.old }
-    requires frame { IsFrame (wire frame.now) }
-    requires of_stream { IsOfStream frame.now }
-    requires length { frame_length ≡ placed.frame_length (stream_frame frame.now) }
-    requires short { frame_length ≤ 2 ^ 24 }
-    requires may { FitsIn (geometry_of inserter.old) inserter.old.floor inserter.old.stored (record { at = start; frame = stream_frame frame.now }) }
-    ensures { inserter.new ≡ with_frame inserter.old (record { at = start; frame = stream_frame frame.now }) }
-{
-    let _ = &inserter.words;
-    let end = start + u64::from(align32(frame_length));
-    store_frame(image, &mut inserter.words, start, frame_length, frame);
-    inserter.high_water = inserter.high_water.max(end);
-    inserter.rebuilt = run_end(
-        image,
-        &mut inserter.words,
-        inserter.rebuilt,
-        inserter.high_water,
-    );
+    let start = position as u64;
+    let least = inserter.words.floor();
+    if start < least {
+        return Insert::Below;
+    }
+    let needed = match kind {
+        FrameKind::Data => start + u64::from(size),
+        FrameKind::Pad => start + 32,
+    };
+    let reach = (least + u64::from(inserter.window)).min(geometry.max_position());
+    if needed > reach {
+        return Insert::OverWindow;
+    }
+    if has_like(image, &mut inserter.words, start, kind, frame_length) {
+        return Insert::Duplicate;
+    }
+    let store = &mut inserter.words;
+    let _ = &image.words;
+    let _ = &store.hand;
+    let end = start + u64::from(size);
+    if units_free(&image.words, &mut store.hand, start / 32, end / 32) {
+        Insert::Stored
+    } else {
+        Insert::Overlap
+    }
 }
 
 /// Takes a DATA frame or a padding at a position, which is below every image where it is negative. The consumers are looked
@@ -190,7 +142,16 @@ pub fn insert(image: &Image, inserter: &mut Inserter, position: i64, frame: &Fra
     let answer = judge(image, inserter, position, kind, frame_length);
     if answer == Insert::Stored {
         let _ = &inserter.words;
-        store(image, inserter, position as u64, frame_length, frame);
+        let start = position as u64;
+        let end = start + u64::from(align32(frame_length));
+        store_frame(image, &mut inserter.words, start, frame_length, frame);
+        inserter.high_water = inserter.high_water.max(end);
+        inserter.rebuilt = run_end(
+            image,
+            &mut inserter.words,
+            inserter.rebuilt,
+            inserter.high_water,
+        );
     }
     answer
 }

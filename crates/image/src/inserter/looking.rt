@@ -5,7 +5,7 @@ ghost use Rattle.image_rule.specs.Frames.{HasStart, ring};
 ghost use Rattle.image_rule.specs.Bits as bits;
 ghost use Rattle.image_rule.specs.Bits.{IsExact};
 ghost use Rattle.image.specs.Handles.{IsStoreOf, floor_of, stored_by};
-ghost use Rattle.image.specs.Looking.{AreFree, IsHeadOf, TellsUnits};
+ghost use Rattle.image.specs.Looking.{IsHeadOf, TellsUnits};
 
 use crate::inserter::frame_store::FrameStore;
 use crate::inserter::hand::{Hand, fetch_as};
@@ -14,8 +14,8 @@ use frame_words::head_in;
 use position::FrameHead;
 use std::marker::Brand;
 
-/// Whether none of these units was stored.
-fn units_free(image: &Words, hand: &mut Hand, from: u64, to: u64) -> bool
+/// Whether none of these units was stored, from the floor on and at most a ring above it.
+pub(crate) fn units_free(image: &Words, hand: &mut Hand, from: u64, to: u64) -> bool
     requires fits { hand.old.seat.table_id ≡ image.now.table.shared.table_id }
     requires low { hand.old.floor ≤ from }
     requires near { to ≤ hand.old.floor + ring image.now.key }
@@ -37,20 +37,6 @@ fn units_free(image: &Words, hand: &mut Hand, from: u64, to: u64) -> bool
         at += count;
     }
     true
-}
-
-/// Whether none of the units between two positions was stored, from the floor on and at most three terms above it.
-pub(crate) fn is_free(image: &Image, inserter: &mut FrameStore, from: u64, to: u64) -> bool
-    requires fits { IsStoreOf image.now inserter.old }
-    requires units { (from % 32 ≡ 0) × (to % 32 ≡ 0) }
-    requires low { floor_of inserter.old ≤ from }
-    requires near { to ≤ floor_of inserter.old + 3 * inserter.old.key.identity.geometry.term_length }
-    ensures same { inserter.new ≡ inserter.old }
-    ensures free { IsTrue result ↔ AreFree inserter.old from to }
-{
-    let _ = &image.words;
-    let _ = &inserter.hand;
-    units_free(&image.words, &mut inserter.hand, from / 32, to / 32)
 }
 
 /// A word of the bits that say which units were stored, 64 in a word: bit `p % 2048 / 32` of word `p % (3 * T) / 2048` is

@@ -3,7 +3,6 @@
 ghost use Rattle.std.specs.Prelude.{◌≡◌, ℕ, ◌*◌, ◌^◌, ◌≤◌, [], List, length, IfNone, IfSome};
 ghost use Rattle.theory.specs.Placed.{payload_of};
 ghost use Rattle.position.specs.Heads.{head_of};
-ghost use Rattle.frame_words.specs.Contents.{head_by};
 ghost use Rattle.image_rule.specs.Frames.{Says, byte_place, end_of, frame_said, ring};
 ghost use Rattle.image_rule.specs.Reads.{IsFound, first_of};
 ghost use Rattle.image.specs.Finding.{FindsFrame, FindsHere, FindsNothing, PassesOn};
@@ -20,25 +19,7 @@ use position::{FrameHead, FrameKind, align32};
 use region::ReadAccess;
 use std::marker::Brand;
 
-/// The head that the first eight bytes of a frame at a position say.
-fn head_among(bytes: &[u8], start: u64) -> FrameHead
-    requires { length bytes.now ≡ 8 }
-    ensures { result ≡ head_by start bytes.now }
-{
-    let length = [bytes[0], bytes[1], bytes[2], bytes[3]];
-    FrameHead {
-        start,
-        kind: if bytes[6] == 0 {
-            FrameKind::Pad
-        } else {
-            FrameKind::Data
-        },
-        flags: bytes[5],
-        frame_length: u32::from_le_bytes(length),
-    }
-}
-
-/// The head of the frame at a unit, whose bytes begin here, that a part shows.
+/// The head of the frame at a unit, whose bytes begin here, that a part shows: its first eight bytes say it.
 fn shown_head<N: Picked>(image: &Words, part: &ReadAccess, unit: u64, at: usize) -> FrameHead
     requires says { Says N.frame × (N.frame.unit ≡ unit) }
     requires few { unit ≤ 2 ^ 56 }
@@ -47,7 +28,18 @@ fn shown_head<N: Picked>(image: &Words, part: &ReadAccess, unit: u64, at: usize)
     ensures { result ≡ head_of (32 * unit) (frame_said N.frame.bytes) }
 {
     let _ = &image.table;
-    head_among(part.bytes(&image.region, image.start, at, 8), 32 * unit)
+    let bytes = part.bytes(&image.region, image.start, at, 8);
+    let length = [bytes[0], bytes[1], bytes[2], bytes[3]];
+    FrameHead {
+        start: 32 * unit,
+        kind: if bytes[6] == 0 {
+            FrameKind::Pad
+        } else {
+            FrameKind::Data
+        },
+        flags: bytes[5],
+        frame_length: u32::from_le_bytes(length),
+    }
 }
 
 /// The payload of the frame that a part shows, whose bytes begin here, and whose payload has so many, where it lies.
@@ -66,41 +58,6 @@ fn shown_payload<'a, N: Picked>(
 {
     let _ = &image.table;
     &part.bytes(&image.region, image.start, at, 32 + count)[32..]
-}
-
-/// The bytes of the payload of the frame that a head shows.
-fn payload_length<N: Picked>(head: &FrameHead) -> usize
-    requires says { Says N.frame }
-    requires head { head.now ≡ head_of head.now.start (frame_said N.frame.bytes) }
-    ensures count { result ≡ length (payload_of (frame_said N.frame.bytes)) }
-    ensures low { result ≤ 65472 }
-{
-    match head.kind {
-        FrameKind::Data => head.frame_length as usize - 32,
-        FrameKind::Pad => 0,
-    }
-}
-
-/// Hands the frame at a unit, whose bytes begin here, that a part shows to who takes it.
-fn read_part<N: Picked, H: FrameHandler>(
-    image: &Words,
-    part: &ReadAccess,
-    unit: u64,
-    at: usize,
-    handler: &mut H,
-) -> FrameHead
-    requires says { Says N.frame × (N.frame.unit ≡ unit) }
-    requires few { unit ≤ 2 ^ 56 }
-    requires at { at ≡ byte_place (ring image.now.key) N.frame.unit }
-    requires part { IsPartOf (ring image.now.key) image.now.table.shared.key.region N.frame part.now }
-    ensures head { result ≡ head_of (32 * unit) (frame_said N.frame.bytes) }
-    ensures handed { H.takes handler.old result (payload_of (frame_said N.frame.bytes)) handler.new }
-{
-    let _ = &image.table;
-    let head = shown_head::<N>(image, part, unit, at);
-    let count = payload_length::<N>(&head);
-    handler.on_frame(&head, shown_payload::<N>(image, part, at, count));
-    head
 }
 
 /// Hands the frame that the reader found last, of which it has its part and whose bytes begin here, to who takes it.
@@ -129,7 +86,12 @@ fn read_held<N: Picked, H: FrameHandler>(
     let words = &image.table.shared;
     let slot = image.slot(reader.unit, reader.number);
     let part = words.exchange(&mut reader.seat, slot, ReadAccess::none());
-    let head = read_part::<N, H>(image, &part, reader.unit, at, handler);
+    let head = shown_head::<N>(image, &part, reader.unit, at);
+    let count = match head.kind {
+        FrameKind::Data => head.frame_length as usize - 32,
+        FrameKind::Pad => 0,
+    };
+    handler.on_frame(&head, shown_payload::<N>(image, &part, at, count));
     let _none = words.exchange(&mut reader.seat, slot, part);
     reader.read_to = reader.unit + u64::from(align32(head.frame_length)) / 32;
     head

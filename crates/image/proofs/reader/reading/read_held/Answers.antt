@@ -28,7 +28,7 @@ pub invariant_of-reader-clause-read : goal.invariant_of-reader-clause-read
 invariant_of-reader-clause-read g c lt =
     let r = c.args.reader.now in let f : Frame = first_of r.seat.me.0.reading.known in let found = c.requires.found.0 in
     let e : c.exchange-none.new.seat.me ≡ r.seat.me = back_again r.seat.me c.exchange-part.new.seat.me c.exchange-none.new.seat.me c.slot-slot.result c.exchange-part.result c.none.result c.exchange-part.ensures.2 c.exchange-part.ensures.3 c.exchange-none.ensures.3 in
-    let ends : r.unit + c.from.result / 32 ≡ end_of f = ends_here f (32 * r.unit) r.unit c.from.result c.read_part-head.result found.says (c.read_part-head.ensures.head ∙ ap (λ (x : Frame). head_said r.unit x) c.requires.chosen) (found.here ∙ sym r.unit_is) (c.from.ensures ∙ c.align32.ensures) in
+    let ends : r.unit + c.from.result / 32 ≡ end_of f = ends_here f (32 * r.unit) r.unit c.from.result c.shown_head-head.result found.says (c.shown_head-head.ensures ∙ ap (λ (x : Frame). head_said r.unit x) c.requires.chosen) (found.here ∙ sym r.unit_is) (c.from.ensures ∙ c.align32.ensures) in
     (subst (λ (m : Mine). IsRead m.0 (r.unit + c.from.result / 32)) (sym e) (record { some = found.some; here = found.here; ends = ends; low = (let l = found.low in omega (arith, ends)) }), ap (λ (m : Mine). m.0.reading.holds) e ∙ c.requires.found.1)
 
 pub invariant_of-reader-clause-carries : goal.invariant_of-reader-clause-carries
