@@ -1,15 +1,14 @@
 -- A core in one hand with the one reader of its image: nothing moves between two meetings, so what a call saw is what the old
 -- state had seen.
 use Rattle.std.proofs.Common.{◌≡◌, ℕ, suc, ◌*◌, ◌≤◌, inl, inr, List, [], ◌∷◌, length, Option, None, Some, refl, sym, ap, ◌∙◌, subst, arith}
-use Rattle.std.specs.Prelude.{⊤, slice_index, slice_set}
+use Rattle.std.specs.Prelude.{⊤, slice_index}
 use Rattle.std.specs.List.{AllByRecursion}
 use Rattle.theory.specs.Wire.{Wire}
-use Rattle.image.specs.Handles.{IsReaderOf, ReaderSeat, position_of}
-use Rattle.image.specs.Meeting.{AreAlone, Meets, number_of}
+use Rattle.image.specs.Handles.{ReaderSeat, position_of}
 use Rattle.image.specs.Rebuilding.{Inserting, geometry_of, join_of}
 use Rattle.receiver.specs.declared.receiver_core.Outcome.{Outcome}
 use Rattle.receiver.specs.Receiving.{MeetsAll, Opened, Receiver, TakesDatagram, at_moment}
-use Rattle.receiver.specs.Representing.{Becomes, Core, HearsDatagram, ImageSeesOn, MeetsEach, Represents, RepresentsImage, RepresentsOpened, core_seen_as, image_seen_as, words_of}
+use Rattle.receiver.specs.Representing.{Becomes, Core, HearsDatagram, ImageSeesOn, MeetsEach, Represents, RepresentsImage, RepresentsOpened, core_seen_as, image_seen_as}
 use Rattle.receiver.specs.Seating.{AreSeated, MaySit, Sits, SitsAt, place_of}
 use Rattle.receiver.proofs.Meeting.{sees_same, seen_at}
 
@@ -175,40 +174,3 @@ takes_alone v m w r now bytes outs h hears = λ x s.
     let p = place r m.image w.image h.sits in
     let t = heard r p.0 v m now bytes outs h.seated p.1 hears x s in
     (t.0, t.1, still_represents v m w r h t.0 t.2)
-
--- ---- a meeting
-
-set_one : (xs : List ℕ) (p : ℕ) → length xs ≡ 1 → slice_set xs 0 p ≡ p ∷ []
-set_one [] p long = absurd (omega arith)
-set_one (x ∷ []) p long = refl
-set_one (x ∷ y ∷ ys) p long = absurd (omega arith)
-
--- the reader met the inserter
-pub met_sits : (i j : Inserting) (r q : ReaderSeat) → number_of r ≡ 0 → length i.seen ≡ 1 → Meets i r j q → SitsAt i (position_of r) j
-met_sits i j r q number one met =
-    let seen : slice_set i.seen (number_of r) (position_of r) ≡ position_of r ∷ [] = ap (λ (k : ℕ). slice_set i.seen k (position_of r)) number ∙ set_one i.seen (position_of r) one in
-    let after : j ≡ record i { seen = position_of r ∷ [] } = met.inserter ∙ ap (λ (xs : List ℕ). record i { seen = xs }) seen in
-    record {
-      after = after ∙ ap (λ (n : ℕ). record i { seen = position_of r ∷ []; undealt = n }) (sym (ap (λ (x : Inserting). x.undealt) after));
-      one = one;
-      stood = subst (λ (k : ℕ). slice_index i.seen k ≤ position_of r) number met.stood;
-    }
-
--- one that was dealt just before
-pub dealt_sits : (h i j : Inserting) (r q : ReaderSeat) → i ≡ record h { undealt = 0 } → position_of r ≡ join_of h → SitsAt i (position_of r) j → SitsAt h (join_of h) j
-dealt_sits h i j r q left at sits =
-    let seen : i.seen ≡ h.seen = ap (λ (x : Inserting). x.seen) left in
-    record {
-      after = sits.after ∙ (λ n. record (left n) { seen = at n ∷ []; undealt = j.undealt });
-      one = sym (ap length seen) ∙ sits.one;
-      stood = (let s = sits.stood in let e = ap (λ (xs : List ℕ). slice_index xs 0) seen in omega arith);
-    }
-
-pub met_seated : (i j : Inserting) (r q : ReaderSeat) → number_of r ≡ 0 → i.key.consumers ≡ 1 → Meets i r j q → SitsAt i (position_of r) j → IsReaderOf (words_of j) q → AreAlone (words_of j) j q
-met_seated i j r q number one met sits of = record {
-  inserter = record { of = refl; key = refl };
-  reader = of;
-  one = ap (λ (x : Inserting). x.key.consumers) sits.after ∙ one;
-  number = met.number ∙ number;
-  met = ap (λ (x : Inserting). x.seen) sits.after ∙ ap (λ (u : ℕ). 32 * u ∷ []) (sym met.stands);
-}

@@ -1,7 +1,7 @@
 -- What becomes of a receiver's core, told of the receivers that it shows.
 use Rattle.std.proofs.Common.{◌≡◌, ℕ, inl, inr, List, [], ◌∷◌, ◌++◌, length, map, arith, ◌%◌, Option, Some, None, refl, sym, ap, ap₂, ◌∙◌, subst, FitsSigned, to_z, of_z, w32}
 use Rattle.std.proofs.lemmas.Int.{to_z-of_z}
-use Rattle.std.specs.Prelude.{◌↔◌, IsTrue, ℤ, Result, Ok, Err, IfOk, Bool, true, false, max, option_map}
+use Rattle.std.specs.Prelude.{◌↔◌, IsTrue, ℤ, Bool, true, false, max, option_map}
 use Rattle.std.specs.Option.{ForSome, option_to_list}
 use Rattle.std.proofs.lemmas.List.{length-replicate}
 use Rattle.std.proofs.lemmas.Bool.{both_ways, cond-true, cond-false}
@@ -14,7 +14,7 @@ use Rattle.theory.specs.Timing.{LastStatus, is_status_due}
 use Rattle.frames.specs.Frames.{nak_of, status_of}
 use Rattle.theory.specs.Image.{image_at}
 use Rattle.theory.specs.Setup.{HasSetupFault, OpensAt}
-use Rattle.theory.specs.Wire.{Header, IsHeader, NAK, SM, Setup, SpellsDatagram, Wire}
+use Rattle.theory.specs.Wire.{Header, IsHeader, NAK, SM, Setup, Wire}
 use Rattle.position.specs.declared.head.FrameHead.{FrameHead}
 use Rattle.image.specs.Seen.{IsCount, least}
 use Rattle.image.specs.declared.answer.Insert.{Insert}
@@ -359,16 +359,19 @@ core_on v w i j is some sees then window consumers unmet faults =
     (record { image = then; width = sees.window ∙ is.width i some; seats = ((λ n. (sees.key n).consumers) ∙ s.0, sees.all ∙ s.1) })
     window consumers (subst (λ (x : Option Header). ForSome x IsHeader) (sym unmet) is.unmet) faults
 
--- with the header of a frame that met no image
-pub core_missed : (v : Core) (h : Header) → IsCore v → IsHeader h → IsCore (missed v h)
-core_missed v h is header = record { count = is.count; width = is.width; seats = is.seats; unmet = λ k e. (let same : h ≡ k = cc in subst IsHeader same header); faults = is.faults }
-
 -- whose readers were given away
 pub core_left : (v w : Core) (i j : Inserting) → IsCore v → v.image ≡ Some i → j ≡ record i { undealt = j.undealt } → w.image ≡ Some j → w.window ≡ v.window → w.consumers ≡ v.consumers → w.unmet ≡ v.unmet → w.faults ≡ v.faults → IsCore w
 core_left v w i j is some left then window consumers unmet faults =
     let s = is.seats i some in
     core_of v w j is
     (record { image = then; width = ap (λ (x : Inserting). x.window) left ∙ is.width i some; seats = (ap (λ (x : Inserting). x.key.consumers) left ∙ s.0, ap (λ (x : Inserting). length x.seen) left ∙ s.1) })
+    window consumers (subst (λ (x : Option Header). ForSome x IsHeader) (sym unmet) is.unmet) faults
+
+-- whose one reader has read on
+pub core_read : (v w : Core) (i j : Inserting) → IsCore v → v.image ≡ Some i → v.consumers ≡ 1 → j ≡ record i { seen = j.seen } → length j.seen ≡ 1 → w.image ≡ Some j → w.window ≡ v.window → w.consumers ≡ v.consumers → w.unmet ≡ v.unmet → w.faults ≡ v.faults → IsCore w
+core_read v w i j is some one shape met then window consumers unmet faults =
+    core_of v w j is
+    (record { image = then; width = ap (λ (x : Inserting). x.window) shape ∙ is.width i some; seats = (ap (λ (x : Inserting). x.key.consumers) shape ∙ (is.seats i some).0, met ∙ sym one) })
     window consumers (subst (λ (x : Option Header). ForSome x IsHeader) (sym unmet) is.unmet) faults
 
 -- with one that was just opened
@@ -382,11 +385,6 @@ pub same_sees : (i j : Inserting) → j ≡ i → SeesOn i j
 same_sees i j e = subst (SeesOn i) (sym e) (record { of = refl; key = refl; window = refl; undealt = refl; floor = omega arith; all = refl; forward = λ n. omega arith })
 
 -- ---- a datagram
-
-pub heard_all : {V E : Type 0} (items : V → List Outcome) (v u w : Core) (now : ℕ) (bytes : List ℕ) (frames : List Wire) (out : Result V E) → u ≡ record v { clock = max v.clock now } → SpellsDatagram frames bytes
-    → IfOk out (λ outs. MeetsEach u frames (items outs) w) → IfOk out (λ outs. HearsDatagram v now bytes (items outs) w)
-heard_all items v u w now bytes frames (Err e) at spells met = tt
-heard_all items v u w now bytes frames (Ok outs) at spells met = inl (frames, spells, subst (λ (x : Core). MeetsEach x frames (items outs) w) at met)
 
 counted_shown : (v : Core) (p : ℕ) (r : Receiver) → Represents v r → Represents (record v { faults = counted_at p v.faults }) (record r { faults = counted_at p r.faults })
 counted_shown v p r s = record { numbers = ap (λ (x : Receiver). record x { faults = counted_at p x.faults }) s.numbers; image = s.image }

@@ -1,9 +1,10 @@
 -- Frames that a poll reads, one after the other.
-use Rattle.std.proofs.Common.{◌≡◌, ◌↔◌, ◌≤◌, ℕ, inl, inr, ⊎_elim, List, [], ◌∷◌, ◌++◌, true, false, Option, Some, None, Ok, Err, refl, sym, ap, ap₂, ◌∙◌, subst}
-use Rattle.std.specs.Prelude.{is_some, map}
+use Rattle.std.proofs.Common.{◌≡◌, ◌↔◌, ◌≤◌, ◌<◌, ◌-◌, ◌^◌, ℕ, arith, inl, inr, ⊎_elim, List, [], ◌∷◌, ◌++◌, true, false, Option, Some, None, Result, Ok, Err, length, refl, sym, ap, ap₂, ◌∙◌, subst}
+use Rattle.std.specs.Prelude.{is_some, map, option_map, slice_index}
 use Rattle.std.specs.Option.{option_to_list}
 use Rattle.std.specs.List.{AllByRecursion}
 use Rattle.std.proofs.lemmas.Bool.{cases_Bool, both_ways}
+use Rattle.theory.specs.Position.{Geometry, IsGeometry, max_position}
 use Rattle.theory.specs.Placed.{Among, Chain, Data, Frame, Pad, Placed, end_of, is_padding}
 use Rattle.theory.specs.Units.{IsContiguous}
 use Rattle.theory.specs.Assembly.{Assembly, after, after_all}
@@ -16,16 +17,22 @@ use Rattle.assembler.specs.Hearing.{AsksMemory, IsTooLong, heard_of}
 use Rattle.assembler.proofs.Hearing.{after_begun, after_given, heard_on}
 use Rattle.receiver.specs.Polling.{Answer, PollsOf, PollsWhole, ReadsFrames, StaysShort, StopsAt, TellsOf, TellsPositions, gives, moved_all, passed_all, with_only_consumer}
 use Rattle.receiver.specs.declared.poll_error.PollError.TheVariants.{NoImage, Unassembled}
+use Rattle.position.specs.declared.head.FrameHead.{FrameHead}
+use Rattle.assembler.specs.declared.assembler.Message.{Message}
 use Rattle.assembler.specs.declared.fault.AssemblyError.{AssemblyError}
 use Rattle.assembler.specs.declared.fault.AssemblyError.TheVariants.{Memory, TooLong}
 use Rattle.receiver.specs.Receiving.{Opened, Receiver}
-use Rattle.receiver.specs.Representing.{Core, HasNoFrame, Represents, RepresentsImage, RepresentsOpened}
-use Rattle.receiver.proofs.Meeting.{shown_none, shown_some}
+use Rattle.receiver.specs.Joining.{Joins, Shows}
+use Rattle.receiver.specs.Representing.{Core, HasNoFrame, IsAtEnd, IsCore, PassesFrame, ReadsPast, Represents, RepresentsImage, RepresentsOpened, place_in, words_of}
+use Rattle.receiver.proofs.Meeting.{core_read, end_read, frame_read, imaged, none_read, shown_none, shown_some}
 use Rattle.receiver.proofs.PollFrames.{moved_at, passed_lost}
+use Rattle.receiver.proofs.ReadOn.{AreFit, alone_to, at_end, forward, moved_only, reads_past}
 use Rattle.receiver.proofs.Shown.{least_shown}
 use Rattle.image.specs.Seen.{least}
-use Rattle.image.specs.Handles.{ReaderSeat, position_of}
-use Rattle.image.specs.Rebuilding.{Inserting, join_of}
+use Rattle.image.specs.Handles.{ImageWords, ReaderSeat, position_of}
+use Rattle.image.specs.Meeting as hand
+use Rattle.image.specs.Meeting.{AreAlone}
+use Rattle.image.specs.Rebuilding.{Inserting, geometry_of, join_of}
 use Rattle.receiver.specs.Seating.{AreSeated}
 use Rattle.std.proofs.lemmas.Option.{same_Some}
 use Rattle.receiver.specs.Subscribing.{AssemblesFor, HasReadOn, HearsFrame, IsPolling, PassesOn, RefusesFrame, RepresentsSubscriber, Subscribing}
@@ -88,7 +95,7 @@ opened_shown : (i : Option Inserting) (o : Opened) (c d : Consumer) → o.image.
 opened_shown None o c d one at h = h
 opened_shown (Some v) o c d one at h = seat_shown v o c d one at h
 
-pub poll_starts : (v : Subscribing) (o : Option Opened) (r : Receiver) → r.image ≡ o → (o ≡ None → ⊥) → RepresentsSubscriber v r → IsPolling o r v
+poll_starts : (v : Subscribing) (o : Option Opened) (r : Receiver) → r.image ≡ o → (o ≡ None → ⊥) → RepresentsSubscriber v r → IsPolling o r v
 poll_starts v None r is some h = some refl
 poll_starts v (Some o) r is some h = reading (subst (AssemblesFor v.assembler.begun) is h.begun)
   where
@@ -106,7 +113,7 @@ poll_starts v (Some o) r is some h = reading (subst (AssemblesFor v.assembler.be
       greatest = h.greatest;
     }
 
-pub some_shows : (i : Option Inserting) (o : Option Opened) → is_some i ≡ true → RepresentsOpened i o → o ≡ None → ⊥
+some_shows : (i : Option Inserting) (o : Option Opened) → is_some i ≡ true → RepresentsOpened i o → o ≡ None → ⊥
 some_shows None o e h n = absurd (cc)
 some_shows (Some v) None e h n = h
 some_shows (Some v) (Some o) e h n = absurd (cc)
@@ -266,13 +273,141 @@ pub ends_fault : (o : Option Opened) (r : Receiver) (v w : Subscribing) (fault :
 ends_fault None r v w fault h seats refused = absurd h
 ends_fault (Some o) r v w fault h seats refused = polls_fault o r v w fault h seats refused
 
--- ---- what the image tells
+-- ---- a frame that was read and joined
+
+pub hears : {A : Type 0} (o : Option Opened) (r : Receiver) (core : Core) (a b : Assembling) (head : FrameHead) (payload : List ℕ) (m : Option (Message A)) → PassesFrame o r 0 head payload core → Joins a head payload (Ok m) b → HearsFrame o r a (option_map (λ x. x.bytes.items) m) (record { core = core; assembler = b })
+hears None r core a b head payload m h j = absurd h
+hears (Some o) r core a b head payload m h j =
+    let shows : Shows head payload h.frame = (h.head_is, h.payload_is) in
+    (h.frame, record { consumer = h.consumer; which = h.which; among = h.among; here = h.here; shown = h.shown }, j.state h.frame shows, j.message h.frame shows, j.short h.frame shows)
+
+pub refuses : {A : Type 0} (o : Option Opened) (r : Receiver) (core : Core) (a b : Assembling) (head : FrameHead) (payload : List ℕ) (fault : AssemblyError) → PassesFrame o r 0 head payload core → Joins {A = A} a head payload (Err fault) b → RefusesFrame o r a fault (record { core = core; assembler = b })
+refuses None r core a b head payload fault h j = absurd h
+refuses (Some o) r core a b head payload fault h j =
+    let shows : Shows head payload h.frame = (h.head_is, h.payload_is) in
+    (h.frame, record { consumer = h.consumer; which = h.which; among = h.among; here = h.here; shown = h.shown }, j.dropped, j.refused h.frame shows, j.named h.frame shows, j.asked h.frame shows)
+
+-- what holds between two frames of a poll that began with this subscriber
+pub record PollsOnwards (start : Subscribing) (core : Core) (reader : Option ReaderSeat) (a : Assembling) : Type 0 where
+  pub polling : (r : Receiver) → RepresentsSubscriber start r → IsPolling r.image r (record { core = core; assembler = a })
+  pub greatest : a.greatest ≡ start.assembler.greatest
+  pub is : IsCore core
+  pub one : core.consumers ≡ 1
+  pub seated : AreSeated core.image reader
 
 -- without a reader there is no image
 pub unseated : (o : Option Inserting) (r : Option ReaderSeat) → AreSeated o r → r ≡ None → o ≡ None
 unseated None r seated none = refl
 unseated (Some i) None seated none = absurd seated
 unseated (Some i) (Some r) seated none = absurd (cc)
+
+pub begins : (start : Subscribing) (core : Core) (reader : Option ReaderSeat) (a : Assembling) → record { core = core; assembler = a } ≡ start → is_some core.image ≡ true → IsCore core → core.consumers ≡ 1 → AreSeated core.image reader → PollsOnwards start core reader a
+begins start core reader a same some is one seated = record {
+  polling = λ r h.
+      let v : Subscribing = record { core = core; assembler = a } in
+      let g : RepresentsSubscriber v r = subst (λ (x : Subscribing). RepresentsSubscriber x r) (sym same) h in
+      poll_starts v r.image r refl (some_shows core.image r.image some g.core.image) g;
+  greatest = ap (λ (x : Subscribing). x.assembler.greatest) same;
+  is = is;
+  one = one;
+  seated = seated;
+}
+
+onwards_none : (start : Subscribing) (core : Core) (reader : Option ReaderSeat) (a : Assembling) → PollsOnwards start core reader a → ((r : Receiver) → Represents core r → HasNoFrame r.image 0) → (r : Receiver) → RepresentsSubscriber start r → Polled r.image r (Ok None) (record { core = core; assembler = a })
+onwards_none start core reader a o none r h =
+    let v : Subscribing = record { core = core; assembler = a } in
+    let p = o.polling r h in
+    ends_none r.image r v p h.one (none (standing r.image r v p) (standing_shown r.image r v p))
+
+-- it ends without a reader
+pub ends_unseated : (start : Subscribing) (core : Core) (reader : Option ReaderSeat) (a : Assembling) → PollsOnwards start core reader a → reader ≡ None → (r : Receiver) → RepresentsSubscriber start r → Polled r.image r (Ok None) (record { core = core; assembler = a })
+ends_unseated start core reader a o none = onwards_none start core reader a o (none_read core 0 (unseated core.image reader o.seated none))
+
+-- at the contiguous end
+pub ends_there : (start : Subscribing) (core : Core) (reader : Option ReaderSeat) (a b : Assembling) (i j : Inserting) → PollsOnwards start core reader a → core.image ≡ Some i → j ≡ i → b ≡ a → ((o : Opened) → RepresentsImage i o → IsAtEnd o 0)
+    → (r : Receiver) → RepresentsSubscriber start r → Polled r.image r (Ok None) (record { core = imaged core j; assembler = b })
+ends_there start core reader a b i j o some image assembler end r h =
+    let stays : core.image ≡ Some j = some ∙ ap (λ (x : Inserting). Some x) (sym image) in
+    subst (Polled r.image r (Ok None)) (λ k. record { core = record core { image = stays k }; assembler = sym assembler k }) (onwards_none start core reader a o (end_read core i 0 some end) r h)
+
+-- what the call that reads a frame says of it, and the step that the joiner kept
+pub record HasRead {A : Type 0} (i j : Inserting) (q : ReaderSeat) (a : Assembling) (step : Result (Option (Message A)) AssemblyError) (b : Assembling) : Type 0 where
+  pub head : FrameHead
+  pub payload : List ℕ
+  pub reads : (o : Opened) → RepresentsImage i o → ReadsPast o 0 head payload (RepresentsImage j)
+  pub joins : Joins a head payload step b
+  pub alone : AreAlone (words_of j) j q
+  pub shape : j ≡ record i { seen = j.seen }
+
+-- the reader stands where the inserter has seen it
+pub met_there : (i v : Inserting) (q : ReaderSeat) (o : Option Inserting) (r : Option ReaderSeat) → AreSeated o r → o ≡ Some v → r ≡ Some q → i ≡ v → i.seen ≡ position_of q ∷ []
+met_there i v q o r seated some there same =
+    let a : AreSeated (Some v) (Some q) = subst (λ (x : Option Inserting × Option ReaderSeat). AreSeated x.0 x.1) (λ j. (some j, there j)) seated in
+    ap (λ (x : Inserting). x.seen) same ∙ a.met
+
+-- no frame is there
+pub stands_there : (i v : Inserting) (r : ReaderSeat) → i ≡ v → i.seen ≡ position_of r ∷ [] → IsContiguous i.stored (join_of i) (position_of r) → (o : Opened) → RepresentsImage v o → IsAtEnd o 0
+stands_there i v r same met ends = subst (λ (x : Inserting). (o : Opened) → RepresentsImage x o → IsAtEnd o 0) same (at_end i (position_of r) met ends)
+
+-- or one is, and was joined
+pub has_read : {A : Type 0} (image : ImageWords) (i v j : Inserting) (r q : ReaderSeat) (a b : Assembling) (step : Result (Option (Message A)) AssemblyError) (head : FrameHead) → i ≡ v → i.seen ≡ position_of r ∷ [] → ((payload : List ℕ) × hand.PassesFrame i r head payload j q × Joins a head payload step b) → AreAlone image j q → HasRead v j q a step b
+has_read image i v j r q a b step head same met e alone = record {
+  head = head;
+  payload = e.0;
+  reads = subst (λ (x : Inserting). (o : Opened) → RepresentsImage x o → ReadsPast o 0 head e.0 (RepresentsImage j)) same (reads_past i j r q head e.0 met e.1);
+  joins = e.2;
+  alone = alone_to image j q alone;
+  shape = moved_only i j (position_of q) e.1.inserter ∙ ap (λ (x : Inserting). record x { seen = j.seen }) same;
+}
+
+-- no position is above 2^55, and it goes on by a unit at the least
+pub goes_further : (i v j : Inserting) (r q : ReaderSeat) (o : Option Inserting) (high : ℕ) (g : Geometry) (head : FrameHead) (payload : List ℕ) → o ≡ Some v → i ≡ v → i.seen ≡ position_of r ∷ [] → hand.PassesFrame i r head payload j q → AreFit i → high ≡ i.high → high ≤ max_position (geometry_of i) → g ≡ geometry_of v → IsGeometry g → 2 ^ 56 - place_in (Some j) 0 < 2 ^ 56 - place_in o 0
+goes_further i v j r q o high g head payload some same met f fit mark low shape legal =
+    let there : o ≡ Some i = some ∙ ap (λ (x : Inserting). Some x) (sym same) in
+    let below : i.high ≤ max_position (geometry_of i) = subst (λ x. x ≤ max_position (geometry_of i)) mark low in
+    let is : IsGeometry (geometry_of i) = subst IsGeometry (shape ∙ ap geometry_of (sym same)) legal in
+    let on = forward i j (position_of r) (position_of q) met (ap (λ (x : Inserting). x.seen) f.inserter) (f.frame, f.among, f.here, f.ends) fit below is in
+    let from : place_in o 0 ≡ slice_index i.seen 0 = ap (λ (x : Option Inserting). place_in x 0) there in
+    let further = on.0 in
+    let least = on.1 in
+    omega (arith, further, least, from)
+
+-- or goes on
+pub reads_onwards : {A : Type 0} (start : Subscribing) (core : Core) (reader : Option ReaderSeat) (a b c : Assembling) (i j : Inserting) (q : ReaderSeat) (step : Result (Option (Message A)) AssemblyError) → PollsOnwards start core reader a → core.image ≡ Some i → HasRead i j q a step b → step ≡ Ok None → c ≡ b
+    → PollsOnwards start (imaged core j) (Some q) c
+reads_onwards start core reader a b c i j q step o some read told same =
+    let v : Subscribing = record { core = core; assembler = a } in
+    let w : Subscribing = record { core = imaged core j; assembler = c } in
+    let joins = subst (λ (x : Result _ AssemblyError × Assembling). Joins a read.head read.payload x.0 x.1) (λ k. (told k, sym same k)) read.joins in
+    record {
+      polling = λ r h.
+          let p = o.polling r h in
+          goes_on r.image r v w p (hears (standing r.image r v p).image (standing r.image r v p) (imaged core j) a c read.head read.payload None (frame_read core i j 0 read.head read.payload some read.reads (standing r.image r v p) (standing_shown r.image r v p)) joins);
+      greatest = joins.greatest ∙ o.greatest;
+      is = core_read core (imaged core j) i j o.is some o.one read.shape (ap (λ (xs : List ℕ). length xs) read.alone.met) refl refl refl refl refl;
+      one = o.one;
+      seated = read.alone;
+    }
+
+pub ends_with : {A : Type 0} (start : Subscribing) (core : Core) (reader : Option ReaderSeat) (a b c : Assembling) (i j : Inserting) (q : ReaderSeat) (step : Result (Option (Message A)) AssemblyError) (message : Message A) → PollsOnwards start core reader a → core.image ≡ Some i → HasRead i j q a step b → step ≡ Ok (Some message) → c ≡ b
+    → (r : Receiver) → RepresentsSubscriber start r → Polled r.image r (Ok (Some message.bytes.items)) (record { core = imaged core j; assembler = c })
+ends_with start core reader a b c i j q step message o some read told same r h =
+    let v : Subscribing = record { core = core; assembler = a } in
+    let w : Subscribing = record { core = imaged core j; assembler = c } in
+    let joins = subst (λ (x : Result _ AssemblyError × Assembling). Joins a read.head read.payload x.0 x.1) (λ k. (told k, sym same k)) read.joins in
+    let p = o.polling r h in
+    ends_message r.image r v w message.bytes.items p h.one (hears (standing r.image r v p).image (standing r.image r v p) (imaged core j) a c read.head read.payload (Some message) (frame_read core i j 0 read.head read.payload some read.reads (standing r.image r v p) (standing_shown r.image r v p)) joins)
+
+pub ends_refused : {A : Type 0} (start : Subscribing) (core : Core) (reader : Option ReaderSeat) (a b c : Assembling) (i j : Inserting) (q : ReaderSeat) (step : Result (Option (Message A)) AssemblyError) (fault : AssemblyError) → PollsOnwards start core reader a → core.image ≡ Some i → HasRead i j q a step b → step ≡ Err fault → c ≡ b
+    → (r : Receiver) → RepresentsSubscriber start r → Polled r.image r (Err (Unassembled fault)) (record { core = imaged core j; assembler = c })
+ends_refused start core reader a b c i j q step fault o some read told same r h =
+    let v : Subscribing = record { core = core; assembler = a } in
+    let w : Subscribing = record { core = imaged core j; assembler = c } in
+    let joins = subst (λ (x : Result _ AssemblyError × Assembling). Joins a read.head read.payload x.0 x.1) (λ k. (told k, sym same k)) read.joins in
+    let p = o.polling r h in
+    ends_fault r.image r v w fault p h.one (refuses (standing r.image r v p).image (standing r.image r v p) (imaged core j) a c read.head read.payload fault (frame_read core i j 0 read.head read.payload some read.reads (standing r.image r v p) (standing_shown r.image r v p)) joins)
+
+-- ---- what the image tells
 
 pub tells : (v : Subscribing) (i : Inserting) (at q high : ℕ) (r : Receiver) → v.core.image ≡ Some i → i.seen ≡ at ∷ [] → IsContiguous i.stored (join_of i) q → high ≡ i.high → RepresentsSubscriber v r → TellsPositions r (Some (record { least = at; rebuilt = q; high_water = high }))
 tells v i at q high r some is end mark h =

@@ -1,6 +1,6 @@
 -- What an image's one reader reads, told of the images of the definitions that it shows.
-use Rattle.std.proofs.Common.{◌≡◌, ℕ, ◌≤◌, List, [], ◌∷◌, Option, None, Some, map, length, refl, sym, ap, ◌∙◌, subst, arith}
-use Rattle.std.specs.Prelude.{IfNone, IfSome, slice_get, slice_index, slice_set}
+use Rattle.std.proofs.Common.{◌≡◌, ℕ, ◌≤◌, ◌+◌, ◌^◌, List, [], ◌∷◌, map, length, refl, sym, ap, ◌∙◌, subst, arith}
+use Rattle.std.specs.Prelude.{slice_get, slice_index, slice_set}
 use Rattle.std.specs.List.{AllByRecursion}
 use Rattle.theory.specs.Position.{IsGeometry, max_position}
 use Rattle.theory.specs.Placed.{Among, Placed, end_of, frame_length}
@@ -11,18 +11,15 @@ use Rattle.position.specs.declared.head.FrameHead.{FrameHead}
 use Rattle.image.specs.Seen.{IsFit}
 use Rattle.image.specs.Handles.{ImageWords, ReaderSeat, position_of}
 use Rattle.image.specs.Meeting as hand
-use Rattle.image.specs.Meeting.{AreAlone, StandsAtEnd}
+use Rattle.image.specs.Meeting.{AreAlone}
 use Rattle.image.specs.Rebuilding.{Inserting, IsInserterOf, geometry_of, join_of}
 use Rattle.receiver.specs.Receiving.{Opened}
-use Rattle.receiver.specs.Representing.{GoesForward, IsAtEnd, ReadsPast, RepresentsImage, with_reader, words_of}
+use Rattle.receiver.specs.Representing.{IsAtEnd, ReadsPast, RepresentsImage, with_reader, words_of}
 
 -- ---- which image it is
 
 pub same_words : (image : ImageWords) (i : Inserting) → IsInserterOf image i → words_of i ≡ image
 same_words image i h = (λ j. record { of = h.of j; key = h.key j })
-
-pub alone_of : (image : ImageWords) (i v : Inserting) (r : ReaderSeat) → IsInserterOf image i → i ≡ v → AreAlone (words_of v) v r → AreAlone image i r
-alone_of image i v r h same alone = subst (λ (x : ImageWords). AreAlone x i r) (same_words image i h) (subst (λ (x : Inserting). AreAlone (words_of x) x r) (sym same) alone)
 
 pub alone_to : (image : ImageWords) (j : Inserting) (q : ReaderSeat) → AreAlone image j q → AreAlone (words_of j) j q
 alone_to image j q a = subst (λ (x : ImageWords). AreAlone x j q) (sym (same_words image j a.inserter)) a
@@ -63,15 +60,10 @@ Passes v p end = (s : Placed) × Among s v.stored × (s.at ≡ p) × (end ≡ en
 pub moved_only : (v w : Inserting) (end : ℕ) → w ≡ record v { seen = end ∷ [] } → w ≡ record v { seen = w.seen }
 moved_only v w end e = e ∙ ap (λ (xs : List ℕ). record v { seen = xs }) (sym (ap (λ (x : Inserting). x.seen) e))
 
--- whether it read a frame or not
-pub shape_of : (v w : Inserting) (r q : ReaderSeat) (same : Type 0) (took : FrameHead → List ℕ → Type 0) (found : Option FrameHead) → IfNone found (StandsAtEnd v r [] w q [] × same) → IfSome found (λ head. (payload : List ℕ) × hand.PassesFrame v r head payload w q × took head payload) → w ≡ record v { seen = w.seen }
-shape_of v w r q same took None none some = none.0.inserter ∙ ap (λ (xs : List ℕ). record v { seen = xs }) (sym (ap (λ (x : Inserting). x.seen) none.0.inserter))
-shape_of v w r q same took (Some head) none some = moved_only v w (position_of q) some.1.inserter
-
 abbrev pub AreFit : Inserting → Type 0
 AreFit v = AllByRecursion (IsFit (geometry_of v).term_length v.high) v.stored
 
-pub forward : (v w : Inserting) (p end : ℕ) → v.seen ≡ p ∷ [] → w.seen ≡ end ∷ [] → Passes v p end → AreFit v → v.high ≤ max_position (geometry_of v) → IsGeometry (geometry_of v) → GoesForward (slice_index v.seen 0) (slice_index w.seen 0)
+pub forward : (v w : Inserting) (p end : ℕ) → v.seen ≡ p ∷ [] → w.seen ≡ end ∷ [] → Passes v p end → AreFit v → v.high ≤ max_position (geometry_of v) → IsGeometry (geometry_of v) → (slice_index v.seen 0 + 32 ≤ slice_index w.seen 0) × (slice_index w.seen 0 ≤ 2 ^ 55)
 forward v w p end at to (s, a, here, e) fit low legal =
     let is : IsFit (geometry_of v).term_length v.high s = all_at (IsFit (geometry_of v).term_length v.high) s v.stored fit a in
     let long : 32 ≤ frame_length s.frame = is.long in
@@ -79,7 +71,7 @@ forward v w p end at to (s, a, here, e) fit low legal =
     let short : (geometry_of v).term_length ≤ 16777216 = legal.term.greatest in
     let from : slice_index v.seen 0 ≡ p = ap (λ (xs : List ℕ). slice_index xs 0) at in
     let stands : slice_index w.seen 0 ≡ end = ap (λ (xs : List ℕ). slice_index xs 0) to in
-    record { forward = omega (arith, here, e); low = omega (arith, e) }
+    (omega (arith, here, e), omega (arith, e))
 
 passed_shown : (v w : Inserting) (o : Opened) (end : ℕ) (d : Consumer) → (cs : List Consumer) → o.image.consumers ≡ cs → length cs ≡ 1 → w ≡ record v { seen = end ∷ [] } → d.at ≡ end → RepresentsImage v o → RepresentsImage w (with_reader o 0 d)
 passed_shown v w o end d [] is one moved to h = absurd (omega arith)

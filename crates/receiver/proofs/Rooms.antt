@@ -60,10 +60,6 @@ taken_is image i v j room taken count same is kept n left dealt long =
       count = long ∙ n;
     })
 
--- the one reader of an image that has one
-pub dealt_one : (image : ImageWords) (join : ℕ) (rs : List ReaderSeat) (r : ReaderSeat) → AreDealt image join 0 rs → rs ≡ r ∷ [] → IsReaderOf image r × (number_of r ≡ 0) × (position_of r ≡ join)
-dealt_one image join rs r h e = let d : AreDealt image join 0 (r ∷ []) = subst (AreDealt image join 0) e h in (d.0, d.1, d.2)
-
 -- as many readers are taken as the image has consumers
 pub taken_count : (o : Option Readers) (i : Inserting) (w : Inserting) (n : ℕ) → IfSome o (λ r. TakesReaders i r w) → i.key.consumers ≡ n → IfSome o (λ r. length r.readers.items ≡ n)
 taken_count None i w n taken e = taken

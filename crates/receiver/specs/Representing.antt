@@ -3,7 +3,7 @@
 -- the receivers of its numbers whose image stored these frames, and whose consumers stand where it saw them. Consumers may go
 -- forward between two of its calls. What a call makes of a receiver is therefore promised for those whose consumers stand
 -- where this very call saw them (`BecomesSeen`).
-use Rattle.std.specs.Prelude.{◌≡◌, ℕ, suc, ◌+◌, ◌<◌, ◌^◌, ◌≤◌, ℤ, ⊤, List, [], ◌∷◌, map, max, length, slice_get, slice_index, slice_set, Option, None, Some, ◌⊎◌}
+use Rattle.std.specs.Prelude.{◌≡◌, ℕ, suc, ◌<◌, ◌≤◌, ℤ, ⊤, List, [], ◌∷◌, map, max, length, slice_get, slice_index, slice_set, Option, None, Some, ◌⊎◌}
 use Rattle.std.specs.List.{AllByRecursion}
 use Rattle.std.specs.Option.{ForSome}
 use Rattle.position.specs.declared.head.FrameHead.{FrameHead}
@@ -206,11 +206,6 @@ HasNoFrame (Some o) k = IsAtEnd o k
 abbrev pub PassesFrame : Option Opened → Receiver → ℕ → FrameHead → List ℕ → Core → Type 0
 PassesFrame None r k head payload new = ⊥
 PassesFrame (Some o) r k head payload new = ReadsPast o k head payload (λ p. Represents new (record r { image = Some p }))
-
--- a consumer has passed a frame: it goes on by a unit at the least, and no position is above 2^55
-pub record GoesForward (before after : ℕ) : Type 0 where
-  pub forward : before + 32 ≤ after
-  pub low : after ≤ 2 ^ 55
 
 -- where the consumer with this number stands
 abbrev pub place_in : Option Inserting → ℕ → ℕ

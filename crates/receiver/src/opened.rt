@@ -1,37 +1,29 @@
 //! The image that a SETUP opened: what frames, heartbeats and a consumer's reading make of it.
 
-ghost use Rattle.std.specs.Prelude.{◌≡◌, ℕ, ◌≤◌, ◌<◌, ◌+◌, ◌/◌, ◌^◌, ◌%◌, List, [], Some, length, map, replicate, slice_index, IfNone, IfOk, IfSome, OnSome};
+ghost use Rattle.std.specs.Prelude.{◌≡◌, ◌≤◌, ◌<◌, ◌/◌, ◌^◌, List, [], Some, length, map, replicate, IfNone, IfOk, IfSome};
 ghost use Rattle.std.specs.List.{AllByRecursion};
 ghost use Rattle.position.specs.Gaps.{gap_of};
 ghost use Rattle.image.specs.Seen.{IsCount, IsJoin, least};
-ghost use Rattle.image.specs.Stored.{IsOfStream, IsUnit, stream_frame};
+ghost use Rattle.image.specs.Stored.{IsUnit};
 ghost use Rattle.theory.specs.Control.{named_by};
 ghost use Rattle.theory.specs.Image.{IsWindow};
 ghost use Rattle.theory.specs.Insert.{AreApart, head_of};
 ghost use Rattle.theory.specs.Position.{IsGeometry, max_position};
 ghost use Rattle.theory.specs.Units.{IsContiguous};
-ghost use Rattle.theory.specs.Wire.{IsFrame, IsHeader};
-ghost use Rattle.frames.specs.Frames.{header_of, wire};
-ghost use Rattle.image.specs.Handles.{IsReaderOf, position_of};
-ghost use Rattle.image.specs.Meeting.{AreAlone, Meets, number_of};
+ghost use Rattle.theory.specs.Wire.{IsHeader};
+ghost use Rattle.frames.specs.Frames.{header_of};
 ghost use Rattle.image.specs.Rebuilding.{geometry_of, join_of};
-ghost use Rattle.receiver.specs.Joining.{Joins};
 ghost use Rattle.receiver.specs.Polling.{TellsImage};
 ghost use Rattle.receiver.specs.Receiving.{Opened, gap_in};
-ghost use Rattle.receiver.specs.Representing.{GoesForward, HearsBeat, Inserts, IsAtEnd, LooksOnce, ReadsPast, RepresentsImage, SeesOn, words_of};
+ghost use Rattle.receiver.specs.Representing.{HearsBeat, LooksOnce, RepresentsImage, SeesOn};
 ghost use Rattle.receiver.specs.Dealt.{TakesReaders};
-ghost use Rattle.receiver.specs.Seating.{AreSeated, MaySit, SitsAt, place_of};
 
-use crate::assembling::Joiner;
-use crate::dealing::{deal_all, only_reader, room_for};
+use crate::dealing::{deal_all, room_for};
 use crate::positions::Positions;
 use crate::readers::Readers;
-use frames::{Frame, Header};
-use image::{
-    Image, ImageError, ImageReader, Insert, Inserter, Steps, first_gap, heartbeat, insert, least,
-    meet, read_past_with,
-};
-use position::{FrameHead, Gap, Geometry, Identity};
+use frames::Header;
+use image::{Image, ImageError, Inserter, Steps, first_gap, heartbeat, least};
+use position::{Gap, Geometry, Identity};
 use std::alloc::{AllocError, Global};
 use std::marker::Model;
 use std::sync::Arc;
@@ -39,8 +31,8 @@ use std::sync::Arc;
 /// An image that threads share without a lock, and who rebuilds the stream in it.
 #[derive(Drop)]
 pub struct OpenImage {
-    image: Arc<Image, Global>,
-    inserter: Inserter,
+    pub(crate) image: Arc<Image, Global>,
+    pub(crate) inserter: Inserter,
     /// Room for its readers, as long as they aren't given away.
     room: Option<Readers>,
 }
@@ -58,7 +50,7 @@ impl Model for OpenImage {
 }
 
 /// The position that a header names.
-fn position_in(geometry: &Geometry, header: &Header) -> i64
+pub(crate) fn position_in(geometry: &Geometry, header: &Header) -> i64
     requires legal { IsGeometry geometry.now }
     requires header { IsHeader (header_of header.now) }
     ensures unit { IsUnit result }
@@ -150,20 +142,6 @@ impl OpenImage {
         self.inserter.stored_apart();
     }
 
-    /// Takes a DATA frame or a padding with this header. The consumers are looked at once.
-    pub(crate) fn insert(&mut self, header: &Header, frame: &Frame<'_>) -> Insert
-        requires header { IsHeader (header_of header.now) }
-        requires frame { IsFrame (wire frame.now) }
-        requires of_stream { IsOfStream frame.now }
-        ensures inserted { Inserts self.old (header_of header.now) (stream_frame frame.now) result self.new }
-        ensures sees { SeesOn self.old self.new }
-        ensures looks { LooksOnce self.old self.new }
-    {
-        let position = position_in(&self.geometry(), header);
-        let image = &*self.image;
-        insert(image, &mut self.inserter, position, frame)
-    }
-
     /// Takes a heartbeat with this header. The consumers are looked at once.
     pub(crate) fn hear(&mut self, header: &Header)
         requires header { IsHeader (header_of header.now) }
@@ -215,57 +193,5 @@ impl OpenImage {
         let count = image.consumers();
         deal_all(image, &mut self.inserter, &mut taken.readers, count);
         Some(taken)
-    }
-
-    /// Tells a reader each frame that was stored so far, and sees it where it stands.
-    pub(crate) fn meet(&mut self, reader: &mut ImageReader)
-        requires { IsReaderOf (words_of self.old) reader.old }
-        ensures fits { IsReaderOf (words_of self.new) reader.new }
-        ensures met { Meets self.old reader.old self.new reader.new }
-    {
-        let image = &*self.image;
-        meet(image, reader, &mut self.inserter);
-    }
-
-    /// Sees its one reader where that stands, and tells it what was stored so far. The reader is taken from the image if there
-    /// is none.
-    pub(crate) fn sit(&mut self, reader: &mut Option<ImageReader>)
-        requires one { (self.old.key.consumers ≡ 1) × (length self.old.seen ≡ 1) }
-        requires may { MaySit (Some self.old) reader.old }
-        ensures seated { AreSeated (Some self.new) reader.new }
-        ensures sits { SitsAt self.old (place_of self.old reader.old) self.new }
-    {
-        if let Some(reader) = reader {
-            self.meet(reader);
-            return;
-        }
-        let Some(taken) = self.take_readers() else {
-            unreachable!()
-        };
-        let mut first = only_reader(taken);
-        self.meet(&mut first);
-        *reader = Some(first);
-    }
-
-    /// Joins the frame where its one reader stands, and moves the reader past it. There is none where it stands at the contiguous
-    /// end.
-    pub(crate) fn read_past(
-        &mut self,
-        reader: &mut ImageReader,
-        joiner: &mut Joiner,
-    ) -> Option<FrameHead>
-        requires alone { AreAlone (words_of self.old) self.old reader.old }
-        ensures none { IfNone result ((self.new ≡ self.old) × (joiner.new ≡ joiner.old) × ((o : Opened) → RepresentsImage self.old o → IsAtEnd o 0)) }
-        ensures read { IfSome result (λ head. (payload : List ℕ) × ((o : Opened) → RepresentsImage self.old o → ReadsPast o 0 head payload (RepresentsImage self.new)) × Joins joiner.old.assembler head payload joiner.new.step joiner.new.assembler) }
-        ensures alone { AreAlone (words_of self.new) self.new reader.new }
-        ensures shape { self.new ≡ record self.old { seen = self.new.seen } }
-        ensures forward { OnSome result (GoesForward (slice_index self.old.seen 0) (slice_index self.new.seen 0)) }
-    {
-        // What always holds of it, for the proof.
-        self.inserter.stored_apart();
-        let _ = self.inserter.high_water();
-        let _ = self.geometry();
-        let image = &*self.image;
-        read_past_with(image, &mut self.inserter, reader, joiner)
     }
 }

@@ -1,6 +1,6 @@
 //! The receiver's core: datagrams and moments in, outcomes and replies out.
 
-ghost use Rattle.std.specs.Prelude.{◌≡◌, ◌≤◌, ◌<◌, ◌^◌, ◌+◌, ◌↔◌, ◌∷◌, [], ℕ, List, None, Some, Err, length, map, max, IfNone, IfOk, IfSome, OnErr, OnSome, IsTrue, vec_capacity};
+ghost use Rattle.std.specs.Prelude.{◌≡◌, ◌≤◌, ◌<◌, ◌^◌, ◌↔◌, ◌∷◌, [], ℕ, List, None, Some, Err, length, map, max, IfNone, IfOk, IfSome, OnErr, IsTrue, vec_capacity};
 ghost use Rattle.std.specs.List.{AllByRecursion};
 ghost use Rattle.std.specs.Option.{ForSome, option_copied, option_map, option_to_list};
 ghost use Rattle.theory.specs.Insert.{AreApart, head_of};
@@ -15,15 +15,14 @@ ghost use Rattle.frames.specs.Frames.{header_of, nak_of, setup_of, status_of, wi
 ghost use Rattle.image.specs.Seen.{IsCount};
 ghost use Rattle.image.specs.Stored.{IsOfStream, stream_frame};
 ghost use Rattle.receiver.specs.Representing.{last_status_of};
-ghost use Rattle.receiver.specs.Joining.{Joins};
 ghost use Rattle.receiver.specs.Polling.{TellsImage};
 ghost use Rattle.receiver.specs.Dealt.{HasNoReaders, ImageTakes, Learns, MayLearn};
 ghost use Rattle.receiver.specs.Seating.{AreSeated, MaySit, Sits};
 ghost use Rattle.receiver.specs.Texts.{outcome_text};
 
-use crate::assembling::Joiner;
+use crate::dealing::only_reader;
 use crate::loss_detector::LossDetector;
-use crate::opened::{OpenImage, open};
+use crate::opened::{OpenImage, open, position_in};
 use crate::positions::Positions;
 use crate::readers::Readers;
 use crate::setup::fault::SetupError;
@@ -31,8 +30,8 @@ use crate::setup::judgement::judge;
 use frames::{
     FaultCounts, Frame, FrameError, Header, Nak, Setup, Status, check_datagram, known_frame,
 };
-use image::{ImageReader, Insert};
-use position::{FrameHead, Gap, Geometry, Identity};
+use image::{ImageReader, Insert, insert, meet};
+use position::{Gap, Geometry, Identity};
 use std::alloc::{AllocError, Global};
 use std::fmt;
 use std::marker::Model;
@@ -103,7 +102,7 @@ pub struct ReceiverCore {
     window: u32,
     receiver: i64,
     consumers: usize,
-    image: Option<OpenImage>,
+    pub(crate) image: Option<OpenImage>,
     /// The header of the last frame that met no image since the last tick.
     unmet: Option<Header>,
     told: Option<LastSent>,
@@ -128,7 +127,7 @@ impl Model for ReceiverCore {
 
 impl ReceiverCore {
     ghost use Rattle.receiver.specs.Receiving.{IfOurs, IsOurs, IsSetupWire, WouldOpen, Meets, MeetsFrame, MeetsHeartbeat, MeetsSetup, Receiver, listening, missing, replied, replies, scanned_at, telling, ticked, told_after};
-    ghost use Rattle.receiver.specs.Representing.{BecomesSeen, GoesForward, HasNoFrame, HearsDatagram, ImageLooks, ImageSeesOn, IsForImage, MeetsEach, PassesFrame, Represents, core_seen_as, place_in};
+    ghost use Rattle.receiver.specs.Representing.{BecomesSeen, HearsDatagram, ImageLooks, ImageSeesOn, IsForImage, MeetsEach, Represents, core_seen_as};
 
     /// A receiver without an image, for one to eight consumers. Its window is in bytes.
     pub fn new(
@@ -199,32 +198,14 @@ impl ReceiverCore {
         ensures learnt { Learns self.old.image reader.old self.new.image reader.new }
         ensures stays { self.new ≡ record self.old { image = self.new.image } }
     {
-        let Some(image) = &mut self.image else {
+        let Some(opened) = &mut self.image else {
             return;
         };
-        image.meet(reader);
+        meet(&opened.image, reader, &mut opened.inserter);
     }
 
-    /// Joins the frame where its image's one reader stands, and moves the reader past it.
-    pub(crate) fn read_past(
-        &mut self,
-        reader: &mut ImageReader,
-        joiner: &mut Joiner,
-    ) -> Option<FrameHead>
-        requires seated { AreSeated self.old.image (Some reader.old) }
-        ensures none { IfNone result ((self.new ≡ self.old) × (joiner.new ≡ joiner.old) × ((r : Receiver) → Represents self.old r → HasNoFrame r.image 0)) }
-        ensures read { IfSome result (λ head. (payload : List ℕ) × ((r : Receiver) → Represents self.old r → PassesFrame r.image r 0 head payload self.new) × Joins joiner.old.assembler head payload joiner.new.step joiner.new.assembler) }
-        ensures seated { AreSeated self.new.image (Some reader.new) }
-        ensures forward { OnSome result (GoesForward (place_in self.old.image 0) (place_in self.new.image 0)) }
-        ensures consumers { self.new.consumers ≡ self.old.consumers }
-    {
-        let Some(image) = &mut self.image else {
-            return None;
-        };
-        image.read_past(reader, joiner)
-    }
-
-    /// Sees its image's one reader where that stands, and tells it what was stored so far.
+    /// Sees its image's one reader where that stands, and tells it what was stored so far. The
+    /// reader is taken from the image if there is none.
     pub(crate) fn sit(&mut self, reader: &mut Option<ImageReader>)
         requires one { self.old.consumers ≡ 1 }
         requires may { MaySit self.old.image reader.old }
@@ -232,10 +213,19 @@ impl ReceiverCore {
         ensures stays { self.new ≡ record self.old { image = self.new.image } }
         ensures sits { Sits self.old.image reader.old self.new.image }
     {
-        let Some(image) = &mut self.image else {
+        let Some(opened) = &mut self.image else {
             return;
         };
-        image.sit(reader);
+        if let Some(reader) = reader {
+            meet(&opened.image, reader, &mut opened.inserter);
+            return;
+        }
+        let Some(taken) = opened.take_readers() else {
+            unreachable!()
+        };
+        let mut first = only_reader(taken);
+        meet(&opened.image, &mut first, &mut opened.inserter);
+        *reader = Some(first);
     }
 
     /// Notes a moment.
@@ -256,9 +246,26 @@ impl ReceiverCore {
         // Whatever bytes came, frames that the image stored have no byte in common.
         ensures apart { ForSome self.new.image (λ i. AreApart (map head_of i.stored)) }
     {
-        let taken = self.take(bytes, now);
         self.stored_apart();
-        taken
+        match check_datagram(bytes) {
+            Ok(count) => {
+                let outcomes = Vec::with_capacity(self.alloc, count)?;
+                let before = self.clock;
+                self.see(now);
+                let taken = self.on_frames(bytes, count, outcomes);
+                if taken.is_err() {
+                    self.clock = before;
+                }
+                self.stored_apart();
+                taken
+            }
+            Err(error) => {
+                let outcomes = refused(self.alloc, error)?;
+                self.see(now);
+                self.count(error);
+                Ok(outcomes)
+            }
+        }
     }
 
     /// Does nothing, and says what holds of its image, whatever it was handed.
@@ -267,26 +274,6 @@ impl ReceiverCore {
     {
         if let Some(image) = &self.image {
             image.stored_apart();
-        }
-    }
-
-    /// Takes a datagram.
-    fn take(&mut self, bytes: &[u8], now: u64) -> Result<Vec<Outcome>, AllocError>
-        ensures heard { IfOk result (λ outs. HearsDatagram self.old now bytes.now outs.items self.new) }
-        ensures refused { OnErr result (self.new ≡ self.old) }
-        ensures consumers { self.new.consumers ≡ self.old.consumers }
-    {
-        match check_datagram(bytes) {
-            Ok(count) => {
-                let outcomes = Vec::with_capacity(self.alloc, count)?;
-                self.on_frames_at(bytes, count, now, outcomes)
-            }
-            Err(error) => {
-                let outcomes = refused(self.alloc, error)?;
-                self.see(now);
-                self.count(error);
-                Ok(outcomes)
-            }
         }
     }
 
@@ -309,30 +296,6 @@ impl ReceiverCore {
         ensures { self.new ≡ record self.old { faults = counted_at (place_of error) self.old.faults } }
     {
         self.faults.count(error);
-    }
-
-    /// Takes the frames of a datagram at a moment, which isn't seen where an error comes.
-    fn on_frames_at(
-        &mut self,
-        datagram: &[u8],
-        count: usize,
-        now: u64,
-        outcomes: Vec<Outcome>,
-    ) -> Result<Vec<Outcome>, AllocError>
-        requires frames { (frames : List Wire) × SpellsDatagram frames datagram.now × (length frames ≡ count) }
-        requires empty { outcomes.items ≡ [] }
-        requires room { count ≤ vec_capacity outcomes }
-        ensures heard { IfOk result (λ outs. HearsDatagram self.old now datagram.now outs.items self.new) }
-        ensures refused { OnErr result (self.new ≡ self.old) }
-        ensures consumers { self.new.consumers ≡ self.old.consumers }
-    {
-        let before = self.clock;
-        self.see(now);
-        let taken = self.on_frames(datagram, count, outcomes);
-        if taken.is_err() {
-            self.clock = before;
-        }
-        taken
     }
 
     /// Takes the frames of a datagram that has so many. Only a SETUP that opens an image asks for memory, and it stands alone.
@@ -384,6 +347,7 @@ impl ReceiverCore {
         session == self.session && stream == self.stream
     }
 
+    /// Hands a DATA frame or a padding with this header to the image, if it is of its stream.
     fn on_stored(&mut self, header: &Header, frame: &Frame<'_>) -> Outcome
         requires header { IsHeader (header_of header.now) }
         requires frame { IsFrame (wire frame.now) }
@@ -392,28 +356,19 @@ impl ReceiverCore {
         ensures looks { (header.now.session ≡ self.old.session) × (header.now.stream ≡ self.old.stream) → ImageLooks self.old.image self.new.image }
         ensures consumers { self.new.consumers ≡ self.old.consumers }
     {
-        if self.is_mine(header.session, header.stream) {
-            self.store(header, frame)
-        } else {
-            Outcome::Other
+        if !self.is_mine(header.session, header.stream) {
+            return Outcome::Other;
         }
-    }
-
-    /// Hands a DATA frame or a padding with this header to the image.
-    fn store(&mut self, header: &Header, frame: &Frame<'_>) -> Outcome
-        requires header { IsHeader (header_of header.now) }
-        requires frame { IsFrame (wire frame.now) }
-        requires stored { IsOfStream frame.now }
-        ensures met { BecomesSeen self.old self.new (λ r s. MeetsFrame r.image r (header_of header.now) (stream_frame frame.now) result s) }
-        ensures looks { ImageLooks self.old.image self.new.image }
-        ensures consumers { self.new.consumers ≡ self.old.consumers }
-    {
         match &mut self.image {
             None => {
                 self.unmet = Some(*header);
                 Outcome::Asked
             }
-            Some(image) => Outcome::Inserted(image.insert(header, frame)),
+            Some(opened) => {
+                let position = position_in(&opened.geometry(), header);
+                let image = &*opened.image;
+                Outcome::Inserted(insert(image, &mut opened.inserter, position, frame))
+            }
         }
     }
 

@@ -1,19 +1,16 @@
 //! A receiver and the one subscriber that reads its image.
 
-ghost use Rattle.std.specs.Prelude.{◌≡◌, ◌≤◌, ◌<◌, ◌^◌, ◌+◌, ◌↔◌, ℕ, List, None, Some, false, length, option_map, IfErr, IfNone, IfOk, IfSome, OnErr, OnSome};
+ghost use Rattle.std.specs.Prelude.{◌≡◌, ◌≤◌, ◌<◌, None, Some, length, IfOk, IfSome, OnErr};
 ghost use Rattle.std.specs.List.{AllByRecursion};
-ghost use Rattle.theory.specs.Placed.{Placed, is_padding, payload_of};
 ghost use Rattle.theory.specs.Wire.{IsFrame};
-ghost use Rattle.image.specs.Kinds.{head_at};
-ghost use Rattle.assembler.specs.Hearing.{AsksMemory, IsTooLong, heard_of};
 
-use crate::assembling::{Joiner, Step};
+use crate::assembling::Joiner;
 use crate::poll_error::PollError;
 use crate::positions::Positions;
 use crate::receiver_core::{Outcome, ReceiverCore, Replies};
 use assembler::{Assembler, AssemblyError, Message};
 use frames::FaultCounts;
-use image::ImageReader;
+use image::{ImageReader, read_past_with};
 use std::alloc::{AllocError, Global};
 use std::marker::Model;
 
@@ -41,8 +38,8 @@ impl Model for Subscriber {
 impl Subscriber {
     ghost use Rattle.receiver.specs.Polling.{Polls, TellsPositions};
     ghost use Rattle.receiver.specs.Receiving.{TakesDatagram, Receiver, replied, replies, ticked};
-    ghost use Rattle.receiver.specs.Representing.{GoesForward, HasNoFrame, Represents, place_in};
-    ghost use Rattle.receiver.specs.Subscribing.{SubscriberBecomes, HearsFrame, answer_of, RefusesFrame, RepresentsSubscriber};
+    ghost use Rattle.receiver.specs.Representing.{Represents};
+    ghost use Rattle.receiver.specs.Subscribing.{SubscriberBecomes, answer_of, RepresentsSubscriber};
 
     /// A subscriber to what this core will receive: one that has no image yet and will have one consumer. Messages are of at most
     /// `greatest` bytes. It wants no memory.
@@ -102,31 +99,26 @@ impl Subscriber {
             return Err(PollError::NoImage);
         }
         loop {
-            match self.poll_frame() {
-                None => return Ok(None),
-                Some(Ok(None)) => {}
-                Some(Ok(Some(message))) => return Ok(Some(message)),
-                Some(Err(error)) => return Err(PollError::Unassembled(error)),
+            let Some(reader) = &mut self.reader else {
+                return Ok(None);
+            };
+            let Some(opened) = &mut self.core.image else {
+                return Ok(None);
+            };
+            // What always holds of it, for the proof.
+            opened.inserter.stored_apart();
+            let _ = opened.inserter.high_water();
+            let _ = opened.geometry();
+            let image = &*opened.image;
+            let inserter = &mut opened.inserter;
+            let Some(_) = read_past_with(image, inserter, reader, &mut self.joiner) else {
+                return Ok(None);
+            };
+            match self.joiner.take_step() {
+                Ok(None) => {}
+                Ok(Some(message)) => return Ok(Some(message)),
+                Err(error) => return Err(PollError::Unassembled(error)),
             }
-        }
-    }
-
-    /// Hands the frame at the subscriber's position to the assembler, and moves past it.
-    fn poll_frame(&mut self) -> Option<Step>
-        ensures none { IfNone result (self.new ≡ self.old) }
-        ensures end { IfNone result ((r : Receiver) → Represents self.old.core r → HasNoFrame r.image 0) }
-        ensures heard { IfSome result (λ step. IfOk step (λ m. (r : Receiver) → Represents self.old.core r → HearsFrame r.image r self.old.assembler (option_map (λ x. x.bytes.items) m) self.new)) }
-        ensures small { IfSome result (λ step. IfOk step (λ m. IfSome m (λ m. length m.bytes.items ≤ self.old.assembler.greatest))) }
-        ensures refused { IfSome result (λ step. IfErr step (λ fault. (r : Receiver) → Represents self.old.core r → RefusesFrame r.image r self.old.assembler fault self.new)) }
-        ensures greatest { self.new.assembler.greatest ≡ self.old.assembler.greatest }
-        ensures forward { OnSome result (GoesForward (place_in self.old.core.image 0) (place_in self.new.core.image 0)) }
-    {
-        let Some(reader) = &mut self.reader else {
-            return None;
-        };
-        match self.core.read_past(reader, &mut self.joiner) {
-            None => None,
-            Some(_) => Some(self.joiner.take_step()),
         }
     }
 

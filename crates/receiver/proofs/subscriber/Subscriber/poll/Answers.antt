@@ -1,44 +1,58 @@
-use Rattle.std.proofs.Common.{◌≡◌, ◌∙◌, true, refl, rules, subst, sym}
-use Rattle.std.specs.Prelude.{None, Ok, is_some}
-use Rattle.receiver.specs.Subscribing.{Subscribing}
-use Rattle.receiver.proofs.Polled.{Polled, ends_fault, ends_message, ends_none, goes_on, poll_starts, some_shows, standing, standing_shown}
+use Rattle.std.proofs.Common.{◌≡◌, ◌∷◌, [], true, rules, subst, sym, ap, ◌∙◌}
+use Rattle.std.specs.Prelude.{Ok, is_some}
+use Rattle.image.specs.Handles.{position_of}
+use Rattle.receiver.specs.Seating.{AreSeated}
+use Rattle.receiver.specs.declared.assembling.Joiner.{Joiner}
+use Rattle.receiver.specs.declared.subscriber.Subscriber.TheInside.{Inside}
+use Rattle.receiver.specs.contracts.receiver_core.ReceiverCore.{the_view}
+use Rattle.receiver.proofs.Polled.{HasRead, begins, ends_refused, ends_there, ends_unseated, ends_with, goes_further, has_read, met_there, reads_onwards, stands_there}
 use Rattle.receiver.proofs.subscriber.Subscriber.poll.Goals as goal
+use Rattle.receiver.proofs.subscriber.Subscriber.poll.Goals.{After-read_past_with, In-Some-read_past_with}
 
-pub loop-message-init : goal.loop-message-init
-loop-message-init c =
+pub loop-self-init : goal.loop-self-init
+loop-self-init c =
+    let e = c.self-inside.view_is in
     let some : is_some c.self.inside.core.image ≡ true = search rules in
-    let is : is_some c.args.self.now.core.image ≡ true = subst (λ (v : Subscribing). is_some v.core.image ≡ true) c.self.view_is some in
-    record { polling = λ r h. poll_starts c.args.self.now r.image r refl (some_shows c.args.self.now.core.image r.image is h.core.image) h; greatest = refl }
+    begins c.args.self.now (the_view c.self-inside.inside.0.0) c.self-inside.inside.0.1.0 c.self-inside.inside.0.1.1.0.assembler ((λ k. record { core = (e k).core; assembler = (e k).joiner.assembler }) ∙ c.self.view_is)
+    (subst (λ (x : Inside). is_some x.core.image ≡ true) (sym e) some) c.self-inside.invariant (ap (λ (x : Inside). x.core.consumers) e ∙ c.self.invariant.0) (subst (λ (x : Inside). AreSeated x.core.image x.reader) (sym e) c.self.invariant.1)
 
-pub returns-in-None-clause-polled : goal.returns-in-None-clause-polled
-returns-in-None-clause-polled c = λ r h.
-    let v = c.loop-message.self in
-    let p = c.loop-message.invariant.polling r h in
-    subst (Polled r.image r (Ok None)) (sym c.in-None.ensures.none) (ends_none r.image r v p h.one (c.in-None.ensures.end (standing r.image r v p) (standing_shown r.image r v p)))
+pub returns-in_default-clause-polled : goal.returns-in_default-clause-polled
+returns-in_default-clause-polled c =
+    let l = c.loop-self in
+    ends_unseated c.args.self.now (the_view l.self-inside-inside.0.0) l.self-inside-inside.0.1.0 l.self-inside-inside.0.1.1.0.assembler l.invariant c.in_default.is
 
-pub loop-message-preserved : goal.loop-message-preserved
-loop-message-preserved c =
-    let heard = rw (c.in-Some-Ok-None.field-0-is, c.in-Some-Ok-None.field-0-0-is) at c.in-Some-Ok-None.ensures.heard in
-    record {
-      polling = λ r h.
-          let v = c.loop-message.self in
-          let p = c.loop-message.invariant.polling r h in
-          goes_on r.image r v c.poll_frame.new.self p (heard (standing r.image r v p) (standing_shown r.image r v p));
-      greatest = c.in-Some-Ok-None.ensures.greatest ∙ c.loop-message.invariant.greatest;
-    }
+met : (c : After-read_past_with) → c.opened.inside.inserter.seen ≡ position_of c.in-Some.reader ∷ []
+met c = met_there c.opened.inside.inserter c.in-Some-image.opened c.in-Some.reader _ _ c.loop-self.invariant.seated c.in-Some-image.is c.in-Some.is c.opened.view_is
 
-pub returns-in-Some-Ok-Some-clause-polled : goal.returns-in-Some-Ok-Some-clause-polled
-returns-in-Some-Ok-Some-clause-polled c =
-    let heard = rw (c.in-Some-Ok-Some.field-0-is, c.in-Some-Ok-Some.field-0-0-is) at c.in-Some-Ok-Some.ensures.heard in
-    λ r h.
-    let v = c.loop-message.self in
-    let p = c.loop-message.invariant.polling r h in
-    ends_message r.image r v c.poll_frame.new.self c.in-Some-Ok-Some.message.bytes.items p h.one (heard (standing r.image r v p) (standing_shown r.image r v p))
+pub returns-in_default-read_past_with-clause-polled : goal.returns-in_default-read_past_with-clause-polled
+returns-in_default-read_past_with-clause-polled c =
+    let l = c.loop-self in
+    let none = c.in_default-read_past_with.ensures.none in
+    let end = stands_there c.opened.inside.inserter c.in-Some-image.opened c.in-Some.reader c.opened.view_is (met c.before) none.0.ends in
+    ends_there c.args.self.now (the_view l.self-inside-inside.0.0) l.self-inside-inside.0.1.0 l.self-inside-inside.0.1.1.0.assembler c.read_past_with.new.handler.assembler c.in-Some-image.opened c.read_past_with.new.inserter l.invariant c.in-Some-image.is (none.0.inserter ∙ c.opened.view_is) (ap (λ (x : Joiner). x.assembler) none.1) end
 
-pub returns-in-Some-Err-clause-polled : goal.returns-in-Some-Err-clause-polled
-returns-in-Some-Err-clause-polled c =
-    let refused = rw c.in-Some-Err.field-0-is at c.in-Some-Err.ensures.refused in
-    λ r h.
-    let v = c.loop-message.self in
-    let p = c.loop-message.invariant.polling r h in
-    ends_fault r.image r v c.poll_frame.new.self c.in-Some-Err.error p h.one (refused (standing r.image r v p) (standing_shown r.image r v p))
+read : (c : In-Some-read_past_with) → HasRead c.in-Some-image.opened c.read_past_with.new.inserter c.read_past_with.new.reader c.loop-self.self-inside-inside.0.1.1.0.assembler c.read_past_with.new.handler.step c.read_past_with.new.handler.assembler
+read c = has_read _ c.opened.inside.inserter c.in-Some-image.opened c.read_past_with.new.inserter c.in-Some.reader c.read_past_with.new.reader _ _ _ c.in-Some-read_past_with.field-0 c.opened.view_is (met c.before) c.in-Some-read_past_with.ensures.read c.read_past_with.ensures.alone
+
+pub loop-self-smaller : goal.loop-self-smaller
+loop-self-smaller c =
+    goes_further c.opened.inside.inserter c.in-Some-image.opened c.read_past_with.new.inserter c.in-Some.reader c.read_past_with.new.reader _ c.high_water.result c.geometry.result c.in-Some-read_past_with.field-0 _
+    c.in-Some-image.is c.opened.view_is (met c.before.before.before.before) c.in-Some-read_past_with.ensures.read.1 c.stored_apart.ensures.fit c.high_water.ensures.value c.high_water.ensures.low c.geometry.ensures.value c.geometry.ensures.legal
+
+pub loop-self-preserved : goal.loop-self-preserved
+loop-self-preserved c =
+    let l = c.loop-self in
+    reads_onwards c.args.self.now (the_view l.self-inside-inside.0.0) l.self-inside-inside.0.1.0 l.self-inside-inside.0.1.1.0.assembler c.read_past_with.new.handler.assembler c.take_step.new.self.assembler c.in-Some-image.opened c.read_past_with.new.inserter c.read_past_with.new.reader c.read_past_with.new.handler.step l.invariant c.in-Some-image.is (read c.before.before.before)
+    (sym c.in-Ok-None.ensures.step ∙ ap (λ x. Ok x) c.in-Ok-None.field-0-is) c.in-Ok-None.ensures.assembler
+
+pub returns-in-Ok-Some-clause-polled : goal.returns-in-Ok-Some-clause-polled
+returns-in-Ok-Some-clause-polled c =
+    let l = c.loop-self in
+    ends_with c.args.self.now (the_view l.self-inside-inside.0.0) l.self-inside-inside.0.1.0 l.self-inside-inside.0.1.1.0.assembler c.read_past_with.new.handler.assembler c.take_step.new.self.assembler c.in-Some-image.opened c.read_past_with.new.inserter c.read_past_with.new.reader c.read_past_with.new.handler.step c.in-Ok-Some.message l.invariant c.in-Some-image.is (read c.before.before.before)
+    (sym c.in-Ok-Some.ensures.step ∙ ap (λ x. Ok x) c.in-Ok-Some.field-0-is) c.in-Ok-Some.ensures.assembler
+
+pub returns-in-Err-clause-polled : goal.returns-in-Err-clause-polled
+returns-in-Err-clause-polled c =
+    let l = c.loop-self in
+    ends_refused c.args.self.now (the_view l.self-inside-inside.0.0) l.self-inside-inside.0.1.0 l.self-inside-inside.0.1.1.0.assembler c.read_past_with.new.handler.assembler c.take_step.new.self.assembler c.in-Some-image.opened c.read_past_with.new.inserter c.read_past_with.new.reader c.read_past_with.new.handler.step c.in-Err.error l.invariant c.in-Some-image.is (read c.before.before.before)
+    (sym c.in-Err.ensures.step) c.in-Err.ensures.assembler
