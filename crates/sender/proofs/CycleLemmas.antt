@@ -5,7 +5,7 @@ use Rattle.std.specs.Option.{option_to_list}
 use Rattle.std.specs.Prelude.{nat_eq, nat_lt, ◌&&◌, if◌then◌else◌}
 use Rattle.std.proofs.lemmas.Bool.{le-ltb, lt-ltb, ne_eqb}
 use Rattle.std.proofs.lemmas.List.{length-map, map-append}
-use Rattle.theory.specs.Placed.{Placed, end_of}
+use Rattle.theory.specs.Placed.{Placed}
 use Rattle.theory.specs.Wire.{Wire, spelling}
 use Rattle.theory.specs.Bytes.{Identity}
 use Rattle.theory.specs.Gap.{Gap}
@@ -13,13 +13,13 @@ use Rattle.theory.specs.Control.{setup_at}
 use Rattle.theory.specs.Datagrams.{frames_of, wires}
 use Rattle.theory.specs.Timing.{is_heartbeat_due}
 use Rattle.frame_source.specs.Sources.{Source}
-use Rattle.sender.specs.Resending.Handler.{Handler, after_due, after_note, due_range}
+use Rattle.sender.specs.Resending.Handler.{Handler, after_due, due_range}
 use Rattle.sender.specs.Naming.{after_due as named_after, is_due}
 use Rattle.sender.specs.Cycling.{Cycle, GivesAgain, GivesNew, alone, datagrams, heartbeats, is_heard, is_silent, sent_wires, setups}
 use Rattle.sender.specs.Giving.{SendsAgain, SendsNew, with_all}
 use Rattle.frames.specs.Outgoing.{Outgoing, with_datagram}
 use Rattle.sender.specs.Naming.{Naming}
-use Rattle.sender.specs.Sending.{Cycles, GoesOn, ReadsTo, Sending, SendsFrom, cycled, all_noted}
+use Rattle.sender.specs.Sending.{Cycles, GoesOn, ReadsTo, Sending, SendsFrom, cycled}
 
 -- ---- what is told
 
@@ -29,10 +29,6 @@ setup_given o p v i j a b c e f same at there =
     e
     ∙ ap (λ (x : Wire). with_datagram o (spelling x)) (f ∙ ap (λ (x : Identity). setup_at x a) same ∙ ap (λ (x : ℕ). setup_at j x) (at ∙ there))
     ∙ ap (λ (x : List ℕ). with_datagram o x) (sym (append-nil (spelling (setup_at j c))))
-
-pub noted_geometry : (h : Handler) (ss : List Placed) → (all_noted h ss).geometry ≡ h.geometry
-noted_geometry h [] = refl
-noted_geometry h (s ∷ ss) = noted_geometry (after_note h s.at (end_of s)) ss
 
 -- nothing goes out again where no range is due
 pub none_again : (i : Identity) (frames : List Placed) (range : Option Gap) (o : Outgoing) → range ≡ None → SendsAgain i frames range o o
@@ -176,11 +172,3 @@ pub more_few : (i : Identity) (fresh : List (List Placed)) (p q : Outgoing) (m n
 more_few i fresh p q m n held few out =
     let all : length q.datagrams ≡ length (p.datagrams ++ datagrams (map (wires i) fresh)) = ap (λ (x : Outgoing). length x.datagrams) out in
     omega (arith, held, few, all, length-append p.datagrams (datagrams (map (wires i) fresh)), length-map {A = List Wire} {B = List ℕ}, length-map {A = List Placed} {B = List Wire})
-
--- a reader that stands where the sender does, after new frames
-pub still_from : {R F : Type 0} {Looked : Type 0} (grown : List Placed → List Placed → Type 0) (s t : Sending R F) (limit : ℕ) (old new : Source) (o n : Outgoing) → SendsFrom s old → t.identity ≡ s.identity → SendsNew Looked grown s.identity limit old s.handler o new t.handler n → SendsFrom t new
-still_from grown s t limit old new o n from same sends = record {
-  identity = ap (λ (x : Source). x.identity) sends.reads.moved ∙ from.identity ∙ sym same;
-  position = ap (λ (x : Source). x.position) sends.reads.moved;
-  near = sends.there;
-}

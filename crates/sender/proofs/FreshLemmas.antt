@@ -1,8 +1,8 @@
 -- New frames given out one after the other.
-use Rattle.std.proofs.Common.{◌≡◌, ◌⊎◌, ℕ, ◌+◌, ◌*◌, ◌%◌, ◌<◌, ◌≤◌, inl, inr, false, List, [], ◌∷◌, ◌++◌, length, map, refl, sym, ap, ◌∙◌, subst, append-nil, arith}
+use Rattle.std.proofs.Common.{◌≡◌, ◌⊎◌, ℕ, ◌+◌, ◌*◌, ◌%◌, ◌<◌, ◌≤◌, inl, inr, true, false, List, [], ◌∷◌, ◌++◌, length, map, refl, sym, ap, ◌∙◌, subst, append-nil, arith}
 use Rattle.std.specs.List.{AllByRecursion}
 use Rattle.std.proofs.lemmas.List.{length-append}
-use Rattle.theory.specs.Position.{Geometry, aligned}
+use Rattle.theory.specs.Position.{Geometry, aligned, max_position}
 use Rattle.theory.specs.Placed.{Among, Chain, Frame, Placed, end_of}
 use Rattle.theory.specs.Bytes.{Identity}
 use Rattle.theory.specs.Datagrams.{MayBeSent, cycle_datagrams, frames_of, grouped, sent_end, wires}
@@ -15,12 +15,41 @@ use Rattle.position.proofs.Heads.{frame_again, length_in, start_in}
 use Rattle.frame_source.specs.Sources.{HasNone, ReadsAt, Source}
 use Rattle.sender.specs.Resending.Handler.{Handler, after_note}
 use Rattle.sender.specs.Cycling.{AreRead, GivesNew, datagrams}
-use Rattle.sender.specs.Giving.{FrameGoes, FrameStays, IsBarred, SendsNew, with_all}
+use Rattle.sender.specs.Giving.{SendsNew, with_all}
 use Rattle.frames.specs.Outgoing.{Outgoing}
-use Rattle.sender.specs.Packed.{HasPacked, Packs, Puts, placed_in}
+use Rattle.sender.specs.Packed.{Packs, Puts, placed_in}
 use Rattle.sender.specs.Sending.{AreThere, ReadsTo, all_noted}
 use Rattle.sender.specs.declared.packing.Packing.{Packing}
 use Rattle.sender.proofs.StartLemmas.{there_after_note, there_in_more}
+
+-- ---- what becomes of the frame at the position
+
+-- the frame at the sender's position went out, and was noted
+pub record FrameGoes (grown : List Placed → List Placed → Type 0) (i : Identity) (limit : ℕ) (old : Source) (h : Handler) (p : Packing) (o : Outgoing) (new : Source) (k : Handler) (q : Packing) (n : Outgoing) : Type 0 where
+  pub frame : Placed
+  pub among : Among frame new.frames
+  pub here : frame.at ≡ h.at
+  pub allowed : MayBeSent limit frame
+  pub handler : k ≡ after_note h frame.at (end_of frame)
+  pub reads : ReadsTo grown old k.at new
+  pub put : Puts i p o frame true q n
+  pub further : h.at < k.at
+  pub in_stream : k.at ≤ max_position i.geometry
+
+-- the frame at the position may not go: it ends above the limit, or has no place
+pub record IsBarred (i : Identity) (limit : ℕ) (frames : List Placed) (at : ℕ) (p : Packing) (o : Outgoing) : Type 0 where
+  pub frame : Placed
+  pub among : Among frame frames
+  pub here : frame.at ≡ at
+  pub barred : (limit < sent_end frame frame.frame) ⊎ (MayBeSent limit frame × Puts i p o frame false p o)
+
+-- nothing went out, since it looked and no frame is there, or it may not go
+pub record FrameStays (Looked : Type 0) (grown : List Placed → List Placed → Type 0) (i : Identity) (limit : ℕ) (old : Source) (h : Handler) (p : Packing) (o : Outgoing) (new : Source) (k : Handler) (q : Packing) (n : Outgoing) : Type 0 where
+  pub handler : k ≡ h
+  pub packing : q ≡ p
+  pub out : n ≡ o
+  pub reads : ReadsTo grown old h.at new
+  pub stops : (HasNone new h.at × Looked) ⊎ IsBarred i limit new.frames h.at p o
 
 -- ---- the frame that was read
 
@@ -83,24 +112,6 @@ pub record Sent (grown : List Placed → List Placed → Type 0) (i : Identity) 
   pub packs : Packs i 16 o.datagrams p n frames
   pub there : AreThere new.frames k
   pub stream : k.geometry ≡ i.geometry
-
-pub sent_none : (grown : List Placed → List Placed → Type 0) (i : Identity) (limit : ℕ) (old : Source) (h : Handler) (o : Outgoing) (p : Packing)
-    → ((frames : List Placed) → grown frames frames) → old.position ≡ h.at → AreThere old.frames h → h.geometry ≡ i.geometry → o.mtu ≡ i.geometry.mtu → p ≡ record { left = 16; term = 0; size = 0; takes_more = false }
-    → Sent grown i limit old h o old h p o
-sent_none grown i limit old h o p same from there stream size e = record {
-  frames = [];
-  read = record { chain = refl; among = tt };
-  allowed = tt;
-  handler = refl;
-  reads = record { grows = same old.frames; moved = ap (λ (n : ℕ). record old { position = n }) from };
-  packs = packs_none i 16 p o e size;
-  there = there;
-  stream = stream;
-}
-
--- more frames can be put in
-pub sent_has_packed : (grown : List Placed → List Placed → Type 0) (i : Identity) (limit : ℕ) (old : Source) (h : Handler) (o : Outgoing) (new : Source) (k : Handler) (p : Packing) (n : Outgoing) → length o.datagrams + 16 ≤ 32 → Sent grown i limit old h o new k p n → HasPacked i p n
-sent_has_packed grown i limit old h o new k p n room s = record { most = 16; before = o.datagrams; frames = s.frames; packs = s.packs; room = room }
 
 reads_on : (grown : List Placed → List Placed → Type 0) (a : Source) (m : ℕ) (b : Source) (to : ℕ) (c : Source) → ((x y z : List Placed) → grown x y → grown y z → grown x z) → ReadsTo grown a m b → ReadsTo grown b to c → ReadsTo grown a to c
 reads_on grown a m b to c on r q = record {

@@ -1,5 +1,6 @@
 pub mod NewsLemmas
 pub mod PackingLemmas
+pub mod SendLemmas
 pub mod StartLemmas
 pub mod FreshLemmas
 pub mod NextLemmas

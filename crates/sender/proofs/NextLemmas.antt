@@ -7,24 +7,32 @@ use Rattle.theory.specs.Datagrams.{sent_end}
 use Rattle.position.specs.declared.head.FrameHead.{FrameHead}
 use Rattle.position.specs.Heads.{IsStreamFrame, head_of}
 use Rattle.position.proofs.Heads.{start_in}
-use Rattle.frame_source.specs.Sources.{FindsNone, HasFrame, Passes, ReadsNext, Source}
+use Rattle.frame_source.specs.Sources.{FindsNone, HasFrame, HasNone, Passes, ReadsNext, Source}
 use Rattle.sender.specs.Resending.Handler.{Handler, after_note}
-use Rattle.sender.specs.Giving.{FrameGoes, FrameStays}
 use Rattle.frames.specs.Outgoing.{Outgoing}
 use Rattle.sender.specs.Packed.{Puts, placed_in}
+use Rattle.sender.specs.Sending.{ReadsTo}
 use Rattle.sender.specs.declared.packing.Packing.{Packing}
-use Rattle.sender.proofs.FreshLemmas.{end_shown, shown_is}
+use Rattle.sender.proofs.FreshLemmas.{FrameGoes, FrameStays, end_shown, shown_is}
+
+-- the reader stays where none was found
+pub none_to : (grown : List Placed → List Placed → Type 0) (s : Source) (at : ℕ) (t : Source) (before after : List ℕ) → ((frames : List Placed) → grown frames frames) → s.position ≡ at → FindsNone s before t after → ReadsTo grown s at t
+none_to grown s at t before after same from none =
+    let stays : ReadsTo grown s at s = record { grows = same s.frames; moved = ap (λ (n : ℕ). record s { position = n }) from } in
+    subst (ReadsTo grown s at) (sym none.same) stays
+
+-- and where one was read
+pub read_to : (grown : List Placed → List Placed → Type 0) (s : Source) (at : ℕ) (head : FrameHead) (before : List ℕ) (t : Source) (after : List ℕ) → s.position ≡ at → ReadsNext grown s head before t after → ReadsTo grown s at t
+read_to grown s at head before t after from r = record { grows = r.grows; moved = r.stays ∙ ap (λ (n : ℕ). record s { position = n; frames = t.frames }) from }
 
 pub no_frame : {Looked : Type 0} (grown : List Placed → List Placed → Type 0) (i : Identity) (limit : ℕ) (s : Source) (h : Handler) (p : Packing) (o : Outgoing) (t : Source) (before after : List ℕ) → ((frames : List Placed) → grown frames frames) → s.position ≡ h.at → FindsNone s before t after → Looked → FrameStays Looked grown i limit s h p o t h p o
-no_frame {Looked = Looked} grown i limit s h p o t before after same from none looked =
-    let stays : FrameStays Looked grown i limit s h p o s h p o = record {
-      handler = refl;
-      packing = refl;
-      out = refl;
-      reads = record { grows = same s.frames; moved = ap (λ (n : ℕ). record s { position = n }) from };
-      stops = inl (λ f among e. none.none f among (e ∙ sym from), looked);
-    } in
-    subst (λ (x : Source). FrameStays Looked grown i limit s h p o x h p o) (sym none.same) stays
+no_frame grown i limit s h p o t before after same from none looked = record {
+  handler = refl;
+  packing = refl;
+  out = refl;
+  reads = none_to grown s h.at t before after same from none;
+  stops = inl (subst (λ (x : Source). HasNone x h.at) (sym none.same) (λ f among e. none.none f among (e ∙ sym from)), looked);
+}
 
 -- where what goes out of this head's frame ends
 abbrev IsSentTo : FrameHead → ℕ → Type 0
@@ -38,7 +46,7 @@ ends_above grown i limit to s h p o head before t after from r sent above =
       handler = refl;
       packing = refl;
       out = refl;
-      reads = record { grows = r.grows; moved = r.stays ∙ ap (λ (n : ℕ). record s { position = n; frames = t.frames }) from };
+      reads = read_to grown s h.at head before t after from r;
       stops = inr (record { frame = f; among = r.read.among; here = from; barred = inl (omega (arith, above, end)) });
     }
 
@@ -51,7 +59,7 @@ has_no_room grown i limit to s h p o head before t after q n from r sent below p
       handler = refl;
       packing = puts.0;
       out = puts.1;
-      reads = record { grows = r.grows; moved = r.stays ∙ ap (λ (n : ℕ). record s { position = n; frames = t.frames }) from };
+      reads = read_to grown s h.at head before t after from r;
       stops = inr (record {
         frame = f;
         among = r.read.among;

@@ -15,7 +15,6 @@
 #![tactic(auto)]
 
 mod again;
-mod fresh;
 mod identity;
 mod naming;
 mod news;

@@ -13,12 +13,13 @@ ghost use Rattle.sender.specs.Giving.{HasSpace, SendsAgain, SendsNew, with_all};
 ghost use Rattle.sender.specs.Texts.{answer_text};
 
 use crate::again::send_again;
-use crate::fresh::send_fresh;
 use crate::identity::{heartbeat_frame, setup_frame};
 use crate::naming::SenderSetup;
 use crate::news::{News, read_news};
+use crate::packing::Packing;
 use crate::retransmit::answer::NakResult;
 use crate::retransmit::handler::Retransmit;
+use crate::stream_frame::sent_to;
 use block::Block;
 use flow_control::FlowControl;
 use frame_source::FrameSource;
@@ -75,6 +76,9 @@ pub struct Denied<R, F> {
 
 /// Nanoseconds after which a heartbeat goes out where nothing else does.
 const HEARTBEAT_INTERVAL: u64 = 100_000_000;
+
+/// How many datagrams of new frames go out in a cycle at the most.
+const NEW_DATAGRAMS: usize = 16;
 
 /// Sends the committed frames of one log, again what got lost, its SETUPs and heartbeats.
 #[derive(Drop)]
@@ -265,7 +269,8 @@ impl<R, F: FlowControl + Drop> SenderCore<R, F> {
         }
     }
 
-    /// Gives out new frames.
+    /// Gives out new frames and notes them: from the reads' position on, up to the first that ends above the flow limit, or has
+    /// no place in 16 datagrams, or up to where a look finds none committed.
     fn send<L>(&mut self, log: &mut L, outbox: &mut Outbox)
     where
         R: FrameSource<L>,
@@ -280,15 +285,16 @@ impl<R, F: FlowControl + Drop> SenderCore<R, F> {
         ensures leaves { R.leaves self.old.reads log.old self.new.reads log.new }
     {
         let limit = self.flow.limit() as u64;
-        send_fresh(
-            &mut self.reads,
-            log,
-            &self.identity,
-            &mut self.block,
-            limit,
-            &mut self.handler,
-            outbox,
-        );
+        let mut packing = Packing::new(NEW_DATAGRAMS);
+        while let Some(head) = self.reads.next(log, &mut self.block) {
+            if sent_to(&self.identity, &head) > limit {
+                return;
+            }
+            if !packing.put(&self.identity, &head, &self.block, outbox) {
+                return;
+            }
+            self.handler.note(head.start, self.reads.advance(log));
+        }
     }
 
     /// Gives out the frames of the range that is due, if one is.

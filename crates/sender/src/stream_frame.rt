@@ -4,7 +4,7 @@ ghost use Rattle.std.specs.Prelude.{◌≡◌, ℕ, List, ◌+◌, ◌^◌, ◌�
 ghost use Rattle.std.specs.List.{AllByRecursion};
 ghost use Rattle.theory.specs.Position.{aligned};
 ghost use Rattle.theory.specs.Datagrams.{sent_end};
-ghost use Rattle.theory.specs.Placed.{Data, Frame as Framed, Pad, is_padding};
+ghost use Rattle.theory.specs.Placed.{Frame as Framed, is_padding};
 ghost use Rattle.theory.specs.Wire.{IsFrame, spelling};
 ghost use Rattle.theory.specs.Bytes.{wire_at};
 ghost use Rattle.position.specs.Heads.{IsStreamFrame, head_of};
@@ -69,41 +69,15 @@ pub fn frame_of<'a>(identity: &Identity, head: &FrameHead, block: &'a Block) -> 
     ensures short { length (spelling (wire result)) ≤ identity.now.geometry.mtu }
 {
     match head.kind {
-        FrameKind::Pad => padding(identity, head),
-        FrameKind::Data => {
-            let payload = front_of(block.bytes(), head.frame_length as usize - 32);
-            data_frame(identity, head, payload)
-        }
-    }
-}
-
-/// The padding with this head.
-fn padding(identity: &Identity, head: &FrameHead) -> Frame<'static>
-    requires head { IsStreamFrame identity.now.geometry head.now }
-    ensures frame { wire result ≡ wire_at identity.now head.now.start (Pad head.now.frame_length) }
-    ensures legal { IsFrame (wire result) }
-    ensures short { length (spelling (wire result)) ≤ identity.now.geometry.mtu }
-{
-    Frame::Pad {
-        header: header(identity, head),
-        frame_length: head.frame_length,
-    }
-}
-
-/// The message's frame with this head and payload.
-fn data_frame<'a>(identity: &Identity, head: &FrameHead, payload: &'a [u8]) -> Frame<'a>
-    requires head { IsStreamFrame identity.now.geometry head.now }
-    requires payload { head.now.frame_length ≡ 32 + length payload.now }
-    requires short { head.now.frame_length ≤ identity.now.geometry.mtu }
-    requires bytes { AllByRecursion (λ b. b < 256) payload.now }
-    ensures frame { wire result ≡ wire_at identity.now head.now.start (Data head.now.flags payload.now) }
-    ensures legal { IsFrame (wire result) }
-    ensures short { length (spelling (wire result)) ≤ identity.now.geometry.mtu }
-{
-    Frame::Data {
-        header: header(identity, head),
-        flags: head.flags,
-        payload,
+        FrameKind::Pad => Frame::Pad {
+            header: header(identity, head),
+            frame_length: head.frame_length,
+        },
+        FrameKind::Data => Frame::Data {
+            header: header(identity, head),
+            flags: head.flags,
+            payload: front_of(block.bytes(), head.frame_length as usize - 32),
+        },
     }
 }
 

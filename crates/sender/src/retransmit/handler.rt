@@ -12,7 +12,7 @@ ghost use Rattle.sender.specs.Resending.Handler.{fresh, after_note, after_nak, n
 use crate::retransmit::action::Action;
 use crate::retransmit::actions::{asks_for, first_waiting, forget_until, linger_until};
 use crate::retransmit::answer::NakResult;
-use crate::retransmit::starts::{first_from, first_in, slide};
+use crate::retransmit::starts::{first_from, first_in, forget_below};
 use position::{Gap, Geometry};
 use std::alloc::{AllocError, Global};
 use std::collections::VecDeque;
@@ -80,7 +80,8 @@ impl Retransmit {
         u64::from(self.geometry.term_length()) / 4 * 3
     }
 
-    /// Notes a frame that was sent, the next of the stream: where it starts and where it ends.
+    /// Notes a frame that was sent, the next of the stream: where it starts and where it ends. The
+    /// starts that can't be asked for any more are forgotten.
     pub fn note(&mut self, start: u64, end: u64)
         requires next { start ≡ self.old.at }
         requires further { start + 32 ≤ end }
@@ -88,8 +89,11 @@ impl Retransmit {
         ensures { self.new ≡ after_note self.old start end }
     {
         let from = end.saturating_sub(self.reach());
-        slide(&mut self.starts, start, from);
         self.at = end;
+        forget_below(&mut self.starts, from);
+        if start >= from {
+            self.starts.push_back_reserved(start);
+        }
     }
 
     /// Judges a negative acknowledgement of so many bytes from a position on, at a moment in nanoseconds. What was

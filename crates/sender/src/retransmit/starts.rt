@@ -1,5 +1,5 @@
 //! Frame starts in ascending order, found by halving.
-ghost use Rattle.std.specs.Prelude.{◌≡◌, ◌<◌, ◌+◌, ◌*◌, [], ◌∷◌, ◌++◌, ◌&&◌, ℕ, nat_le, nat_lt, find, filter, IfSome};
+ghost use Rattle.std.specs.Prelude.{◌≡◌, ◌<◌, ◌&&◌, ℕ, nat_le, nat_lt, find, filter, IfSome};
 ghost use Rattle.sender.specs.Resending.Spaced.{AreSpaced, SplitsAt, begins_below as begins_so};
 ghost use Rattle.std.specs.VecDeque.{deque_capacity};
 
@@ -36,21 +36,8 @@ fn place_of(starts: &VecDeque<u64>, position: u64) -> usize
     }
 }
 
-/// Notes a start above the others, and forgets those below a position.
-pub(crate) fn slide(starts: &mut VecDeque<u64>, start: u64, from: u64)
-    requires spaced { (lower : ℕ) × AreSpaced lower start starts.old.items }
-    requires room { start < from + 32 * deque_capacity starts.old }
-    ensures items { starts.new.items ≡ filter (nat_le from) (starts.old.items ++ start ∷ []) }
-    ensures capacity { deque_capacity starts.new ≡ deque_capacity starts.old }
-{
-    forget_below(starts, from);
-    if start >= from {
-        starts.push_back_reserved(start);
-    }
-}
-
 /// Forgets those below a position.
-fn forget_below(starts: &mut VecDeque<u64>, from: u64)
+pub(crate) fn forget_below(starts: &mut VecDeque<u64>, from: u64)
     requires { (lower : ℕ) × (upper : ℕ) × AreSpaced lower upper starts.old.items }
     ensures others { starts.new.items ≡ filter (nat_le from) starts.old.items }
     ensures room { deque_capacity starts.new ≡ deque_capacity starts.old }
