@@ -32,7 +32,7 @@ pub heard_none : {P : Type 0} (hears : Hears P) (now : ℕ) (tells : Type 0) (s 
 heard_none hears now tells s d = record { heard = []; given = []; number = refl; all_heard = (refl, refl); carries = λ _. record { received = sym (append-nil d.received); sent = sym (append-nil d.sent) } }
 
 -- and one more, if one came
-heard_more : {P : Type 0} (hears : Hears P) (now : ℕ) (tells still : Type 0) (count n : ℕ) (s : P) (d : Device) (t : P) (e : Device) (u : P) (f : Device) → (tells → still) → Heard hears now tells count s d t e → Hearing hears now still 1 t e (Ok n) u f → Heard hears now tells (count + n) s d u f
+pub heard_more : {P : Type 0} (hears : Hears P) (now : ℕ) (tells still : Type 0) (count n : ℕ) (s : P) (d : Device) (t : P) (e : Device) (u : P) (f : Device) → (tells → still) → Heard hears now tells count s d t e → Hearing hears now still 1 t e (Ok n) u f → Heard hears now tells (count + n) s d u f
 heard_more hears now tells still count n s d t e u f on h k = record {
   heard = h.heard ++ k.heard;
   given = h.given ++ k.given;
@@ -40,11 +40,6 @@ heard_more hears now tells still count n s d t e u f on h k = record {
   all_heard = heard_on hears now s t u h.heard k.heard h.given k.given h.all_heard k.all_heard;
   carries = λ x. carried_on d e f h.heard h.given k.heard k.given (h.carries x) (subst (λ xs. Carries e xs k.given f) (ap (λ l. k.heard ++ l) k.none_lost ∙ append-nil k.heard) (subst (λ xs. Carries e (k.heard ++ k.lost) xs f) k.whole (k.carries (on x))));
 }
-
-pub one_heard : {P : Type 0} (hears : Hears P) (now : ℕ) (tells still : Type 0) (count n : ℕ) (s : P) (d : Device) (t : P) (e : Device) (u : P) (f : Device) → (n ≡ 0 → ⊥) → (tells → still) → Heard hears now tells count s d t e → Hearing hears now still 1 t e (Ok n) u f → Heard hears now tells (count + 1) s d u f
-one_heard hears now tells still count n s d t e u f some on h k =
-    let one : n ≡ 1 = omega (arith, k.number, k.few, some) in
-    subst (λ m. Heard hears now tells (count + m) s d u f) one (heard_more hears now tells still count n s d t e u f on h k)
 
 -- 16 were heard
 pub heard_all : {P : Type 0} (hears : Hears P) (now : ℕ) (tells : Type 0) (s : P) (d : Device) (t : P) (e : Device) (count : ℕ) → count ≡ 16 → Heard hears now tells count s d t e → Hearing hears now tells 16 s d (Ok 16) t e
@@ -65,17 +60,17 @@ heard_all hears now tells s d t e count all h = record {
 }
 
 -- fewer were heard, and then none was there
-pub heard_few : {P : Type 0} (hears : Hears P) (now : ℕ) (tells still : Type 0) (count : ℕ) (s : P) (d : Device) (t : P) (e : Device) (u : P) (f : Device) → count < 16 → (tells → still) → NeverFall d e → Heard hears now tells count s d t e → (n : ℕ) → n ≡ 0 → Hearing hears now still 1 t e (Ok n) u f → Hearing hears now tells 16 s d (Ok count) u f
-heard_few hears now tells still count s d t e u f low on counts h n none k =
-    let m = heard_more hears now tells still count n s d t e u f on h k in
+pub heard_few : {P : Type 0} (hears : Hears P) (now : ℕ) (tells still : Type 0) (count : ℕ) (s : P) (d : Device) (t : P) (e : Device) (u : P) (f : Device) → count < 16 → (tells → still) → NeverFall d e → Heard hears now tells count s d t e → Hearing hears now still 1 t e (Ok 0) u f → Hearing hears now tells 16 s d (Ok count) u f
+heard_few hears now tells still count s d t e u f low on counts h k =
+    let m = heard_more hears now tells still count 0 s d t e u f on h k in
     record {
       heard = m.heard;
       lost = [];
       given = m.given;
       sent = m.given;
-      few = omega (arith, m.number, none, low);
-      number = omega (arith, m.number, none);
-      ended = λ _. grown_later _ _ _ counts.nones (k.ended (omega (arith, none)));
+      few = omega (arith, m.number, low);
+      number = omega (arith, m.number);
+      ended = λ _. grown_later _ _ _ counts.nones (k.ended (omega arith));
       all_heard = m.all_heard;
       none_lost = refl;
       part = whole_part m.given;
@@ -112,8 +107,8 @@ carries_none : (d e : Device) → e.received ≡ d.received → e.sent ≡ d.sen
 carries_none d e r s = record { received = r ∙ sym (append-nil d.received); sent = s ∙ sym (append-nil d.sent) }
 
 -- the device failed
-pub receive_failed : {P : Type 0} (hears : Hears P) (now : ℕ) (tells : Type 0) (s : P) (d e : Device) (before after : List ℕ) (failed : DeviceFailed) (r : Result ℕ DeviceError) → r ≡ Err faults.Device → Receives tells d before (Err failed) after e → Hearing hears now tells 1 s d r s e
-receive_failed hears now tells s d e before after failed r is k = subst (λ x. Hearing hears now tells 1 s d x s e) (sym is) (record {
+pub receive_failed : {P : Type 0} (hears : Hears P) (now : ℕ) (tells : Type 0) (s : P) (d e : Device) (before after : List ℕ) (failed : DeviceFailed) → Receives tells d before (Err failed) after e → Hearing hears now tells 1 s d (Err faults.Device) s e
+receive_failed hears now tells s d e before after failed k = record {
   heard = [];
   lost = [];
   given = [];
@@ -127,7 +122,7 @@ receive_failed hears now tells s d e before after failed r is k = subst (λ x. H
   whole = tt;
   explained = (k.failures, refl);
   carries = λ x. carries_none d e (ap (λ (y : Device). y.received) (k.unreceived x)) (ap (λ (y : Device). y.sent) (k.unreceived x));
-})
+}
 
 -- nothing had come
 pub received_none : {P : Type 0} (hears : Hears P) (now : ℕ) (tells : Type 0) (s : P) (d e : Device) (before after : List ℕ) (found : Option ℕ) → found ≡ None → Receives tells d before (Ok found) after e → Hearing hears now tells 1 s d (Ok 0) s e
@@ -166,8 +161,8 @@ pub front_is : (after items bytes : List ℕ) (size n : ℕ) → bytes ≡ take 
 front_is after items bytes size n shown long = ap (take n) (shown ∙ ap (λ k. take k (after ++ drop (length after) items)) (sym long) ∙ take-append_seam after (drop (length after) items))
 
 -- memory was refused for it
-pub one_lost : {P : Type 0} (hears : Hears P) (now : ℕ) (tells : Type 0) (s t : P) (d e : Device) (bytes : List ℕ) (r : Result ℕ DeviceError) → r ≡ Err faults.Memory → t ≡ s → Came tells d bytes e → Hearing hears now tells 1 s d r t e
-one_lost hears now tells s t d e bytes r is same c = subst (λ x. Hearing hears now tells 1 s d x t e) (sym is) (record {
+pub one_lost : {P : Type 0} (hears : Hears P) (now : ℕ) (tells : Type 0) (s t : P) (d e : Device) (bytes : List ℕ) → t ≡ s → Came tells d bytes e → Hearing hears now tells 1 s d (Err faults.Memory) t e
+one_lost hears now tells s t d e bytes same c = record {
   heard = [];
   lost = bytes ∷ [];
   given = [];
@@ -181,7 +176,7 @@ one_lost hears now tells s t d e bytes r is same c = subst (λ x. Hearing hears 
   whole = tt;
   explained = refl;
   carries = λ x. record { received = c.received x; sent = c.sent ∙ sym (append-nil d.sent) };
-})
+}
 
 -- the party heard it, and what it gave was sent
 pub one_answered : {P : Type 0} (hears : Hears P) (now : ℕ) (tells still : Type 0) (s t : P) (d e f : Device) (bytes : List ℕ) (given : List (List ℕ)) (u : Unit {0}) → (tells → still) → Came tells d bytes e → hears s now bytes t given → f.received ≡ e.received → SendsOut still e given (Ok u) f → Hearing hears now tells 1 s d (Ok 1) t f
@@ -202,8 +197,8 @@ one_answered hears now tells still s t d e f bytes given u on c heard stays send
 }
 
 -- or a part of that, and then the device failed
-pub one_broken : {P : Type 0} (hears : Hears P) (now : ℕ) (tells still : Type 0) (s t : P) (d e f : Device) (bytes : List ℕ) (given : List (List ℕ)) (failed : DeviceFailed) (r : Result ℕ DeviceError) → r ≡ Err faults.Device → (tells → still) → Came tells d bytes e → hears s now bytes t given → f.received ≡ e.received → SendsOut still e given (Err failed) f → Hearing hears now tells 1 s d r t f
-one_broken hears now tells still s t d e f bytes given failed r is on c heard stays sends = subst (λ x. Hearing hears now tells 1 s d x t f) (sym is) (record {
+pub one_broken : {P : Type 0} (hears : Hears P) (now : ℕ) (tells still : Type 0) (s t : P) (d e f : Device) (bytes : List ℕ) (given : List (List ℕ)) (failed : DeviceFailed) → (tells → still) → Came tells d bytes e → hears s now bytes t given → f.received ≡ e.received → SendsOut still e given (Err failed) f → Hearing hears now tells 1 s d (Err faults.Device) t f
+one_broken hears now tells still s t d e f bytes given failed on c heard stays sends = record {
   heard = bytes ∷ [];
   lost = [];
   given = given;
@@ -217,7 +212,7 @@ one_broken hears now tells still s t d e f bytes given failed r is on c heard st
   whole = tt;
   explained = (grown_later _ _ _ c.counts.failures sends.failed, refl);
   carries = λ x. record { received = stays ∙ c.received x; sent = sends.carries (on x) ∙ ap (λ xs. xs ++ sends.sent) c.sent };
-})
+}
 
 -- ---- a tick
 

@@ -103,28 +103,8 @@ pub fn faults_are_explained()
 {}
 
 impl<D: Datagrams> Duty<D> {
-    /// Takes a datagram, if one has come, and sends what the party gives for it. The answer is how many had come: one or
-    /// none.
-    fn hear_next<P: Party>(&mut self, party: &mut P, now: u64) -> Result<usize, DeviceError>
-        requires stands { P.stands party.old }
-        requires size { self.old.mtu ≡ P.mtu party.old }
-        ensures counts { NeverFall (D.device self.old.device) (D.device self.new.device) }
-        ensures hears { Hearing P.hears now (D.tells self.old.device) 1 party.old (D.device self.old.device) result party.new (D.device self.new.device) }
-        ensures stands { P.stands party.new }
-        ensures size { (self.new.mtu ≡ self.old.mtu) × (P.mtu party.new ≡ P.mtu party.old) }
-        ensures still_tells { D.tells self.old.device → D.tells self.new.device }
-        ensures lives { D.lives self.old.device self.new.device }
-    {
-        let Some(length) = self.device.recv(self.buffer.as_mut_slice())? else {
-            return Ok(0);
-        };
-        let datagram = &self.buffer[..length];
-        party.hear(datagram, now, &mut self.outbox)?;
-        send_all(&mut self.device, &self.outbox)?;
-        Ok(1)
-    }
-
-    /// Takes the datagrams that have come, 16 at the most. The answer is how many there were.
+    /// Takes the datagrams that have come, 16 at the most, and sends what the party gives for each. The answer is how many
+    /// there were.
     fn hear_all<P: Party>(&mut self, party: &mut P, now: u64) -> Result<usize, DeviceError>
         requires stands { P.stands party.old }
         requires size { self.old.mtu ≡ P.mtu party.old }
@@ -136,9 +116,12 @@ impl<D: Datagrams> Duty<D> {
         ensures lives { D.lives self.old.device self.new.device }
     {
         for count in 0..CYCLE_DATAGRAMS {
-            if self.hear_next(party, now)? == 0 {
+            let Some(length) = self.device.recv(self.buffer.as_mut_slice())? else {
                 return Ok(count);
-            }
+            };
+            let datagram = &self.buffer[..length];
+            party.hear(datagram, now, &mut self.outbox)?;
+            send_all(&mut self.device, &self.outbox)?;
         }
         Ok(CYCLE_DATAGRAMS)
     }
