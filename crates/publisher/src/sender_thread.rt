@@ -79,13 +79,6 @@ pub struct ChannelSender<'a, D> {
     pub peer: SocketAddr,
 }
 
-/// A cycle begins at each destination.
-fn begin<D: Datagrams>(duty: &mut Duty<Destinations<D>>, position: u64)
-    ensures { duty.new ≡ record duty.old { device = record duty.old.device { ways = map (begun position) duty.old.device.ways } } }
-{
-    begin_all(duty.device_mut().each_mut(), position);
-}
-
 /// Sees what a cycle has shown of each destination, and tells what is new.
 fn see_all<D: Datagrams, E: Write>(
     destinations: &mut [Destination<ChannelDevice<D>>],
@@ -99,18 +92,6 @@ fn see_all<D: Datagrams, E: Write>(
         let news = destination.see(linger, now);
         tell_news(errors, destination, news);
     }
-}
-
-/// The same over what it sends with.
-fn see<D: Datagrams, E: Write>(
-    duty: &mut Duty<Destinations<D>>,
-    errors: &mut E,
-    linger: u64,
-    now: u64,
-)
-    ensures { duty.new ≡ record duty.old { device = record duty.old.device { ways = map (seen_along linger now) duty.old.device.ways } } }
-{
-    see_all(duty.device_mut().each_mut(), errors, linger, now);
 }
 
 /// Up to where the stream was sent, how many datagrams were sent again, to each destination the same, and how many were passed over,
@@ -141,35 +122,8 @@ pub fn keep<R: Wait, D>(context: &PublisherContext<'_, R>, passes: &mut SenderPa
     )
 }
 
-/// A cycle of the sender, and one of the conductor. Whether there was work.
-fn run_cycle<R: Wait + Clock, D: Datagrams>(
-    context: &PublisherContext<'_, R>,
-    sender: &mut ChannelSender<'_, D>,
-    now: u64,
-) -> Result<bool, PublishFault>
-    requires agent { SendsLog context.now.state.now.log sender.old.agent }
-    requires passes { ArePasses context.now.state.now.log context.now.conductor.now sender.old.passes }
-    ensures agent { SendsLog context.now.state.now.log sender.new.agent }
-    ensures lives { StreamLived 0 sender.old.agent.core sender.new.agent.core }
-    ensures peer { sender.new.peer ≡ sender.old.peer }
-    ensures passes { ArePasses context.now.state.now.log context.now.conductor.now sender.new.passes }
-    ensures told { IfOk result (λ _. CyclesAt now sender.old.agent.core sender.new.agent.core) }
-    ensures lived { IfOk result (λ _. LivedAt now sender.old sender.new) }
-    ensures along { IfOk result (λ _. LivesAlong sender.old.passes.duty.device.ways sender.new.passes.duty.device.ways) }
-    ensures keeps { IfOk result (λ busy. KeepsLog context.now.state.now.log sender.old.passes busy sender.new.passes) }
-{
-    let before = work_of(sender);
-    let passes = &mut sender.passes;
-    let (client, duty) = (&mut passes.client, &mut passes.duty);
-    sender
-        .agent
-        .cycle(context.rt, context.conductor, client, duty, now)?;
-    let kept = keep(context, &mut sender.passes);
-    let moved = work_of(sender) != before;
-    Ok(kept | moved)
-}
-
-/// A cycle, with each destination told up to where the stream was sent. Whether there was work.
+/// A cycle of the sender, with each destination told up to where the stream was sent, and one of the conductor. Whether there was
+/// work.
 fn cycle<R: Wait + Clock, D: Datagrams, E: Write>(
     context: &PublisherContext<'_, R>,
     sender: &mut ChannelSender<'_, D>,
@@ -188,10 +142,18 @@ fn cycle<R: Wait + Clock, D: Datagrams, E: Write>(
     ensures cycles { IfOk result (λ _. Cycles context.now.plan.now.linger now sender.old sender.new) }
 {
     let position = sender.agent.position();
-    begin(&mut sender.passes.duty, position);
-    let busy = run_cycle(context, sender, now)?;
-    see(&mut sender.passes.duty, errors, context.plan.linger, now);
-    Ok(busy)
+    begin_all(sender.passes.duty.device_mut().each_mut(), position);
+    let before = work_of(sender);
+    let passes = &mut sender.passes;
+    let (client, duty) = (&mut passes.client, &mut passes.duty);
+    sender
+        .agent
+        .cycle(context.rt, context.conductor, client, duty, now)?;
+    let kept = keep(context, &mut sender.passes);
+    let moved = work_of(sender) != before;
+    let destinations = sender.passes.duty.device_mut().each_mut();
+    see_all(destinations, errors, context.plan.linger, now);
+    Ok(kept | moved)
 }
 
 /// Tells the receivers at all destinations where the stream ends, where the input has ended, all was sent, and it wasn't told for

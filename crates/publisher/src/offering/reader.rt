@@ -18,7 +18,7 @@ use shared_log::{Log, OnLog, Publisher};
 use std::alloc::Global;
 use std::io::BufRead;
 use std::snapshot::Snapshot;
-use std::sync::{Arc, OnceToken};
+use std::sync::Arc;
 use std::thread;
 use std::thread::{Promise, PromisedHandle, Threads};
 use std::time::Clock;
@@ -32,21 +32,9 @@ pub struct OfferingContext<'a, R> {
     pub state: &'a OfferingState,
 }
 
-/// Offers a message. The answer is where it ends.
-#[tactic(auto, using(crate::proofs::Offers::accepted, crate::proofs::Offers::refused))]
-fn offer_once(log: &Log, publisher: &mut Publisher, message: &[u8]) -> Result<u64, Refusal>
-    requires done { IsDone log.now publisher.old }
-    requires short { length message.now ≤ max_message log.now.identity.geometry }
-    ensures done { IsDone log.now publisher.new }
-    ensures accepted { IfOk result (λ end. PublishesOne publisher.old.pass message.now publisher.new.pass end) }
-    ensures refused { IfErr result (λ why. PublishesNone publisher.old.pass publisher.new.pass) }
-    ensures why { IfErr result (λ why. IsRefused publisher.old.pass (length message.now) why publisher.new.pass) }
-{
-    offer(&mut OnLog::new(log), publisher, message)
-}
-
 /// Offers a message once. Where it ends, if it was accepted; the thread rests where the log has no room yet. The fault is
 /// `Full`, where it was refused for good.
+#[tactic(auto, using(crate::proofs::Offers::accepted, crate::proofs::Offers::refused))]
 fn offer_or_rest<R: Clock>(
     context: &OfferingContext<'_, R>,
     publisher: &mut Publisher,
@@ -59,7 +47,7 @@ fn offer_or_rest<R: Clock>(
     ensures published { IfOk result (λ end. OffersOne publisher.old.pass message.now end publisher.new.pass) }
     ensures fault { IfErr result (λ fault. (fault ≡ ReadingFault.Full) × PublishesNone publisher.old.pass publisher.new.pass × IsRefusedForGood publisher.old.pass (length message.now) publisher.new.pass) }
 {
-    match offer_once(&context.state.log, publisher, message) {
+    match offer(&mut OnLog::new(&context.state.log), publisher, message) {
         Ok(end) => Ok(Some(end)),
         Err(Refusal::AdminAction) => Ok(None),
         Err(Refusal::BackPressured | Refusal::NotConnected) => {
@@ -182,23 +170,8 @@ pub struct Reader<I: BufRead> {
     pub handle: PromisedHandle<InputEnd<I>, ReadsInput<I>>,
 }
 
-/// What the thread that reads does: it reads, and tells in the state how that ended. The answer shows that it stands there;
-/// it is handed back where an end was told before.
-fn read_there<'a, R: Clock, I: BufRead>(
-    context: &OfferingContext<'a, R>,
-    input: &mut I,
-    publisher: &mut Publisher,
-) -> Result<OnceToken<'a, Reading>, Reading>
-    requires { IsDone context.now.state.now.log publisher.old }
-    ensures done { IsDone context.now.state.now.log publisher.new }
-    ensures told { IfOk result (λ token. (token.of ≡ context.now.state.now.reading.id) × (token.value.geometry ≡ context.now.state.now.log.identity.geometry) × PublishesInput context.now.form (max_message context.now.state.now.log.identity.geometry) context.now.state.now.log.start (I.remaining input.old) (I.remaining input.new) publisher.old.pass publisher.new.pass token.value.offered token.value.ended) }
-    ensures kept { IfErr result (λ back. (back.geometry ≡ context.now.state.now.log.identity.geometry) × PublishesInput context.now.form (max_message context.now.state.now.log.identity.geometry) context.now.state.now.log.start (I.remaining input.old) (I.remaining input.new) publisher.old.pass publisher.new.pass back.offered back.ended) }
-{
-    let reading = read_input(context, input, publisher);
-    context.state.end_input(reading)
-}
-
-/// All that the thread does, with what is left then.
+/// All that the thread does, with what is left then: it reads, and tells in the state how that ended. Where an end was told there
+/// before, its own is handed back.
 fn read_all_there<R: Clock + Copy, I: BufRead>(
     rt: R,
     alloc: Global,
@@ -216,7 +189,8 @@ fn read_all_there<R: Clock + Copy, I: BufRead>(
         form,
         state,
     };
-    let reading = match read_there(&context, &mut input, &mut publisher) {
+    let reading = read_input(&context, &mut input, &mut publisher);
+    let reading = match state.end_input(reading) {
         Ok(token) => state.told(&token),
         Err(back) => back,
     };
