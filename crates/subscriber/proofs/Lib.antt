@@ -33,6 +33,7 @@ pub mod TurnRows
 mod FollowedRows
 pub mod PlaceRows
 pub mod Reading
+pub mod Taken
 pub mod Settled
 pub mod Turned
 pub mod Rounds

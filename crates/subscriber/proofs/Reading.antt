@@ -1,16 +1,15 @@
 -- The socket is read, and what came goes where it belongs.
-use Rattle.std.proofs.Common.{◌≡◌, ◌∙◌, ◌<◌, ◌≤◌, inl, inr, ℕ, zero, suc, List, [], ◌∷◌, length, get_or, set, Option, None, Some, Result, Ok, Err, refl, sym, ap, subst, arith}
+use Rattle.std.proofs.Common.{◌≡◌, ◌∙◌, ◌<◌, inl, inr, ℕ, zero, suc, List, [], ◌∷◌, length, get_or, set, Option, None, Some, Result, Ok, Err, refl, ap, subst, arith}
 use Rattle.std.specs.Prelude.{IfNone, IfSome, MatchOption, OnOk}
 use Rattle.std.specs.List.{AllWithin, AllZip, HoldsAt}
 use Rattle.std.specs.declared.net.SocketAddr.{SocketAddr}
 use Rattle.endpoint.specs.declared.datagrams.DeviceFailed.{DeviceFailed}
 use Rattle.peer.specs.Ties.{Came}
-use Rattle.subscriber.specs.FirstFrames.{TellsFirst}
 use Rattle.subscriber.specs.Hearings.{Routed, with_routed}
 use Rattle.subscriber.specs.Losing.{with_device}
 use Rattle.subscriber.specs.Offers.{SubscriberDevice}
 use Rattle.subscriber.specs.Receivings.{Receiving, bringing}
-use Rattle.subscriber.specs.Routing.{GoesToIts, Hearer, IsItsPlace, IsNobodys, IsOf, ReadsMany, ReadsOne, Routes, RoutesCame}
+use Rattle.subscriber.specs.Routing.{GoesToIts, Hearer, IsNobodys, IsOf, ReadsMany, ReadsOne, Routes, RoutesCame}
 use Rattle.subscriber.specs.Sessions.{IsRouted}
 use Rattle.subscriber.specs.Watches.{Timing, after_call}
 use Rattle.subscriber.specs.declared.images.session.Session.{Session}
@@ -18,6 +17,12 @@ use Rattle.subscriber.specs.declared.listening.first_frame.FirstFrame.{FirstFram
 use Rattle.subscriber.proofs.Along.{each_on, each_still, one_on}
 
 -- ---- whose a datagram is
+
+-- the first whose it is stands at this place
+abbrev pub IsItsPlace : SocketAddr → FirstFrame → List Session → ℕ → Type 0
+IsItsPlace from first [] place = ⊥
+IsItsPlace from first (j ∷ others) zero = IsOf j.duty.device from first
+IsItsPlace from first (j ∷ others) (suc place) = (¬ IsOf j.duty.device from first) × IsItsPlace from first others place
 
 module _ (from : SocketAddr) (first : FirstFrame) where
   abbrev pub Its : Session → Type 0

@@ -1,5 +1,5 @@
 -- Messages that are written one after the other.
-use Rattle.std.proofs.Common.{◌≡◌, ◌∙◌, ℕ, Bool, true, false, ◌+◌, ◌<◌, List, [], ◌∷◌, ◌++◌, length, Option, refl, sym, ap, subst, arith, append-nil, length-append, inl}
+use Rattle.std.proofs.Common.{◌≡◌, ◌∙◌, ℕ, Bool, true, false, ◌+◌, ◌<◌, ◌≤◌, List, [], ◌∷◌, ◌++◌, length, Option, refl, sym, ap, subst, arith, append-nil, length-append, inl, inr}
 use Rattle.std.specs.Io.KnownBytes.{Appends, Keeps}
 use Rattle.std.proofs.KnownBytes.{Appends-kept, Appends-nil, Appends-trans}
 use Rattle.std.proofs.lemmas.Grind.{flat_map-append}
@@ -59,4 +59,28 @@ delivered_kept form most s t a b c number h kept = record {
   few = h.few;
   ended = h.ended;
   written = Appends-kept a b c _ h.written kept;
+}
+
+-- as many as there may be were written, or then there was none
+pub delivered_all : (form : Form) (most : ℕ) (s t : Subscribing) (a b : Option (List ℕ)) (number : ℕ) → number ≡ most → Written form s a number t b → Delivers form most s a most t b
+delivered_all form most s t a b number all w = record {
+  messages = w.messages;
+  middle = t;
+  polled = w.polled;
+  counted = omega (arith, w.counted, all);
+  few = omega (arith, w.counted, all);
+  ended = inl (omega (arith, w.counted, all), refl);
+  written = w.written;
+}
+
+pub delivered_until : (form : Form) (most : ℕ) (s t u : Subscribing) (a b c : Option (List ℕ)) (number : ℕ) (any : Bool) → any ≡ false → number ≤ most → Written form s a number t b → Steps form t b any u c → Delivers form most s a number u c
+delivered_until form most s t u a b c number true e few w step = absurd (cc)
+delivered_until form most s t u a b c number false e few w (none, same) = record {
+  messages = w.messages;
+  middle = t;
+  polled = w.polled;
+  counted = w.counted;
+  few = omega (arith, w.counted, few);
+  ended = inr none;
+  written = subst (λ x. Appends a x (spelling form w.messages)) (sym same) w.written;
 }

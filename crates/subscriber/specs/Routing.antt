@@ -31,12 +31,6 @@ GoesToIts from r (j ∷ others) new =
     (IsOf j.duty.device from r.first × (new ≡ with_device j (with_routed j.duty.device r) ∷ others))
     ⊎ ((¬ IsOf j.duty.device from r.first) × ((rest : List Session) × (new ≡ j ∷ rest) × GoesToIts from r others rest))
 
--- the first whose it is stands at this place
-abbrev pub IsItsPlace : SocketAddr → FirstFrame → List Session → ℕ → Type 0
-IsItsPlace from first [] place = ⊥
-IsItsPlace from first (j ∷ others) zero = IsOf j.duty.device from first
-IsItsPlace from first (j ∷ others) (suc place) = (¬ IsOf j.duty.device from first) × IsItsPlace from first others place
-
 -- it is nobody's
 abbrev pub IsNobodys : SocketAddr → FirstFrame → List Session → Type 0
 IsNobodys from first sessions = AllByRecursion (λ (j : Session). ¬ IsOf j.duty.device from first) sessions

@@ -67,26 +67,8 @@ fn write_next<W: Write>(
     }
 }
 
-/// Polls messages until there is none, 256 and `most` at the most, and writes each. The answer is how many there were.
-fn write_each<W: Write>(
-    form: Form,
-    most: usize,
-    subscriber: &mut Subscriber,
-    output: &mut W,
-) -> Result<usize, DeliveryFault>
-    ensures delivers { IfOk result (λ n. Delivers form (min 256 most) subscriber.old (W.contents output.old) n subscriber.new (W.contents output.new)) }
-    ensures fault { IfErr result (λ f. Stops form (min 256 most) f subscriber.old (W.contents output.old) subscriber.new (W.contents output.new)) }
-{
-    let limit = CYCLE_MESSAGES.min(most);
-    for count in 0..limit {
-        if !write_next(form, subscriber, output)? {
-            return Ok(count);
-        }
-    }
-    Ok(limit)
-}
-
-/// Polls and writes as `write_each` does, and flushes the output. A fault is `Output` or `Message`.
+/// Polls messages until there is none, 256 and `most` at the most, writes each, and flushes the output. The answer is how many there
+/// were. A fault is `Output` or `Message`.
 fn write_polled<W: Write>(
     form: Form,
     most: usize,
@@ -96,11 +78,18 @@ fn write_polled<W: Write>(
     ensures delivers { IfOk result (λ n. Delivers form (min 256 most) subscriber.old (W.contents output.old) n subscriber.new (W.contents output.new)) }
     ensures fault { IfErr result (λ f. Stops form (min 256 most) f subscriber.old (W.contents output.old) subscriber.new (W.contents output.new)) }
 {
-    let count = write_each(form, most, subscriber, output)?;
+    let limit = CYCLE_MESSAGES.min(most);
+    let mut messages = limit;
+    for count in 0..limit {
+        if !write_next(form, subscriber, output)? {
+            messages = count;
+            break;
+        }
+    }
     if let Err(error) = output.flush() {
         return Err(DeliveryFault::Output(error.raw_os_error()));
     }
-    Ok(count)
+    Ok(messages)
 }
 
 /// A cycle, at a moment in nanoseconds: messages are polled, 256 and `most` at the most, written and flushed; behind that comes

@@ -2,7 +2,7 @@
 
 ghost use Rattle.std.specs.Prelude.{◌≡◌, OnErr, OnOk, ⊤};
 ghost use Rattle.frames.specs.Frames.{setup_of};
-ghost use Rattle.subscriber.specs.Followers.{FollowerHears, FollowerTicks, NotesDatagramsEnd, NotesEnd, NotesGreatestEnds, with_end};
+ghost use Rattle.subscriber.specs.Followers.{FollowerHears, FollowerTicks, NotesEnd, NotesGreatestEnds, with_end};
 
 use agents::Party;
 use frames::{Frame, Outbox, Setup};
@@ -41,16 +41,6 @@ fn after_setup(session: i32, stream: i32, setup: &Setup, before: Option<u64>) ->
     }
 }
 
-/// The greatest end that was told, with the one that a datagram tells of the session's stream.
-fn end_after(session: i32, stream: i32, datagram: &[u8], before: Option<u64>) -> Option<u64>
-    ensures { NotesDatagramsEnd session stream datagram.now before result }
-{
-    match setup_in(datagram) {
-        None => before,
-        Some(setup) => after_setup(session, stream, &setup, before),
-    }
-}
-
 /// A law: what is noted of one datagram after the other is the greatest end that they tell.
 pub fn greatest_ends()
     ensures { NotesGreatestEnds }
@@ -67,7 +57,9 @@ impl Party for Follower {
 
     fn hear(&mut self, datagram: &[u8], now: u64, outbox: &mut Outbox) -> Result<(), AllocError> {
         Party::hear(&mut self.subscriber, datagram, now, outbox)?;
-        self.end = end_after(self.session, self.stream, datagram, self.end);
+        if let Some(setup) = setup_in(datagram) {
+            self.end = after_setup(self.session, self.stream, &setup, self.end);
+        }
         Ok(())
     }
 

@@ -1,18 +1,16 @@
 //! A device of a session: it takes what was routed to it, and sends.
 
-ghost use Rattle.std.specs.Prelude.{◌≡◌, ◌↔◌, length, min, take, IfOk, IfSome, IsOk, IsTrue, OnErr, OnOk, option_map};
-ghost use Rattle.theory.specs.Wire.{IsHeader};
-ghost use Rattle.endpoint.specs.Calls.{Fills, Receives, Sends};
+ghost use Rattle.std.specs.Prelude.{◌≡◌, ◌↔◌, IfOk, IsOk, IsTrue, OnErr, OnOk};
+ghost use Rattle.endpoint.specs.Calls.{Receives, Sends};
 ghost use Rattle.endpoint.specs.Devices.{HasGrown, NeverFall, counted};
-ghost use Rattle.frames.specs.Frames.{header_of};
 ghost use Rattle.subscriber.specs.FirstFrames.{NamesNoOther, TellsFirst, named_first};
-ghost use Rattle.subscriber.specs.Hearings.{Takes, after_sending, device_of, following, frames_after, is_own, last_after, latest, noted_after, notes_after, turned_to, with_routed};
+ghost use Rattle.subscriber.specs.Hearings.{Takes, after_sending, device_of, following, noted_after, notes_after, turned_to, with_routed};
 ghost use Rattle.subscriber.specs.Offers.{news_of, news_taken, tied_anew};
 ghost use Rattle.subscriber.specs.Routing.{IsOf};
 
 use crate::listening::first_frame::{FirstFrame, HeardFrame};
 use endpoint::{Datagrams, DeviceFailed};
-use frames::{Header, Setup};
+use frames::Setup;
 use loss_injector::Lossy;
 use peer::{PatientDevice, PeerDevice, STATUS_BYTES};
 use std::alloc::{AllocError, Global};
@@ -148,16 +146,6 @@ impl<D> Model for SessionDevice<D> {
     ghost view = { λ f. record { inner = f.inner; inbox = f.inbox.items; session = f.session; stream = f.stream; notes = f.notes; naks = f.naks; noted = f.noted; nones = f.nones } };
 }
 
-/// Whether a header is of the session's stream.
-fn is_own(session: i32, stream: i32, header: Option<Header>) -> bool
-    ensures { result ≡ is_own session stream (option_map header_of header) }
-{
-    match header {
-        None => false,
-        Some(header) => header.session == session && header.stream == stream,
-    }
-}
-
 /// Whether what stands first in a datagram names no other session than this one.
 fn names_no_other(first: &FirstFrame, session: i32) -> bool
     ensures { IsTrue result ↔ NamesNoOther (named_first first.now) session }
@@ -181,37 +169,21 @@ fn noted_after(before: PendingStatus, datagram: &[u8]) -> PendingStatus
 }
 
 impl Notes {
-    /// Notes a frame of the stream, at a datagram's front.
-    fn note_header(&mut self, session: i32, stream: i32, header: Option<Header>)
-        requires { IfSome header (λ h. IsHeader (header_of h)) }
-        ensures frames { self.new.frames ≡ frames_after (is_own session stream (option_map header_of header)) self.old.frames }
-        ensures last { self.new.last ≡ last_after (is_own session stream (option_map header_of header)) header self.old.last }
-        ensures same { self.new ≡ record self.old { frames = self.new.frames; last = self.new.last } }
-    {
-        if !is_own(session, stream, header) {
-            return;
-        }
-        self.frames = self.frames.wrapping_add(1);
-        if let Some(header) = header {
-            self.last = Some(HeardFrame::new(header));
-        }
-    }
-
-    /// Notes a SETUP, if one came.
-    fn note_setup(&mut self, found: Option<Setup>)
-        ensures { self.new ≡ record self.old { setup = latest self.old.setup found } }
-    {
-        if let Some(setup) = found {
-            self.setup = Some(setup);
-        }
-    }
-
-    /// Notes what stands first in a datagram.
+    /// Notes what stands first in a datagram: a frame of the session's stream counts, and a SETUP is kept.
     fn note(&mut self, session: i32, stream: i32, first: &FirstFrame)
         ensures { self.new ≡ notes_after session stream first.now self.old }
     {
-        self.note_header(session, stream, first.header());
-        self.note_setup(first.setup());
+        match *first {
+            FirstFrame::Heard(frame) => {
+                let header = frame.header();
+                if header.session == session && header.stream == stream {
+                    self.frames = self.frames.wrapping_add(1);
+                    self.last = Some(frame);
+                }
+            }
+            FirstFrame::Setup(setup) => self.setup = Some(setup),
+            FirstFrame::Other => {}
+        }
     }
 }
 
@@ -288,17 +260,6 @@ impl<D> SessionDevice<D> {
     {
         self.nones = self.nones.saturating_add(1);
     }
-}
-
-/// Copies a datagram to a buffer's front, as far as there is room. How many bytes that were.
-fn copy_front(datagram: &[u8], buffer: &mut [u8]) -> usize
-    ensures size { result ≡ min (length datagram.now) (length buffer.old) }
-    ensures front { take result buffer.new ≡ take result datagram.now }
-    ensures filled { Fills result buffer.old buffer.new }
-{
-    let length = datagram.len().min(buffer.len());
-    buffer[..length].copy_from_slice(&datagram[..length]);
-    length
 }
 
 /// The device of a session.
@@ -380,7 +341,7 @@ impl<D: Datagrams> Datagrams for SessionDevice<D> {
         self.inner.send(datagram)
     }
 
-    /// Takes the oldest of what was routed to it.
+    /// Takes the oldest of what was routed to it: copies it to the buffer's front, as far as there is room.
     fn recv(&mut self, buffer: &mut [u8]) -> Result<Option<usize>, DeviceFailed>
         ensures counts { NeverFall (device_of (D.device self.old.inner) self.old.nones) (device_of (D.device self.new.inner) self.new.nones) }
         ensures receives { Receives ⊥ (device_of (D.device self.old.inner) self.old.nones) buffer.old result buffer.new (device_of (D.device self.new.inner) self.new.nones) }
@@ -391,7 +352,9 @@ impl<D: Datagrams> Datagrams for SessionDevice<D> {
             self.find_none();
             return Ok(None);
         };
-        let length = copy_front(routed.bytes.as_slice(), buffer);
+        let bytes = routed.bytes.as_slice();
+        let length = bytes.len().min(buffer.len());
+        buffer[..length].copy_from_slice(&bytes[..length]);
         self.notes.note(self.session, self.stream, &routed.first);
         Ok(Some(length))
     }

@@ -8,7 +8,7 @@ ghost use Rattle.subscriber.specs.Sessions.{HasLeft, IsRouted, IsShareAt, IsSize
 
 use crate::fault::SubscribeFault;
 use crate::images::session::Session;
-use crate::listening::reception::Reception;
+use crate::listening::reception::{Read, Reception};
 use crate::watch::Watch;
 use agents::IdleStrategy;
 use std::alloc::{AllocError, Global};
@@ -17,6 +17,9 @@ use std::time::Clock;
 
 /// How long a subscriber that has ended still tells where it stands, in nanoseconds.
 const FAREWELL: u64 = 1_000_000_000;
+
+/// How many datagrams are read in a turn at the most.
+const MOST_READ: u32 = 272;
 
 /// The sessions that are followed, each at its place, and the socket.
 #[derive(Drop)]
@@ -56,6 +59,13 @@ pub(crate) fn share_at(sessions: &[Session], place: usize) -> u64
     )
 }
 
+/// Whether one of them has as much to take as it takes in a cycle.
+fn is_any_full(sessions: &[Session]) -> bool {
+    sessions
+        .iter()
+        .any(|session| session.duty.device().is_full())
+}
+
 /// A turn of each session begins at a moment.
 fn begin_each(sessions: &mut [Session], now: u64)
     ensures { sessions.new ≡ map (turn_begun now) sessions.old }
@@ -89,14 +99,27 @@ impl Sessions {
         begin_each(self.list.as_mut_slice(), now);
     }
 
-    /// Reads what has come, and gives it to whose it is. Whether any was nobody's. Where memory is refused a datagram is lost.
+    /// Reads the socket, and gives what came to the session whose it is, until nothing has come, as much is one session's as it
+    /// takes in a cycle, or 272 datagrams came. Whether any was nobody's. Where memory is refused a datagram is lost.
     pub(crate) fn read(&mut self, alloc: Global, watch: &mut Watch) -> Result<bool, AllocError>
         ensures reads { OnOk result (ReadsSocket (record { sessions = self.old.list.items; socket = self.old.reception; seen = watch.old }) (record { sessions = self.new.list.items; socket = self.new.reception; seen = watch.new })) }
         ensures kept { AllZip IsRouted self.old.list.items self.new.list.items }
         ensures moment { watch.new.moment ≡ watch.old.moment }
     {
-        self.reception
-            .read_all(alloc, self.list.as_mut_slice(), watch)
+        let mut passed = false;
+        for _ in 0..MOST_READ {
+            if is_any_full(self.list.as_slice()) {
+                return Ok(passed);
+            }
+            self.reception.hear(watch);
+            let list = self.list.as_mut_slice();
+            match self.reception.route(alloc, list, watch)? {
+                Read::Nothing => return Ok(passed),
+                Read::Routed => {}
+                Read::Passed => passed = true,
+            }
+        }
+        Ok(passed)
     }
 }
 

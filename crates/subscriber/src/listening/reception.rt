@@ -1,12 +1,12 @@
 //! A subscriber's socket, at the one place where it is read.
 
-ghost use Rattle.std.specs.Prelude.{◌≡◌, ◌<◌, Result, Some, IfNone, IfOk, IfSome, OnOk, length, option_map};
+ghost use Rattle.std.specs.Prelude.{◌≡◌, Result, Some, IfOk, IfSome, OnOk, option_map};
 ghost use Rattle.endpoint.specs.declared.datagrams.DeviceFailed.{DeviceFailed as Failed};
 ghost use Rattle.frames.specs.Frames.{header_of, status_of};
 ghost use Rattle.peer.specs.Peers.{sending_to};
 ghost use Rattle.peer.specs.Ties.{asking};
 ghost use Rattle.subscriber.specs.Receivings.{bringing, caller_given, keeping, offer_given, receiving};
-ghost use Rattle.subscriber.specs.Routing.{IsItsPlace, IsNobodys, ReadsOne, ReadsSocket, Routes, kept_of};
+ghost use Rattle.subscriber.specs.Routing.{Routes, kept_of};
 ghost use Rattle.subscriber.specs.Sessions.{IsRouted};
 ghost use Rattle.subscriber.specs.Watches.{after_call};
 ghost use Rattle.std.specs.List.{AllZip};
@@ -16,16 +16,12 @@ use crate::images::session::Session;
 use crate::images::session_device::RoutedDatagram;
 use crate::listening::first_frame::{FirstFrame, HeardFrame, first_frame};
 use crate::watch::Watch;
-use endpoint::DeviceFailed;
 use frames::{Header, Setup, Status};
 use peer::{Listener, PeerDevice};
 use std::alloc::{AllocError, Global};
 use std::io;
 use std::marker::Model;
 use std::net::SocketAddr;
-
-/// How many datagrams are read in a turn at the most.
-const MOST_READ: u32 = 272;
 
 /// What became of a read.
 #[derive(Clone, Copy, Debug, PartialEq, Eq)]
@@ -56,35 +52,6 @@ impl Model for Reception {
     ghost view = { λ r. record { socket = r.listener; offer = r.offer; later = r.later; caller = r.caller } };
 }
 
-/// Notes whether a call of the socket worked.
-fn note_call(answer: Result<(), DeviceFailed>, watch: &mut Watch)
-    ensures noted { watch.new ≡ after_call answer watch.old }
-    ensures moment { watch.new.moment ≡ watch.old.moment }
-{
-    match answer {
-        Ok(()) => watch.work(),
-        Err(_) => watch.lose(),
-    }
-}
-
-/// Whether one of them has as much to take as it takes in a cycle.
-fn is_any_full(sessions: &[Session]) -> bool {
-    sessions
-        .iter()
-        .any(|session| session.duty.device().is_full())
-}
-
-/// The place of the first whose a datagram is that this one sent, by what stands first in it.
-fn place_of(sessions: &[Session], from: SocketAddr, first: &FirstFrame) -> Option<usize>
-    ensures its { IfSome result (IsItsPlace from first.now sessions.now) }
-    ensures within { IfSome result (λ place. place < length sessions.now) }
-    ensures nobodys { IfNone result (IsNobodys from first.now sessions.now) }
-{
-    sessions
-        .iter()
-        .position(|session| session.duty.device().is_of(from, first))
-}
-
 impl Reception {
     /// Over this socket.
     pub fn new(listener: Listener) -> Reception
@@ -104,7 +71,10 @@ impl Reception {
         ensures noted { (answer : Result (Unit {0}) Failed) × (watch.new ≡ after_call answer watch.old) }
         ensures moment { watch.new.moment ≡ watch.old.moment }
     {
-        note_call(self.listener.hear(), watch);
+        match self.listener.hear() {
+            Ok(()) => watch.work(),
+            Err(_) => watch.lose(),
+        }
     }
 
     /// The datagram that came when it was last asked for one, and who sent it.
@@ -172,7 +142,7 @@ impl Reception {
     }
 
     /// Gives what came to the session whose it is, and else passes it over. Where memory is refused it's lost.
-    fn route(
+    pub(crate) fn route(
         &mut self,
         alloc: Global,
         sessions: &mut [Session],
@@ -186,7 +156,10 @@ impl Reception {
             return Ok(Read::Nothing);
         };
         let first = first_frame(datagram);
-        let Some(place) = place_of(sessions, from, &first) else {
+        let its = sessions
+            .iter()
+            .position(|session| session.duty.device().is_of(from, &first));
+        let Some(place) = its else {
             watch.count_stranger();
             self.keep_first(from, &first);
             return Ok(Read::Passed);
@@ -194,46 +167,5 @@ impl Reception {
         let routed = RoutedDatagram::new(alloc, first, datagram)?;
         sessions[place].duty.device_mut().route(routed)?;
         Ok(Read::Routed)
-    }
-
-    /// Reads the socket once, and gives what came to the session whose it is, or passes it over.
-    fn read_next(
-        &mut self,
-        alloc: Global,
-        sessions: &mut [Session],
-        watch: &mut Watch,
-    ) -> Result<Read, AllocError>
-        ensures reads { OnOk result (ReadsOne (record { sessions = sessions.old; socket = self.old; seen = watch.old }) (record { sessions = sessions.new; socket = self.new; seen = watch.new })) }
-        ensures kept { AllZip IsRouted sessions.old sessions.new }
-        ensures moment { watch.new.moment ≡ watch.old.moment }
-    {
-        self.hear(watch);
-        self.route(alloc, sessions, watch)
-    }
-
-    /// Reads the socket until nothing has come, as much is one session's as it takes in a cycle, or 272 datagrams came. Whether
-    /// any was passed over.
-    pub(crate) fn read_all(
-        &mut self,
-        alloc: Global,
-        sessions: &mut [Session],
-        watch: &mut Watch,
-    ) -> Result<bool, AllocError>
-        ensures reads { OnOk result (ReadsSocket (record { sessions = sessions.old; socket = self.old; seen = watch.old }) (record { sessions = sessions.new; socket = self.new; seen = watch.new })) }
-        ensures kept { AllZip IsRouted sessions.old sessions.new }
-        ensures moment { watch.new.moment ≡ watch.old.moment }
-    {
-        let mut passed = false;
-        for _ in 0..MOST_READ {
-            if is_any_full(sessions) {
-                return Ok(passed);
-            }
-            match self.read_next(alloc, sessions, watch)? {
-                Read::Nothing => return Ok(passed),
-                Read::Routed => {}
-                Read::Passed => passed = true,
-            }
-        }
-        Ok(passed)
     }
 }
