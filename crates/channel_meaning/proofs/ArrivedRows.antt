@@ -27,13 +27,13 @@ use Rattle.peer.specs.Ties.{Tied}
 use Rattle.peer.specs.Watching.{Screens, Takes, Watched, Watching, after_frame, due_of, found_of, screened_of, with_end}
 use Rattle.peer.specs.declared.attendance.Ending.TheVariants.{Whole}
 use Rattle.publisher.specs.Beginnings.{device_of}
-use Rattle.publisher.specs.Destinations.{IsAlong}
+use Rattle.publisher.specs.Destinations.{IsAlong, socket_along}
 use Rattle.publisher.specs.Endings.{heard_along}
 use Rattle.publisher.specs.Farewells.{ends_along}
 use Rattle.publisher.specs.Numbers.{goes_still}
 use Rattle.publisher.specs.Progress.{nothing_seen}
 use Rattle.publisher.specs.Seeing.{ChannelDestination, begun, seen_along}
-use Rattle.publisher.specs.Turns.{Cycles, Turns}
+use Rattle.publisher.specs.Turns.{Cycles, Turns, not_yet as nothing_told}
 use Rattle.publisher.specs.declared.judging.Judged.{Judged}
 use Rattle.publisher.specs.declared.sender_thread.ChannelSender.{ChannelSender}
 use Rattle.publisher.specs.declared.sender_thread.SenderPasses.{SenderPasses}
@@ -179,9 +179,9 @@ was_asked d m is idle handed = let long : length (spelling (SM 0 m)) ≡ 36 = re
 
 -- ---- it has ended
 
-module _ (p : PublishPlan) (route : Route) (socket : Tied) (client : ClientSeen) (keeper : KeeperValue) (taker : TakerSeen) where
+module _ (p : PublishPlan) (route : Route) (client : ClientSeen) (keeper : KeeperValue) (taker : TakerSeen) where
   abbrev destination : ChannelDestination Tied
-  destination = record { device = device_of (planned p) None socket; id = None; peer = route.peer; before = record { nones = 0; lost = 0 }; progress = nothing_seen; silence = None; quiet = false; behind = false; broken = false }
+  destination = record { device = device_of (planned p) None (socket_along (planned p) route); id = None; peer = route.peer; before = record { nones = 0; lost = 0 }; progress = nothing_seen; silence = None; unheard = 0; quiet = false; behind = None; broken = false }
 
   abbrev passes_with : ChannelDestination Tied → SenderPasses (Fanned (ChannelDestination Tied))
   passes_with w = record { client = client; duty = record { device = record { ways = w ∷ []; turn = 0; failures = 0; nones = 0 }; mtu = 1408 }; keeper = keeper; taker = taker }
@@ -190,29 +190,33 @@ module _ (p : PublishPlan) (route : Route) (socket : Tied) (client : ClientSeen)
   sender_with core w = record { agent = record { core = core; asked = false }; passes = passes_with w; peer = route.peer }
 
   along : (number : ℕ) (d : ChannelDestination Tied) → number < 1 → IsAlong (planned p) (route ∷ []) number (slice_index_or (destination ∷ []) number d)
-  along zero d low = record { socket = socket; route = route; stands = refl; is = refl }
+  along zero d low = record { route = route; stands = refl; is = refl }
   along (suc n) d low = absurd (omega (arith, low))
 
   -- its first cycle: the device hears nothing
   abbrev once : ChannelDestination Tied
-  once = seen_along p.linger 0 (begun 0 destination)
+  once = seen_along None p.linger 0 (begun 0 destination)
 
-  cycles_once : Cycles p.linger 0 (sender_with begins destination) (sender_with sent_both once)
+  cycles_once : Cycles None p.linger 0 (sender_with begins destination) (sender_with sent_both once)
   cycles_once = record { moment = first_cycle; between = begun 0 destination ∷ []; lived = (goes_still the_device (attends_still {D = Inner} (λ l. patient_device l.inner.nones) (λ l. ⊥)) (begun 0 destination), tt); seen = refl }
 
   not_yet : (b : Bool) → (b && false) ≡ false
   not_yet true = refl
   not_yet false = refl
 
-  turn : Turns (planned p) false (sender_with begins destination) false (sender_with sent_both once)
+  -- the reading hasn't ended, so no end is told
+  turn : Turns (planned p) nothing_told (sender_with begins destination) nothing_told (sender_with sent_both once)
   turn = record {
     now = 0;
+    stays = tt;
     cycled = sender_with sent_both once;
     cycles = cycles_once;
     beginning = sender_with sent_both once;
     begins = record { begins = false; is = sym (not_yet (nat_le p.wait 0)); begun_is = refl; flow = refl; destinations = refl };
     end = None;
+    due = refl;
     told = refl;
+    ended = refl;
     agent = refl;
   }
 
@@ -227,9 +231,9 @@ module _ (p : PublishPlan) (route : Route) (socket : Tied) (client : ClientSeen)
   heard_both = record { states = hearing before status ∷ after ∷ []; goes = (inr (was_asked before status is_status refl refl), (inr (was_asked (hearing before status) arrival is_arrival refl refl), refl)) }
 
   abbrev twice : ChannelDestination Tied
-  twice = seen_along p.linger 1 (record (begun 128 once) { device = after })
+  twice = seen_along (Some 128) p.linger 1 (record (begun 128 once) { device = after })
 
-  cycles_twice : Cycles p.linger 1 (sender_with sent_both once) (sender_with waits twice)
+  cycles_twice : Cycles (Some 128) p.linger 1 (sender_with sent_both once) (sender_with waits twice)
   cycles_twice = record { moment = second_cycle; between = record (begun 128 once) { device = after } ∷ []; lived = (record { kept = refl; device = heard_both }, tt); seen = refl }
 
   abbrev judged : Judged
@@ -237,7 +241,7 @@ module _ (p : PublishPlan) (route : Route) (socket : Tied) (client : ClientSeen)
 
   -- five times its end
   abbrev told_once : Watched → Watched
-  told_once w = with_end w 128
+  told_once w = with_end w (record { position = 128; broken = false })
 
   abbrev ended : ChannelDestination Tied
   ended = record twice { device = record twice.device { watch = told_once (told_once (told_once (told_once (told_once twice.device.watch)))) } }
@@ -256,8 +260,7 @@ module _ (p : PublishPlan) (route : Route) (socket : Tied) (client : ClientSeen)
         noted = record {
           last = sender_with waits twice;
           judged = judged;
-          ends = record { count = 1; begun = false; before = sender_with sent_both once; turns = (false, sender_with begins destination, (refl, refl), turn); now = 1; cycles = cycles_twice; is = refl; why = (0, refl) };
-          end = Some 128;
+          ends = record { count = 1; going = nothing_told; before = sender_with sent_both once; turns = (nothing_told, sender_with begins destination, (refl, refl), turn); now = 1; stays = tt; cycles = cycles_twice; is = refl; why = (0, refl) };
           after = ended ∷ [];
           farewell = refl;
           heard_are = refl;

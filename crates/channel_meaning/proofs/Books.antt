@@ -1,5 +1,5 @@
 -- Claims that weigh what a tiling weighs, and stand in order, are a tiling; so what a publisher has claimed is a stream.
-use Rattle.std.proofs.Common.{◌≡◌, ◌∙◌, ℕ, ◌+◌, ◌-◌, ◌*◌, ◌/◌, ◌%◌, ◌≤◌, List, [], ◌∷◌, ◌++◌, map, Option, refl, sym, ap, subst, arith}
+use Rattle.std.proofs.Common.{◌≡◌, ◌∙◌, ℕ, ◌+◌, ◌-◌, ◌*◌, ◌/◌, ◌%◌, ◌≤◌, List, [], ◌∷◌, ◌++◌, length, map, Option, refl, sym, ap, subst, arith}
 use Rattle.std.specs.Prelude.{⊤}
 use Rattle.std.specs.List.{AllByRecursion, flat_map}
 use Rattle.theory.specs.Bytes.{Identity}
@@ -30,6 +30,7 @@ use Rattle.sender.specs.Sending.{Sending, begun}
 use Rattle.receiver.specs.Lives.{IsStream, Stream}
 use Rattle.sender_meaning.specs.Lives.{IsSpelled, SendsStream, source_in}
 use Rattle.sender_meaning.specs.StreamLives.{StreamGivesHonest}
+use Rattle.endpoint.specs.declared.udp.Route.{Route}
 use Rattle.options.specs.declared.ends.plans.PublishPlan.{PublishPlan}
 use Rattle.publisher.specs.Offers.{Publishes, Taken, claim_of, frames_in}
 use Rattle.publisher.specs.Offers.Taken.{Message, Padding}
@@ -224,7 +225,7 @@ sends_from_start {F} flow l s tail es start made =
     }
 
 pub publishes_all_of_it : PublishesAllOfIt
-publishes_all_of_it p n given all =
+publishes_all_of_it p routes given all =
     let published = all.ends.publishes.publishes in record {
       stream = is_stream all.log all.first all.last _ _ all.others all.book all.opened published all.others_are.unclaimed all.shows;
       its = is_its all.log all.first all.last _ _ all.others all.book all.opened published all.others_are.unclaimed all.shows;
@@ -232,20 +233,20 @@ publishes_all_of_it p n given all =
     }
 
 -- its sender sends that stream
-sends_it : (p : PublishPlan) (n : ℕ) (given : Option (List ℕ)) (all : PublishesAll p n given) → SendsStream (stream_in all) all.sends.first
-sends_it p n given all = sends_from_start _ all.log all.sends.first all.book.tail (entries_in all) all.sends.start all.sends.begun.made
+sends_it : (p : PublishPlan) (routes : List Route) (given : Option (List ℕ)) (all : PublishesAll p routes given) → SendsStream (stream_in all) all.sends.first
+sends_it p routes given all = sends_from_start _ all.log all.sends.first all.book.tail (entries_in all) all.sends.start all.sends.begun.made
 
 -- and knew no other frames
-known_of_it : (p : PublishPlan) (n : ℕ) (given : Option (List ℕ)) (all : PublishesAll p n given) → IsSpelled (stream_in all) → AllAmong (committed (entries_in all)) (source_in all.sends.last.reads).frames
-known_of_it p n given all spelled =
+known_of_it : (p : PublishPlan) (routes : List Route) (given : Option (List ℕ)) (all : PublishesAll p routes given) → IsSpelled (stream_in all) → AllAmong (committed (entries_in all)) (source_in all.sends.last.reads).frames
+known_of_it p routes given all spelled =
     known_in all.log all.first all.last _ _ all.others all.book all.opened all.ends.publishes.publishes all.others_are.unclaimed all.shows (known_of all.sends.last.reads.reader) spelled all.sends.known
 
 pub gives_all_honest : PublishesAllOfIt → StreamGivesHonest → GivesAllHonest
-gives_all_honest law honest p n given all spelled =
-    (honest (stream_in all) (law p n given all).stream spelled n all.sends.first all.sends.last all.sends.lived.acts (sends_it p n given all) all.sends.lived.lives (known_of_it p n given all spelled)).0
+gives_all_honest law honest p routes given all spelled =
+    (honest (stream_in all) (law p routes given all).stream spelled (length routes) all.sends.first all.sends.last all.sends.lived.acts (sends_it p routes given all) all.sends.lived.lives (known_of_it p routes given all spelled)).0
 
 pub writes_all_of_it : PublishesAllOfIt → WritesWhatIsRead → WritesAllOfIt
-writes_all_of_it law writes p n given all spelled plan place before after count w from =
-    let is = law p n given all in
+writes_all_of_it law writes p routes given all spelled plan place before after count w from =
+    let is = law p routes given all in
     writes (stream_in all) is.stream spelled all.first.pass all.last.pass all.log.start all.reading.offered.tail all.ends.publishes.messages all.ends.publishes.publishes is.its
-    n all.sends.first all.sends.last all.sends.lived.acts (sends_it p n given all) all.sends.lived.lives (known_of_it p n given all spelled) plan place before after count w from
+    (length routes) all.sends.first all.sends.last all.sends.lived.acts (sends_it p routes given all) all.sends.lived.lives (known_of_it p routes given all spelled) plan place before after count w from

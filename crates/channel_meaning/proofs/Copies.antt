@@ -13,6 +13,7 @@ use Rattle.receiver.specs.Lives as meant
 use Rattle.receiver.specs.Receiving.{Opened}
 use Rattle.receiver.specs.Lives.{IsRunOf, Stream}
 use Rattle.endpoint.specs.Fans.{Fanned}
+use Rattle.endpoint.specs.declared.udp.Route.{Route}
 use Rattle.options.specs.declared.ends.plans.PublishPlan.{PublishPlan}
 use Rattle.options.specs.declared.ends.plans.SubscribePlan.{SubscribePlan}
 use Rattle.peer.specs.Ties.{Tied}
@@ -99,30 +100,30 @@ ended_all : (r : Reading) (n : ℕ) (heard : List Attendance) → 0 < n → leng
 ended_all r n [] some many all = absurd (omega (arith, some, many))
 ended_all r n (a ∷ rest) some many all = all.0.all
 
-all_ended : (p : PublishPlan) (n : ℕ) (given : Option (List ℕ)) (all : PublishesAll p n given) → all.reading.ended ≡ Ok All
-all_ended p n given all =
+all_ended : (p : PublishPlan) (routes : List Route) (given : Option (List ℕ)) (all : PublishesAll p routes given) → all.reading.ended ≡ Ok All
+all_ended p routes given all =
     let arrived = all.arrived.2 in
-    let many : length all.heard ≡ n = arrived.noted.many ∙ ap (λ (s : SenderPasses (Fanned (ChannelDestination Tied))). length s.duty.device.ways) all.arrived.1.passes_are ∙ all.destinations_are.many ∙ all.many in
-    ended_all all.reading n all.heard all.some many arrived.arrived
+    let many : length all.heard ≡ length routes = arrived.noted.many ∙ ap (λ (s : SenderPasses (Fanned (ChannelDestination Tied))). length s.duty.device.ways) all.arrived.1.passes_are ∙ all.destinations_are.many in
+    ended_all all.reading (length routes) all.heard all.some many arrived.arrived
 
 -- of one image, which has given as many as were read
-pub gave_all : (p : PublishPlan) (n : ℕ) (input : List ℕ) (all : PublishesAll p n (Some input)) (plan : SubscribePlan) (l : Life) → GoesThrough (stream_in all) all.ends.publishes.messages plan (l ∷ [])
+pub gave_all : (p : PublishPlan) (routes : List Route) (input : List ℕ) (all : PublishesAll p routes (Some input)) (plan : SubscribePlan) (l : Life) → GoesThrough (stream_in all) all.ends.publishes.messages plan (l ∷ [])
     → all.reading.offered.messages ≤ length (meant.given_in l.acts) → meant.given_in l.acts ≡ all.ends.publishes.messages
-gave_all p n input all plan l through many =
+gave_all p routes input all plan l through many =
     let run = through.runs.0 in
     let all_read : all.reading.offered.messages ≡ length all.ends.publishes.messages = all.ends.publishes.counted in
     all_given (stream_in all) all.ends.publishes.messages run.receiver.image (meant.given_in l.acts) run.stands (omega (arith, many, all_read))
 
 -- and whose messages, spelled, are this
-pub copies_of_one : (p : PublishPlan) (n : ℕ) (input : List ℕ) (all : PublishesAll p n (Some input)) (plan : SubscribePlan) (l : Life) (output : List ℕ) → GoesThrough (stream_in all) all.ends.publishes.messages plan (l ∷ [])
-    → all.reading.offered.messages ≤ length (meant.given_in l.acts) → output ≡ spelling plan.end.form (meant.given_in l.acts) → CopiesAll p n input all plan l output
-copies_of_one p n input all plan l output through many wrote =
+pub copies_of_one : (p : PublishPlan) (routes : List Route) (input : List ℕ) (all : PublishesAll p routes (Some input)) (plan : SubscribePlan) (l : Life) (output : List ℕ) → GoesThrough (stream_in all) all.ends.publishes.messages plan (l ∷ [])
+    → all.reading.offered.messages ≤ length (meant.given_in l.acts) → output ≡ spelling plan.end.form (meant.given_in l.acts) → CopiesAll p routes input all plan l output
+copies_of_one p routes input all plan l output through many wrote =
     let x = stream_in all in
     let read = all.ends.publishes.messages in
     let run = through.runs.0 in
-    let gave : meant.given_in l.acts ≡ read = gave_all p n input all plan l through many in
+    let gave : meant.given_in l.acts ≡ read = gave_all p routes input all plan l through many in
     let is : output ≡ spelling plan.end.form read = wrote ∙ ap (spelling plan.end.form) gave in
-    let stops = subst (λ (e : Result ReadingEnd ReadingFault). Stops p.end.form (max_message all.log.identity.geometry) (length read) all.ends.publishes.between all.new all.ends.publishes.behind all.last.pass e) (all_ended p n (Some input) all) all.ends.publishes.stops in
+    let stops = subst (λ (e : Result ReadingEnd ReadingFault). Stops p.end.form (max_message all.log.identity.geometry) (length read) all.ends.publishes.between all.new all.ends.publishes.behind all.last.pass e) (all_ended p routes (Some input) all) all.ends.publishes.stops in
     record {
       published = through.published;
       end = run.end;
@@ -135,11 +136,11 @@ copies_of_one p n input all plan l output through many wrote =
     }
 
 pub copies_all_of_it : WritesAllOfIt → CopiesAllOfIt
-copies_all_of_it law p n input all spelled plan place output count w l one from many =
+copies_all_of_it law p routes input all spelled plan place output count w l one from many =
     let x = stream_in all in
     let each : AllByRecursion (IsFromIt x (given_out all)) w.images = subst (AllByRecursion (IsFromIt x (given_out all))) (sym one) (from, tt) in
-    let through = law p n (Some input) all spelled plan place (Some []) (Some output) count w each in
+    let through = law p routes (Some input) all spelled plan place (Some []) (Some output) count w each in
     let alone : GoesThrough x all.ends.publishes.messages plan (l ∷ []) = subst (GoesThrough x all.ends.publishes.messages plan) one through in
     let given : given_through w.images ≡ meant.given_in l.acts = ap given_through one in
     let counted : count ≡ length (meant.given_in l.acts) = w.counted ∙ ap length given in
-    copies_of_one p n input all plan l output alone (omega (arith, many, counted)) (w.written ∙ ap (spelling plan.end.form) given)
+    copies_of_one p routes input all plan l output alone (omega (arith, many, counted)) (w.written ∙ ap (spelling plan.end.form) given)

@@ -8,6 +8,7 @@ use Rattle.theory.specs.Placed.{Among}
 use Rattle.theory.proofs.Rows.{abc}
 use Rattle.messages.specs.Forms.{spelling}
 use Rattle.messages.specs.declared.form.Form.TheVariants.{Blocks, Lines}
+use Rattle.endpoint.specs.declared.udp.Route.{Route}
 use Rattle.options.specs.declared.ends.plans.PublishPlan.{PublishPlan}
 use Rattle.options.specs.declared.ends.plans.SubscribePlan.{SubscribePlan}
 use Rattle.receiver.specs.Lives as meant
@@ -34,33 +35,33 @@ published law = law first.pass last.pass 0 128 (abc ∷ ab ∷ []) publishes two
 its_stream : (p : PublishPlan) (a : HasArrivedThere p) → stream_in (ended_whole p a) ≡ two
 its_stream p a = refl
 
-all_of_it : (p : PublishPlan) (a : HasArrivedThere p) → PublishesAllOfIt → IsAllOfIt (planned p) 1 (Some input) (ended_whole p a)
-all_of_it p a law = law (planned p) 1 (Some input) (ended_whole p a)
+all_of_it : (p : PublishPlan) (a : HasArrivedThere p) → PublishesAllOfIt → IsAllOfIt (planned p) (a.route ∷ []) (Some input) (ended_whole p a)
+all_of_it p a law = law (planned p) (a.route ∷ []) (Some input) (ended_whole p a)
 
 honest_all : (p : PublishPlan) (a : HasArrivedThere p) → GivesAllHonest → AllByRecursion (IsHonest two) (setup_bytes ∷ data_bytes ∷ [])
-honest_all p a law = law (planned p) 1 (Some input) (ended_whole p a) spelled
+honest_all p a law = law (planned p) (a.route ∷ []) (Some input) (ended_whole p a) spelled
 
 goes_through : (plan : SubscribePlan) → WritesWhatIsRead → GoesThrough two (abc ∷ ab ∷ []) (subscribed plan) (life ∷ [])
 goes_through plan law = law two is_stream spelled first.pass last.pass 0 128 (abc ∷ ab ∷ []) publishes its 1 begins has_sent acts sends lives knows (subscribed plan) 0 (Some []) (Some input) 2 (writes plan) (from_it, tt)
 
 all_goes_through : (p : PublishPlan) (a : HasArrivedThere p) (plan : SubscribePlan) → WritesAllOfIt → GoesThrough two (abc ∷ ab ∷ []) (subscribed plan) (life ∷ [])
-all_goes_through p a plan law = law (planned p) 1 (Some input) (ended_whole p a) spelled (subscribed plan) 0 (Some []) (Some input) 2 (writes plan) (from_it, tt)
+all_goes_through p a plan law = law (planned p) (a.route ∷ []) (Some input) (ended_whole p a) spelled (subscribed plan) 0 (Some []) (Some input) 2 (writes plan) (from_it, tt)
 
-copies : (p : PublishPlan) (a : HasArrivedThere p) (plan : SubscribePlan) → CopiesAllOfIt → CopiesAll (planned p) 1 input (ended_whole p a) (subscribed plan) life input
-copies p a plan law = law (planned p) 1 input (ended_whole p a) spelled (subscribed plan) 0 input 2 (writes plan) life refl from_it (omega arith)
+copies : (p : PublishPlan) (a : HasArrivedThere p) (plan : SubscribePlan) → CopiesAllOfIt → CopiesAll (planned p) (a.route ∷ []) input (ended_whole p a) (subscribed plan) life input
+copies p a plan law = law (planned p) (a.route ∷ []) input (ended_whole p a) spelled (subscribed plan) 0 input 2 (writes plan) life refl from_it (omega arith)
 
 -- of the second of two places
 goes_through_second : (p : PublishPlan) (a : HasArrivedThere p) (plan : SubscribePlan) → WritesAllAtEachPlace → GoesThroughAt two (abc ∷ ab ∷ []) (subscribed_to_two plan) 1 given_second (second_life ∷ [])
-goes_through_second p a plan law = law (planned p) 1 (Some input) (ended_whole p a) spelled (subscribed_to_two plan) (Some []) (Some input) 2 (writes_second plan) 1 (second_life ∷ []) refl (second_from_it, tt)
+goes_through_second p a plan law = law (planned p) (a.route ∷ []) (Some input) (ended_whole p a) spelled (subscribed_to_two plan) (Some []) (Some input) 2 (writes_second plan) 1 (second_life ∷ []) refl (second_from_it, tt)
 
-copies_second : (p : PublishPlan) (a : HasArrivedThere p) (plan : SubscribePlan) → CopiesAllAtEachPlace → CopiesAllAt (planned p) 1 input (ended_whole p a) (subscribed_to_two plan) 1 given_second second_life
-copies_second p a plan law = law (planned p) 1 input (ended_whole p a) spelled (subscribed_to_two plan) (Some []) (Some input) 2 (writes_second plan) 1 second_life refl second_from_it (omega arith)
+copies_second : (p : PublishPlan) (a : HasArrivedThere p) (plan : SubscribePlan) → CopiesAllAtEachPlace → CopiesAllAt (planned p) (a.route ∷ []) input (ended_whole p a) (subscribed_to_two plan) 1 given_second second_life
+copies_second p a plan law = law (planned p) (a.route ∷ []) input (ended_whole p a) spelled (subscribed_to_two plan) (Some []) (Some input) 2 (writes_second plan) 1 second_life refl second_from_it (omega arith)
 
 -- ---- what they say of any stream
 
-all_in_full : (p : PublishPlan) (n : ℕ) (given : Option (List ℕ)) (all : PublishesAll p n given) → IsAllOfIt p n given all
+all_in_full : (p : PublishPlan) (routes : List Route) (given : Option (List ℕ)) (all : PublishesAll p routes given) → IsAllOfIt p routes given all
     → IsStream (stream_in all) × IsItsStream all.first.pass all.ends.publishes.publishes.taken (stream_in all) × (messages all.log.start all.book.tail (entries_in all) ≡ all.ends.publishes.messages)
-all_in_full p n given all is = (is.stream, is.its, is.are)
+all_in_full p routes given all is = (is.stream, is.its, is.are)
 
 through_in_full : (x : Stream) (read : List (List ℕ)) (plan : SubscribePlan) (images : List Life) → GoesThrough x read plan images → (messages x.start x.tail x.entries ≡ read) × AllByRecursion (GivesRun x read plan) images
 through_in_full x read plan images through = (through.published, through.runs)
@@ -69,20 +70,20 @@ run_in_full : (x : Stream) (read : List (List ℕ)) (plan : SubscribePlan) (l : 
     → (t : Subscribing) × IsLife plan l t × (r : Receiver) × RepresentsSubscriber t r × IsRunOf x r.image (meant.given_in l.acts) × StandsFrom x read r.image (meant.given_in l.acts)
 run_in_full x read plan l run = (run.end, run.life, run.receiver, run.shown, run.run, run.stands)
 
-copy_in_full : (p : PublishPlan) (n : ℕ) (given : List ℕ) (all : PublishesAll p n (Some given)) (plan : SubscribePlan) (l : Life) (output : List ℕ) → CopiesAll p n given all plan l output
+copy_in_full : (p : PublishPlan) (routes : List Route) (given : List ℕ) (all : PublishesAll p routes (Some given)) (plan : SubscribePlan) (l : Life) (output : List ℕ) → CopiesAll p routes given all plan l output
     → (messages all.log.start all.book.tail (entries_in all) ≡ all.ends.publishes.messages)
     × ((t : Subscribing) × IsLife plan l t × (r : Receiver) × RepresentsSubscriber t r × IsRunOf (stream_in all) r.image all.ends.publishes.messages)
     × (output ≡ spelling plan.end.form all.ends.publishes.messages)
     × (plan.end.form ≡ p.end.form → IsCopy p.end.form given output)
-copy_in_full p n given all plan l output copy = (copy.published, (copy.end, copy.life, copy.receiver, copy.shown, copy.run), copy.spelled, copy.copy)
+copy_in_full p routes given all plan l output copy = (copy.published, (copy.end, copy.life, copy.receiver, copy.shown, copy.run), copy.spelled, copy.copy)
 
 place_in_full : (x : Stream) (read : List (List ℕ)) (plan : SubscribePlan) (place : ℕ) (given : List Given) (images : List Life) → GoesThroughAt x read plan place given images
     → (of_place place given ≡ given_through images) × GoesThrough x read plan images
 place_in_full x read plan place given images at = (at.gave, at.through)
 
-place_copies_in_full : (p : PublishPlan) (n : ℕ) (read : List ℕ) (all : PublishesAll p n (Some read)) (plan : SubscribePlan) (place : ℕ) (given : List Given) (l : Life) → CopiesAllAt p n read all plan place given l
-    → (of_place place given ≡ all.ends.publishes.messages) × CopiesAll p n read all plan l (spelling plan.end.form (of_place place given))
-place_copies_in_full p n read all plan place given l at = (at.gave, at.copies)
+place_copies_in_full : (p : PublishPlan) (routes : List Route) (read : List ℕ) (all : PublishesAll p routes (Some read)) (plan : SubscribePlan) (place : ℕ) (given : List Given) (l : Life) → CopiesAllAt p routes read all plan place given l
+    → (of_place place given ≡ all.ends.publishes.messages) × CopiesAll p routes read all plan l (spelling plan.end.form (of_place place given))
+place_copies_in_full p routes read all plan place given l at = (at.gave, at.copies)
 
 -- ---- what an image may have given
 

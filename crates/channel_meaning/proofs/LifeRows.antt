@@ -2,6 +2,7 @@
 -- stream, and gives both messages, which it writes.
 use Rattle.std.specs.Prelude.{◌≡◌, ℕ, pos, negsuc, true, false, Bool, List, [], ◌∷◌, map, Option, None, Some, Ok}
 use Rattle.std.proofs.Common.{arith, ap, inl, inr, refl, sym, subst, ◌∙◌}
+use Rattle.peer.specs.Farewells.{ttl_of}
 use Rattle.theory.specs.Assembly.{Assembly}
 use Rattle.theory.specs.Bytes.{wire_at}
 use Rattle.theory.specs.Consumer.{Consumer, moved, passed_by}
@@ -246,7 +247,7 @@ life = record { setup = setup; opening = record { session = pos 1; geometry = th
 pub is_life : (plan : SubscribePlan) → IsLife (subscribed plan) life ended
 is_life plan = record {
   opens = record {
-    admitted = record { session = tt; stream = refl; short = omega arith; ongoing = λ end told. no told.farewell.told };
+    admitted = record { session = tt; stream = refl; short = omega arith; ongoing = λ end told. no end.broken told.farewell.told };
     session = refl;
     at = opens_at;
   };
@@ -256,8 +257,9 @@ is_life plan = record {
   lacks = tt;
 }
   where
-    no : pos 0 ≡ negsuc 0 → ⊥
-    no e = absurd (cc)
+    no : (broken : Bool) → pos 0 ≡ ttl_of broken → ⊥
+    no false e = absurd (cc)
+    no true e = absurd (cc)
 
 abbrev pub writes : (plan : SubscribePlan) → WritesLives (subscribed plan) 0 (Some []) 2 (Some input)
 writes plan = record { images = life ∷ []; lives = (ended, is_life plan, refl, tt); counted = refl; written = refl }

@@ -1,6 +1,6 @@
 -- The sender of the small world: at its first moment it gives out a SETUP, a status message is heard, and at a later moment it gives
 -- out both frames, and finds none behind them. So its publisher has ended whole.
-use Rattle.std.specs.Prelude.{◌≡◌, ℕ, pos, true, false, List, [], ◌∷◌, ◌++◌, map, Option, Some}
+use Rattle.std.specs.Prelude.{◌≡◌, ◌<◌, ℕ, pos, true, false, List, [], ◌∷◌, ◌++◌, map, Option, Some}
 use Rattle.std.specs.List.{flat_map}
 use Rattle.std.proofs.Common.{arith, ap, inl, inr, refl}
 use Rattle.theory.specs.Bytes.{bytes_of}
@@ -35,7 +35,7 @@ use Rattle.peer.specs.declared.attended.ToldEnds.{ToldEnds}
 use Rattle.publisher.specs.Destinations.{AreDestinationsAlong}
 use Rattle.publisher.specs.Ended.{ArrivesAt, PublishesAll}
 use Rattle.publisher.specs.Farewells.{are_told_alone}
-use Rattle.publisher.specs.Judging.{end_in}
+use Rattle.publisher.specs.Judging.{stream_end_in}
 use Rattle.publisher.specs.Seeing.{ChannelDestination}
 use Rattle.publisher.specs.declared.sender_thread.SenderPasses.{SenderPasses}
 use Rattle.channel_meaning.proofs.WorldRows.{book, ends_input, first, input, is_of_other, last, log, other, planned, reading, place, shows, taken}
@@ -202,9 +202,9 @@ pub record HasArrivedThere (p : PublishPlan) : Type 0 where
   pub heard : List Attendance
   pub told : List (Option ToldEnds)
   pub arrived : ArrivesAt log passes route.peer (planned p) (Some reading) heard told
-  pub alone : are_told_alone (planned p).geometry (end_in (Some reading)) told ≡ true
+  pub alone : are_told_alone (planned p).geometry (stream_end_in (Some reading)) told ≡ true
 
-abbrev pub ended_whole : (p : PublishPlan) → HasArrivedThere p → PublishesAll (planned p) 1 (Some input)
+abbrev pub ended_whole : (p : PublishPlan) (a : HasArrivedThere p) → PublishesAll (planned p) (a.route ∷ []) (Some input)
 ended_whole p a = record {
   log = log;
   log_is = record { identity = refl; start = refl; consumers = refl };
@@ -214,9 +214,7 @@ ended_whole p a = record {
   last = last;
   reading = reading;
   ends = ends_input;
-  some = omega arith;
-  routes = a.route ∷ [];
-  many = refl;
+  some = (let one : 0 < 1 = omega arith in one);
   passes = a.passes;
   destinations_are = a.along;
   peer = a.route.peer;

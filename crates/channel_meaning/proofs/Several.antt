@@ -3,6 +3,7 @@ use Rattle.std.proofs.Common.{◌≡◌, ◌∙◌, ◌+◌, ◌≤◌, ℕ, zer
 use Rattle.std.specs.Prelude.{slice_get}
 use Rattle.std.specs.List.{AllByRecursion}
 use Rattle.messages.specs.Forms.{spelling}
+use Rattle.endpoint.specs.declared.udp.Route.{Route}
 use Rattle.options.specs.declared.ends.plans.PublishPlan.{PublishPlan}
 use Rattle.options.specs.declared.ends.plans.SubscribePlan.{SubscribePlan}
 use Rattle.sender_meaning.specs.Lives.{IsSpelled}
@@ -29,29 +30,29 @@ at_place plan places first (suc place) given (own ∷ lives) images is each =
     (at_place plan places (first + 1) place given lives images is each.3)
 
 -- and where they were handed nothing else, these are runs of what was read
-goes_at : WritesAllOfIt → (p : PublishPlan) (n : ℕ) (given : Option (List ℕ)) (all : PublishesAll p n given) → IsSpelled (stream_in all)
+goes_at : WritesAllOfIt → (p : PublishPlan) (routes : List Route) (given : Option (List ℕ)) (all : PublishesAll p routes given) → IsSpelled (stream_in all)
     → (plan : SubscribePlan) (before after : Option (List ℕ)) (count : ℕ) (w : WritesPlaces plan before count after) (place : ℕ) (images : List Life)
     → slice_get w.lives place ≡ Some images → AllByRecursion (IsFromIt (stream_in all) (given_out all)) images
     → (of_place place w.given ≡ given_through images) × GoesThrough (stream_in all) all.ends.publishes.messages plan images
-goes_at law p n given all spelled plan before after count w place images is from =
+goes_at law p routes given all spelled plan before after count w place images is from =
     let own = at_place plan (length w.lives) 0 place w.given w.lives images is w.each in
     let here : 0 + place ≡ place = omega arith in
     let lives : AreLives plan place images = subst (λ k. AreLives plan k images) here own.0 in
     let messages : List (List ℕ) = given_through images in (
       subst (λ k. of_place k w.given ≡ messages) here own.1,
-      law p n given all spelled plan place (Some []) (Some (spelling plan.end.form messages)) (length messages) (record { images = images; lives = lives; counted = refl; written = refl }) from,
+      law p routes given all spelled plan place (Some []) (Some (spelling plan.end.form messages)) (length messages) (record { images = images; lives = lives; counted = refl; written = refl }) from,
     )
 
 pub writes_all_at_each_place : WritesAllOfIt → WritesAllAtEachPlace
-writes_all_at_each_place law p n given all spelled plan before after count w place images is from =
-    let at = goes_at law p n given all spelled plan before after count w place images is from in
+writes_all_at_each_place law p routes given all spelled plan before after count w place images is from =
+    let at = goes_at law p routes given all spelled plan before after count w place images is from in
     record { gave = at.0; through = at.1 }
 
 pub copies_all_at_each_place : WritesAllOfIt → CopiesAllAtEachPlace
-copies_all_at_each_place law p n input all spelled plan before after count w place l is from many =
-    let at = goes_at law p n (Some input) all spelled plan before after count w place (l ∷ []) is (from, tt) in
+copies_all_at_each_place law p routes input all spelled plan before after count w place l is from many =
+    let at = goes_at law p routes (Some input) all spelled plan before after count w place (l ∷ []) is (from, tt) in
     let enough : all.reading.offered.messages ≤ length (given_through (l ∷ [])) = subst (λ (ms : List (List ℕ)). all.reading.offered.messages ≤ length ms) at.0 many in
     record {
-      gave = at.0 ∙ gave_all p n input all plan l at.1 enough;
-      copies = copies_of_one p n input all plan l (spelling plan.end.form (of_place place w.given)) at.1 enough (ap (spelling plan.end.form) at.0);
+      gave = at.0 ∙ gave_all p routes input all plan l at.1 enough;
+      copies = copies_of_one p routes input all plan l (spelling plan.end.form (of_place place w.given)) at.1 enough (ap (spelling plan.end.form) at.0);
     }

@@ -4,6 +4,7 @@ use Rattle.theory.specs.Messages.{messages}
 use Rattle.messages.specs.Forms.{spelling}
 use Rattle.messages.specs.declared.form.Form.{Form}
 use Rattle.messages.specs.declared.form.Form.TheVariants.{Lines, Blocks}
+use Rattle.endpoint.specs.declared.udp.Route.{Route}
 use Rattle.options.specs.declared.ends.plans.PublishPlan.{PublishPlan}
 use Rattle.options.specs.declared.ends.plans.SubscribePlan.{SubscribePlan}
 use Rattle.receiver.specs.Lives.{IsRunOf}
@@ -22,7 +23,7 @@ IsCopy Blocks input output = output ≡ input
 
 -- the messages of the stream are those that were read, one image has given all of them, from where it joined to where its consumer
 -- stands, and the output is their spelling; in the form in which they were read it is a copy of the input
-pub record CopiesAll (p : PublishPlan) (destinations : ℕ) (input : List ℕ) (all : PublishesAll p destinations (Some input)) (plan : SubscribePlan) (l : Life) (output : List ℕ) : Type 0 where
+pub record CopiesAll (p : PublishPlan) (routes : List Route) (input : List ℕ) (all : PublishesAll p routes (Some input)) (plan : SubscribePlan) (l : Life) (output : List ℕ) : Type 0 where
   pub published : messages all.log.start all.book.tail (entries_in all) ≡ all.ends.publishes.messages
   pub end : Subscribing
   pub life : IsLife plan l end
@@ -37,6 +38,6 @@ pub record CopiesAll (p : PublishPlan) (destinations : ℕ) (input : List ℕ) (
 -- many messages as were read
 abbrev pub CopiesAllOfIt : Type 0
 CopiesAllOfIt =
-    (p : PublishPlan) (destinations : ℕ) (input : List ℕ) (all : PublishesAll p destinations (Some input)) → IsSpelled (stream_in all)
+    (p : PublishPlan) (routes : List Route) (input : List ℕ) (all : PublishesAll p routes (Some input)) → IsSpelled (stream_in all)
     → (plan : SubscribePlan) (place : ℕ) (output : List ℕ) (count : ℕ) (w : WritesLives plan place (Some []) count (Some output)) (l : Life) → w.images ≡ l ∷ [] → IsFromIt (stream_in all) (given_out all) l
-    → all.reading.offered.messages ≤ count → CopiesAll p destinations input all plan l output
+    → all.reading.offered.messages ≤ count → CopiesAll p routes input all plan l output

@@ -40,9 +40,9 @@ PublishesItsStream =
 
 -- ---- both ends
 
--- the stream's farewell, which tells where it ends
+-- the stream's farewell, which tells where it ends, whole
 abbrev pub farewell : Stream → List ℕ
-farewell x = spelling (SETUP (farewell_fields (record { geometry = x.identity.geometry; session = x.identity.session; stream = x.identity.stream }) x.tail))
+farewell x = spelling (SETUP (farewell_fields (record { geometry = x.identity.geometry; session = x.identity.session; stream = x.identity.stream }) (record { position = x.tail; broken = false })))
 
 -- this image's SETUP is among these datagrams, and so is all that its subscriber was handed, but for the farewell, in any order, and
 -- each any number of times

@@ -7,3 +7,4 @@ pub mod Numbers
 pub mod Lines
 pub mod Refusals
 pub mod Readers
+pub mod Descriptors

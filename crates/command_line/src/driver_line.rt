@@ -1,6 +1,6 @@
 //! A line of `sim`, `decode` or `run`.
 
-ghost use Rattle.std.specs.Prelude.{◌≡◌, ◌≢◌, ℕ, List, [], codes, false, map, IfOk, IfErr, OnOk, Err, MatchResult};
+ghost use Rattle.std.specs.Prelude.{◌≡◌, ℕ, List, [], codes, false, map, IfOk, IfErr, OnOk, Err, MatchResult};
 ghost use Rattle.clap.specs.declared.builder.command.Command.TheViews.{out-Command};
 ghost use Rattle.clap.specs.Words.{App, IsAmong, app_of, fault_of as clap_faults, kind_of, new_app, with_rule, with_subcommand};
 ghost use Rattle.command_line.specs.CommandLines.{AsksFor, AsksForBareRun, AsksForDecode, AsksForSim, IsRunByDefault, bare_app, driver_app, hex_rule};
@@ -80,7 +80,7 @@ To try it and to look inside:
 
 Options:
   -h, --help     Print this help
-  -V, --version  Print the version, and the kit that it is proved with
+  -V, --version  Print the version, and the kit that it is written for
 
 The help of a command is printed by help COMMAND or COMMAND --help.
 
@@ -88,7 +88,7 @@ Exit status:
   0  done
   1  an error, told in one line; also a run's term, MTU, length or rates out of their bounds
   2  the command line is refused
-  3  a run whose turns were used up, or an end of a channel that gave up";
+  3  a run whose turns were used up, a publisher that gave up, or a subscriber whose stream was cut off";
 
 /// The program's command without those below it. A line without words gets the help, and is refused.
 fn bare_command<'a>(alloc: Global) -> Result<Command<'a>, AllocError>

@@ -12,7 +12,8 @@
 //! number in its range, as it was spelled or as it is where nothing is said, and the flags (`publish_options`,
 //! `subscribe_options`, by `IsPublishOf` and `IsSubscribeOf`). It is taken only where the parser's own contract holds
 //! nothing against the words; what is shown otherwise has a kind of those that it holds (`IsFaultOf`). Of texts no
-//! contract speaks but of the one that memory was refused. Who reads a line is said exactly (`line_reader`).
+//! contract speaks but of the one that memory was refused. Who reads a line is said exactly (`line_reader`), and so is which
+//! standard descriptor that is closed it can't do without (`lacking`).
 //!
 //! A command has the options of a row more, each with its range, or a flag more; the number that is found is the one
 //! that was spelled, in its range, or the option's default (`with_numbers`, `with_flag`, `number_of`, `flag_of`, by
@@ -20,6 +21,7 @@
 #![tactic(auto)]
 
 mod choice;
+mod descriptors;
 mod driver_line;
 mod end_line;
 mod fault;
@@ -36,6 +38,7 @@ mod subscribe_line;
 mod valued;
 
 pub use choice::Options;
+pub use descriptors::{Closed, Descriptor, lacking};
 pub use driver_line::options;
 pub use fault::LineFault;
 pub use network::{LOSS, SEED};

@@ -66,10 +66,11 @@ Counters, on standard error (with --to a line for each endpoint):
   refused      how many datagrams that came were no frame, by what was wrong with them
 
 Exit status:
-  0  one subscriber has written all, from the first message to the last; at each endpoint one
+  0  each endpoint, the channel's and those of --to, has acknowledged everything: at each one subscriber
+     has written all, from the first message to the last
   1  an error, told in one line
   2  the command line, the channel, an endpoint or the rates are refused
-  3  it gave up, or all was written but not by one subscriber; a line says why";
+  3  it gave up, or all was written at an endpoint but not by one subscriber; a line says why";
 
 /// The command.
 fn command<'a>(alloc: Global) -> Result<Command<'a>, AllocError>

@@ -70,7 +70,12 @@ Exit status:
   0  it ended as it was told: by --messages, by --quiet, or with --once by the stream's end, all of it written
   1  an error, told in one line
   2  the command line, the channel or the rates are refused
-  3  with --once: the stream was silent for --quiet before its end was told and all was written; or something was lost";
+  3  a stream was cut off or broken off; the last line names its session and position:
+     - with --once, it was silent for --quiet before its end was announced and all of it was written;
+     - its session was closed or displaced before its end was announced and all of it was written;
+     - something that it lacked couldn't be had any more (lost);
+     - its publisher announced its end as broken off, since its input had a fault (broken off).
+     A stream that is still open when --messages or --quiet ends the subscriber doesn't count.";
 
 /// The command.
 fn command<'a>(alloc: Global) -> Result<Command<'a>, AllocError>

@@ -1,10 +1,11 @@
 -- What a command line has done that ends with 0, or with 3, where the input and the output tell their bytes.
-use Rattle.std.specs.Prelude.{◌≡◌, ◌⊎◌, ◌≤◌, ℕ, List, codes, drop, length, Option}
+use Rattle.std.specs.Prelude.{◌≡◌, ◌⊎◌, ◌≤◌, ℕ, List, codes, drop, Option}
 use Rattle.std.specs.Borrow.{Bor}
 use Rattle.std.specs.Io.KnownBytes.{Appends}
 use Rattle.clap.specs.Words.{Text, matches_of}
 use Rattle.theory.specs.Wire.{Wire}
 use Rattle.channel.specs.declared.channel.Transport.{Transport}
+use Rattle.endpoint.specs.declared.udp.Route.{Route}
 use Rattle.options.specs.Ends.Plans.{IsPublishPlanOf, IsSubscribePlanOf}
 use Rattle.options.specs.Ends.Ways.{AreWays}
 use Rattle.options.specs.declared.ends.ids.Drawn.{Drawn}
@@ -29,6 +30,7 @@ use Rattle.command_line.specs.declared.readers.Reader.TheVariants.{Version, Publ
 use Rattle.commands.specs.DecodedInput.{DecodesInput}
 use Rattle.commands.specs.Decoding.{SaysFrames}
 use Rattle.commands.specs.FrameLines.{frame_lines}
+use Rattle.commands.specs.Routes.{ArePeersApart, AreRoutesAlong}
 use Rattle.commands.specs.Running.{IsLeftBy}
 use Rattle.commands.specs.Scripting.{PlaysInput}
 use Rattle.commands.specs.Statuses.{HasPublishPlan}
@@ -59,11 +61,18 @@ DrivesShortBy words before after = (o : Options) × AsksFor o words × IsDrivenS
 
 -- ---- publish
 
--- all of the input was published along the ways to the channel's endpoint and to these
+-- all of the input was published along a route along each of these ways, in order, to peers of which no two are one
+pub record PublishesAlong (p : PublishPlan) (ways : List Transport) (input : Option (List ℕ)) : Type 0 where
+  pub routes : List Route
+  pub along : AreRoutesAlong ways routes
+  pub apart : ArePeersApart routes
+  pub published : PublishesAll p routes input
+
+-- along the ways to the channel's endpoint and to these
 pub record PublishesTo (p : PublishPlan) (to : List (Bor (List ℕ))) (input : Option (List ℕ)) : Type 0 where
   pub ways : List Transport
   pub lead : AreWays p.end.transport to ways
-  pub published : PublishesAll p (length ways) input
+  pub published : PublishesAlong p ways input
 
 -- by a plan of what was told
 pub record PublishesTold (o : PublishOptions) (input : Option (List ℕ)) : Type 0 where
@@ -101,7 +110,7 @@ pub record IsSubscribedTold (o : SubscribeOptions) (before after : Option (List 
 abbrev pub SubscribesBy : List Text → Option (List ℕ) → Option (List ℕ) → EndedAs → Type 0
 SubscribesBy words before after ending = (o : SubscribeOptions) × IsSubscribeOf (matches_of subscribe_app words) o × IsSubscribedTold o before after ending
 
--- it wasn't told each stream's end, or lost an image
+-- it wasn't told each stream's end, or a stream of it was cut off
 abbrev pub SubscribesShortBy : List Text → Option (List ℕ) → Option (List ℕ) → Type 0
 SubscribesShortBy words before after = SubscribesBy words before after subscribed.Short ⊎ SubscribesBy words before after subscribed.Lost
 
@@ -129,6 +138,6 @@ IsShortBy Subscribe words before after = SubscribesShortBy (drop 1 words) before
 IsShortBy DecodeInput words before after = ⊥
 IsShortBy Driver words before after = DrivesShortBy words before after
 
--- a run was short, or a subscriber wasn't told each stream's end, or lost an image; a publisher has a plan, and more isn't said
+-- a run was short, or a subscriber wasn't told each stream's end, or a stream of it was cut off; a publisher has a plan, and more isn't said
 abbrev pub IsShort : List Text → Option (List ℕ) → Option (List ℕ) → Type 0
 IsShort words before after = IsShortBy (reader_of (drop 1 words)) words before after

@@ -51,7 +51,7 @@ subscribed_as subscribed.Whole = 0
 subscribed_as subscribed.Short = 3
 subscribed_as subscribed.Lost = 3
 
--- a subscriber ended: as it was told to, or behind a silence before the stream's end, or having lost an image; or by a fault
+-- a subscriber ended: as it was told to, or behind a silence before the stream's end, or with a stream cut off; or by a fault
 abbrev pub subscribed_status : {F : Type 0} → Result Subscribed F → ℕ
 subscribed_status (Ok done) = subscribed_as done.ending
 subscribed_status (Err fault) = 1

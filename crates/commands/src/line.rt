@@ -29,8 +29,8 @@ use std::sync::Wait;
 use std::thread::Threads;
 use std::time::Clock;
 
-/// The line of `--version`: the program's name and version, and the kit that it is proved with.
-const VERSION: &str = "mdriver 0.2.0, proved with rattle-kit-13f logic dac8208d650f15bf\n";
+/// The line of `--version`: the program's name and version, and the kit that it is written for.
+const VERSION: &str = "mdriver 0.2.0, for rattle-kit-13f logic dac8208d650f15bf\n";
 
 /// The line that asks for the help of `publish`.
 const PUBLISH_HELP: [&str; 2] = ["publish", "--help"];

@@ -3,8 +3,7 @@
 ghost use Rattle.std.specs.Prelude.{◌≡◌, ◌≢◌, ◌≤◌, ◌<◌, ◌^◌, [], length, map};
 ghost use Rattle.clap.specs.Words.{fault_of};
 ghost use Rattle.command_line.specs.Lines.{publish_app};
-ghost use Rattle.publisher.specs.Ended.{PublishesAll};
-ghost use Rattle.commands.specs.Done.{HasPlanBy, PublishesBy, PublishesTo, PublishesTold};
+ghost use Rattle.commands.specs.Done.{HasPlanBy, PublishesAlong, PublishesBy, PublishesTo, PublishesTold};
 ghost use Rattle.commands.specs.Statuses.{HasPublishPlan, IsStatusOf, NoPublishPlan, NoWays, RefusesPublish, published_status};
 
 use crate::fault::Fault;
@@ -39,7 +38,7 @@ fn publish_planned<
     requires few { length ways.now ≤ 8 }
     ensures most { result ≤ 3 }
     ensures accepted { result ≢ 2 }
-    ensures whole { result ≡ 0 → PublishesAll plan.now (length ways.now) (R.remaining input) }
+    ensures whole { result ≡ 0 → PublishesAlong plan.now ways.now (R.remaining input) }
 {
     match routes_of(rt, alloc, ways) {
         Ok(routes) => {

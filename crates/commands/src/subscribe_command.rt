@@ -24,7 +24,7 @@ use std::time::Clock;
 use subscriber::{Ending, SubscribeFault, Subscribed, subscribe};
 
 /// Subscribes as planned, and gives the status; to which address a name led is told, or that none was found. Only one that was to
-/// end with the stream, or has lost an image, ends with 3.
+/// end with the stream, or of which a stream was cut off, ends with 3.
 fn subscribe_planned<C: Threads + Wait + Clock + Net + Copy + Send + 'static, W: Write, E: Write>(
     rt: &C,
     alloc: Global,

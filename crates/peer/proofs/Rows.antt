@@ -1,10 +1,12 @@
 -- Messages that aren't of one receiver from the start to the tail.
-use Rattle.std.proofs.Common.{◌≡◌, ◌⊎◌, pos, ◌≤◌, [], ◌∷◌, None, Some, ℕ, ℤ, true, false, refl, inl, inr, sym, ◌∙◌, ⊎_elim, arith}
+use Rattle.std.proofs.Common.{◌≡◌, ◌⊎◌, pos, negsuc, ◌≤◌, [], ◌∷◌, None, Some, ℕ, ℤ, true, false, refl, inl, inr, sym, ◌∙◌, ⊎_elim, arith}
 use Rattle.theory.specs.Bytes.{Identity}
 use Rattle.theory.specs.Wire.{NAK, SM, Nak, Status}
 use Rattle.peer.specs.Endings.{IsOneFromStart, is_silent, patience}
 use Rattle.peer.specs.Attending.{after_all, newcomer, nobody}
+use Rattle.peer.specs.Farewells.{farewell_fields}
 use Rattle.peer.specs.Screening.{verdict_of}
+use Rattle.peer.specs.declared.farewell.StreamEnd.{StreamEnd}
 use Rattle.peer.specs.Watching.{Watched, after_frame, behind_of, due_of, new_watch, screened, screened_of, told, told_by, with_told}
 use Rattle.peer.specs.declared.screen.Bounds.{Bounds}
 use Rattle.peer.specs.declared.screen.Verdict.TheVariants.{Passes, Tells, Disbelieved, Held, Misses, LeftBehind, Unanswered}
@@ -105,14 +107,26 @@ in_the_next_cycle = refl
 
 -- ---- the ends that were told
 
-first_end : with_told None 64 ≡ record { least = 64; greatest = 64 }
+abbrev ends_at : ℕ → StreamEnd
+ends_at position = record { position = position; broken = false }
+
+first_end : with_told None (ends_at 64) ≡ record { least = 64; greatest = 64; broken = false }
 first_end = refl
 
-end_behind : with_told (Some (with_told None 64)) 96 ≡ record { least = 64; greatest = 96 }
+end_behind : with_told (Some (with_told None (ends_at 64))) (ends_at 96) ≡ record { least = 64; greatest = 96; broken = false }
 end_behind = refl
 
-end_before : with_told (Some (with_told None 64)) 32 ≡ record { least = 32; greatest = 64 }
+end_before : with_told (Some (with_told None (ends_at 64))) (ends_at 32) ≡ record { least = 32; greatest = 64; broken = false }
 end_before = refl
+
+broken_off_behind : with_told (Some (with_told None (record { position = 64; broken = true }))) (ends_at 64) ≡ record { least = 64; greatest = 64; broken = true }
+broken_off_behind = refl
+
+an_end_has_its_own_ttl : (farewell_fields stream (ends_at 64)).ttl ≡ negsuc 0
+an_end_has_its_own_ttl = refl
+
+one_that_is_broken_off_has_another : (farewell_fields stream (record { position = 64; broken = true })).ttl ≡ negsuc 1
+one_that_is_broken_off_has_another = refl
 
 -- ---- who is left behind: one that stands at 64 of a stream that was sent up to 49,280, of which 49,152 bytes can be sent again
 

@@ -1,5 +1,5 @@
 -- What a contract sees of a publisher's device, and what a datagram makes of it.
-use Rattle.std.specs.Prelude.{◌≡◌, ◌⊎◌, ◌≤◌, ◌<◌, ⊤, ℕ, zero, suc, ◌+◌, ◌-◌, ◌%◌, ◌^◌, ℤ, Bool, true, false, pos, negsuc, nat_lt, if◌then◌else◌, max, min, List, [], length, take, Option, None, Some, is_some, Result, Ok, Err}
+use Rattle.std.specs.Prelude.{◌≡◌, ◌⊎◌, ◌||◌, ◌≤◌, ◌<◌, ⊤, ℕ, zero, suc, ◌+◌, ◌-◌, ◌%◌, ◌^◌, ℤ, Bool, true, false, pos, negsuc, nat_lt, if◌then◌else◌, max, min, List, [], length, take, Option, None, Some, is_some, Result, Ok, Err}
 use Rattle.std.specs.Int.{cast_signed, w32}
 use Rattle.theory.specs.Bytes.{Identity}
 use Rattle.theory.specs.Position.{position_of}
@@ -25,6 +25,7 @@ use Rattle.peer.specs.declared.attended.Behind.{Behind}
 use Rattle.peer.specs.declared.attendance.Heard.{Heard}
 use Rattle.std.specs.Ordering.{int_eq}
 use Rattle.peer.specs.Farewells.{TellsEnd, end_of}
+use Rattle.peer.specs.declared.farewell.StreamEnd.{StreamEnd}
 
 -- the stream, what was heard of it, and what the next frame is judged by
 pub record Watched : Type 0 where
@@ -326,19 +327,19 @@ is_again w f = begins_below w (header_in f)
 abbrev pub given : Watched → Bool → Watched
 given w again = record w { tally = record w.tally { datagrams = plus_one w.tally.datagrams; resends = if again then plus_one w.tally.resends else w.tally.resends } }
 
--- the least and the greatest end, with this one
-abbrev pub with_told : Option ToldEnds → ℕ → ToldEnds
-with_told None end = record { least = end; greatest = end }
-with_told (Some told) end = record { least = min told.least end; greatest = max told.greatest end }
+-- the least and the greatest end, with this one, and whether the stream is broken off at one
+abbrev pub with_told : Option ToldEnds → StreamEnd → ToldEnds
+with_told None end = record { least = end.position; greatest = end.position; broken = end.broken }
+with_told (Some told) end = record { least = min told.least end.position; greatest = max told.greatest end.position; broken = told.broken || end.broken }
 
 -- it was given the farewell that tells this end, as far as its stream can go
-abbrev pub with_end : Watched → ℕ → Watched
-with_end w tail = record (given w false) { ends = Some (with_told w.ends (end_of w.sent tail)) }
+abbrev pub with_end : Watched → StreamEnd → Watched
+with_end w end = record (given w false) { ends = Some (with_told w.ends (end_of w.sent end)) }
 
 -- the end that a frame tells of the stream is noted, if it tells one
 pub record NotesTold (s : Identity) (f : Wire) (old new : Option ToldEnds) : Type 0 where
-  pub told : (end : ℕ) → TellsEnd s.session s.stream f end → new ≡ Some (with_told old end)
-  pub untold : ((end : ℕ) → TellsEnd s.session s.stream f end → ⊥) → new ≡ old
+  pub told : (end : StreamEnd) → TellsEnd s.session s.stream f end → new ≡ Some (with_told old end)
+  pub untold : ((end : StreamEnd) → TellsEnd s.session s.stream f end → ⊥) → new ≡ old
 
 -- a frame at a datagram's front: it counts, and the end that it tells is noted
 pub record GivesFrame (old : Watched) (f : Wire) (new : Watched) : Type 0 where

@@ -11,7 +11,7 @@ ghost use Rattle.peer.specs.Screening.{is_handed};
 ghost use Rattle.peer.specs.Watching.{CountsLook, CountsRefused, FillsLook, Finds, Gives, LooksInto, Screens, Takes, after_frame, after_verdict, behind_of, disbelieving, due_of, given, held_after, is_again, is_behind, is_below, is_left_behind, missed, passed_after, passing, plus_one, refusing, released, screened, screened_of, told, told_by, told_last, watching, watching_device, with_end, with_none, with_told};
 
 use crate::attendance::{Attendance, Heard};
-use crate::farewell::{end_told, farewell_bytes};
+use crate::farewell::{StreamEnd, end_told, farewell_bytes};
 use crate::screen::{Bounds, Verdict, asked_bytes, has_room_for, judge};
 use endpoint::{Datagrams, DeviceFailed};
 use frames::{
@@ -64,6 +64,8 @@ pub struct Tally {
 pub struct ToldEnds {
     pub least: u64,
     pub greatest: u64,
+    /// Whether the stream was told to be broken off at one of them.
+    pub broken: bool,
 }
 
 /// How far a receiver that is left behind lies behind the sender, in bytes of the stream.
@@ -96,17 +98,19 @@ fn is_behind(reach: Option<u64>, sent_to: u64, last: u64) -> bool
 }
 
 /// The ends that were told, with this one.
-fn with_told(before: Option<ToldEnds>, end: u64) -> ToldEnds
+fn with_told(before: Option<ToldEnds>, end: StreamEnd) -> ToldEnds
     ensures { result ≡ with_told before end }
 {
     match before {
         None => ToldEnds {
-            least: end,
-            greatest: end,
+            least: end.position,
+            greatest: end.position,
+            broken: end.broken,
         },
         Some(told) => ToldEnds {
-            least: told.least.min(end),
-            greatest: told.greatest.max(end),
+            least: told.least.min(end.position),
+            greatest: told.greatest.max(end.position),
+            broken: told.broken || end.broken,
         },
     }
 }
@@ -484,10 +488,10 @@ impl<D: Datagrams> Attended<D> {
     /// Tells where its stream ends, once, by a farewell (`farewell_of`): there, or at the last position that the stream can
     /// have, if that is below. Whether the device fails isn't told.
     #[tactic(auto, using(crate::proofs::Farewells::gives_end))]
-    pub fn tell_end(&mut self, tail: u64)
-        ensures { self.new.watch ≡ with_end self.old.watch tail }
+    pub fn tell_end(&mut self, end: StreamEnd)
+        ensures { self.new.watch ≡ with_end self.old.watch end }
     {
-        let farewell = farewell_bytes(&self.sent, tail);
+        let farewell = farewell_bytes(&self.sent, end);
         let _ = self.send(&farewell);
     }
 

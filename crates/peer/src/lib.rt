@@ -9,8 +9,8 @@
 //! that, any address of its peer's port is heard, and who tells it is its peer from then on (`TiedDevice::along`, by `Settles`).
 //! What it sends is given to its socket for the one that it was made for, or tied to. A device round
 //! another that never fails takes a failed call for a lost datagram, and counts exactly those (`PatientDevice`). The farewell of
-//! a stream, a SETUP that no sender writes, tells the position where that stream ends, and no other (`end_told`,
-//! `farewells_tell_ends`).
+//! a stream, a SETUP that no sender writes, tells where that stream ends, and whether it is broken off there, and nothing else
+//! (`end_told`, `farewells_tell_ends`).
 //!
 //! What becomes of a frame that comes to a publisher is exact (`judge`): a status message of its stream that tells more
 //! than was sent, or a greater window than a receiver can have, isn't believed; of the negative acknowledgements of a
@@ -49,7 +49,7 @@ mod tied;
 
 pub use attendance::{Attendance, Ending, Heard, one_from_the_start};
 pub use attended::{Attended, Behind, Tally, ToldEnds};
-pub use farewell::{end_told, farewell_of, farewells_tell_ends};
+pub use farewell::{StreamEnd, end_told, farewell_of, farewells_tell_ends};
 pub use fault::BindError;
 pub use listener::Listener;
 pub use numbering::{number_status, setup_in};

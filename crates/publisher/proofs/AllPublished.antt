@@ -26,7 +26,7 @@ use Rattle.publisher.proofs.Sent.{sends_committed}
 use Rattle.publisher.specs.Destinations.{AreDestinationsAlong}
 use Rattle.publisher.specs.Ended.{AllArrived, ArrivesAt, CanClose, IsClosed, LeavesLog, LeavesPasses, PublishesAll, SendsCommitted, ShowsAll, reading_left}
 use Rattle.publisher.specs.Farewells.{are_told_alone}
-use Rattle.publisher.specs.Judging.{end_in}
+use Rattle.publisher.specs.Judging.{stream_end_in}
 use Rattle.publisher.specs.Openings.{IsPlanned}
 use Rattle.publisher.specs.declared.log_end.LogEnd.{LogEnd}
 
@@ -46,10 +46,10 @@ none_left log passes peer p heard told some all =
 
 pub all_published : {I : Type 0} (remaining : I → Option (List ℕ)) (p : PublishPlan) (log : LogValue) (first : PublisherValue) (old given : Option (List ℕ)) (left : Option (InputEnd I)) (routes : List Route) (passes : SenderPasses (Fanned (ChannelDestination Tied))) (peer : SocketAddr) (heard : List Attendance) (told : List (Option ToldEnds)) (e : LogEnd)
     → IsPlanned p log → IsNew log 0 first → IfSome left (λ l. EndsInput p.end.form log old (remaining l.input) first.pass l.publisher l.reading) → AreDestinationsAlong p routes passes.duty.device.ways → 0 < length routes
-    → ArrivesAt log passes peer p (reading_left left) heard told → are_told_alone p.geometry (end_in (reading_left left)) told ≡ true → old ≡ given → LeavesLog log (length passes.duty.device.ways) e → IsClosed left e → PublishesAll p (length routes) given
+    → ArrivesAt log passes peer p (reading_left left) heard told → are_told_alone p.geometry (stream_end_in (reading_left left)) told ≡ true → old ≡ given → LeavesLog log (length passes.duty.device.ways) e → IsClosed left e → PublishesAll p routes given
 all_published {I} remaining p log first old given None routes passes peer heard told e planned new ends along some arrived alone same leaves closed =
     absurd (none_left log passes peer p heard told (subst (λ (n : ℕ). 0 < n) (sym along.many) some) arrived)
-all_published {I} remaining p log first old given (Some left) routes passes peer heard told e planned new ends along some arrived alone same leaves closed = subst (PublishesAll p (length routes)) same (record {
+all_published {I} remaining p log first old given (Some left) routes passes peer heard told e planned new ends along some arrived alone same leaves closed = subst (PublishesAll p routes) same (record {
   log = log;
   log_is = planned;
   first = first;
@@ -59,8 +59,6 @@ all_published {I} remaining p log first old given (Some left) routes passes peer
   reading = left.reading;
   ends = ends;
   some = some;
-  routes = routes;
-  many = refl;
   passes = passes;
   destinations_are = along;
   peer = peer;

@@ -8,7 +8,7 @@ use Rattle.std.specs.declared.net.SocketAddr.TheVariants.{V4}
 use Rattle.peer.specs.Ties.{Tied}
 use Rattle.endpoint.specs.declared.udp.Route.{Route}
 use Rattle.options.specs.declared.ends.plans.PublishPlan.{PublishPlan}
-use Rattle.publisher.specs.Destinations.{IsAlong, IsDestinationOf, place_of}
+use Rattle.publisher.specs.Destinations.{IsAlong, IsDestinationOf, peer_of, place_of, socket_along}
 use Rattle.publisher.specs.Seeing.{ChannelDestination}
 
 -- the route that a proof names where none stands
@@ -16,12 +16,12 @@ abbrev pub none : Route
 none = record { binding = record { address = V4 (record { ip = record { octets = [] }; port = 0 }); ttl = None }; peer = V4 (record { ip = record { octets = [] }; port = 0 }) }
 
 -- the destination along the route that stands there
-pub one_along : (p : PublishPlan) (routes : List Route) (i number : ℕ) (place : Option ℕ) (d : Route) (socket : Tied) (w : ChannelDestination Tied) → i < length routes → number ≡ i → place ≡ place_of (length routes) number → IsDestinationOf p place (get_or routes i d).peer socket w → IsAlong p routes i w
-one_along p routes i number place d socket w low same there is = record {
-  socket = socket;
+pub one_along : (p : PublishPlan) (routes : List Route) (i number : ℕ) (place : Option ℕ) (d : Route) (socket : Tied) (w : ChannelDestination Tied) → i < length routes → number ≡ i → place ≡ place_of (length routes) number → socket ≡ socket_along p (get_or routes i d) → IsDestinationOf p place (peer_of (get_or routes i d)) socket w → IsAlong p routes i w
+one_along p routes i number place d socket w low same there tied is = record {
   route = get_or routes i d;
   stands = get_or_default routes i d (get_or routes i d) low;
-  is = subst (λ (o : Option ℕ). IsDestinationOf p o (get_or routes i d).peer socket w) (there ∙ ap (place_of (length routes)) same) is;
+  is = subst (λ (o : Option ℕ). IsDestinationOf p o (peer_of (get_or routes i d)) (socket_along p (get_or routes i d)) w) (there ∙ ap (place_of (length routes)) same)
+      (subst (λ (t : Tied). IsDestinationOf p place (peer_of (get_or routes i d)) t w) tied is);
 }
 
 -- one more

@@ -29,11 +29,15 @@ as_judged reading line (Some ending) is h =
     let same : is ≡ record { ending = ending; reading = reading; told = line } = ap (judged_or is) h in
     (sym (ap (λ (j : Judged). j.reading) same), ap (λ (j : Judged). Some j.ending) (sym same))
 
-pub ends : {D : Type 0} (p : Progress) (shown destinations : List (ChannelDestination D)) (linger wait : ℕ) (answer : Option Judged) (is : Judged) → Judges p shown linger wait answer → answer ≡ Some is → shown ≡ destinations → Ends destinations linger wait is
-ends {D} p shown destinations linger wait answer is told found same =
-    let both = as_judged told.reading told.line _ is (sym found ∙ told.is) in
+pub ends : {D : Type 0} (p : Progress) (reading : Option Reading) (shown destinations : List (ChannelDestination D)) (linger wait : ℕ) (answer : Option Judged) (is : Judged) → Judges p reading shown linger wait answer → answer ≡ Some is → shown ≡ destinations → Ends destinations linger wait is
+ends {D} p reading shown destinations linger wait answer is told found same =
+    let both = as_judged reading told.line _ is (sym found ∙ told.is) in
     subst (λ (ws : List (ChannelDestination D)). Ends ws linger wait is) same
     (ap (λ (r : Option Reading). ending_along shown (end_in r) linger wait) (sym both.0) ∙ both.1)
+
+-- by that reading
+pub by_reading : {D : Type 0} (p : Progress) (reading : Option Reading) (shown : List (ChannelDestination D)) (linger wait : ℕ) (answer : Option Judged) (is : Judged) → Judges p reading shown linger wait answer → answer ≡ Some is → reading ≡ is.reading
+by_reading {D} p reading shown linger wait answer is told found = (as_judged reading told.line _ is (sym found ∙ told.is)).0
 
 -- ---- whether all are
 

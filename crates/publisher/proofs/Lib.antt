@@ -3,8 +3,10 @@ pub mod Ends
 mod ArrivedRows
 mod PatienceRows
 mod BeginRows
+mod TurnRows
 pub mod Faults
 pub mod Stopping
+pub mod NewsLines
 pub mod Sent
 pub mod AllPublished
 pub mod Whole

@@ -15,7 +15,7 @@ use Rattle.publisher.specs.declared.offering.reading.Reading.{Reading}
 use Rattle.publisher.specs.Destinations.{AreDestinationsAlong}
 use Rattle.publisher.specs.Ended.{ArrivesAt}
 use Rattle.publisher.specs.Farewells.{are_told_no_other}
-use Rattle.publisher.specs.Judging.{end_in}
+use Rattle.publisher.specs.Judging.{stream_end_in}
 use Rattle.publisher.specs.Openings.{IsPlanned}
 use Rattle.publisher.specs.Seeing.{ChannelDestination}
 use Rattle.publisher.specs.Shorts.{EndsShort, IsUnclosed, SaysItsShortfall, unclosed}
@@ -47,7 +47,7 @@ said l passes p peer reading heard ends (Err fault) ending told after arrived ok
 
 pub says : (l : LogValue) (passes : SenderPasses (Fanned (ChannelDestination Tied))) (p : PublishPlan) (routes : List Route) (first : Route) (peer : SocketAddr) (sent ending : Result Ending PublishFault) (told after : Option ToldShortfall) (reading : Option Reading) (heard : List Attendance) (ends : List (Option ToldEnds))
     → IsPlanned p l → AreDestinationsAlong p routes passes.duty.device.ways → first ≡ slice_index_or routes 0 first → peer ≡ first.peer → (sent ≡ Ok Whole → ArrivesAt l passes peer p reading heard ends) → (sent ≡ Ok Short → EndsShort l passes p peer told)
-    → IfOk sent (λ _. are_told_no_other p.geometry (end_in reading) ends ≡ true) → (ending ≡ sent) ⊎ (ending ≡ unclosed sent) → SaysUnclosed peer told sent ending after → ending ≡ Ok Short → SaysItsShortfall p routes
+    → IfOk sent (λ _. are_told_no_other p.geometry (stream_end_in reading) ends ≡ true) → (ending ≡ sent) ⊎ (ending ≡ unclosed sent) → SaysUnclosed peer told sent ending after → ending ≡ Ok Short → SaysItsShortfall p routes
 says l passes p routes first peer sent ending told after reading heard ends planned along stands same arrived short other kept line is =
     let ok = is_ok sent ending kept is in
     record {
@@ -61,5 +61,5 @@ says l passes p routes first peer sent ending told after reading heard ends plan
       reading = reading;
       why = subst (λ (a : SocketAddr). EndsShort l passes p a after ⊎ IsUnclosed l passes p a reading after) same (said l passes p peer reading heard ends sent ending told after arrived ok short line is);
       ends = ends;
-      no_other = no_other sent (are_told_no_other p.geometry (end_in reading) ends ≡ true) ok other;
+      no_other = no_other sent (are_told_no_other p.geometry (stream_end_in reading) ends ≡ true) ok other;
     }

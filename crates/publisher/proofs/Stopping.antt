@@ -3,7 +3,9 @@ use Rattle.std.proofs.Common.{◌≡◌, ℕ, inr, Bool, true, false, ◌||◌, 
 use Rattle.std.specs.Prelude.{⊤}
 use Rattle.publisher.specs.declared.offering.reading.Reading.{Reading}
 use Rattle.publisher.specs.Judging.{FailsBy, fault_in, reading_fault}
+use Rattle.publisher.specs.Progress.{is_shown, shown_at}
 use Rattle.publisher.specs.declared.fault.PublishFault.{PublishFault}
+use Rattle.publisher.specs.declared.progress.Progress.{Progress}
 
 abbrev IsErr : Result (Unit {0}) PublishFault → Type 0
 IsErr (Ok done) = ⊥
@@ -24,11 +26,19 @@ stopped_by : (reading : Option PublishFault) (messages : ℕ) (fault : PublishFa
 stopped_by None messages fault h = absurd (subst IsErr (sym h) tt)
 stopped_by (Some why) messages fault h = ap (λ (f : PublishFault). Some f) (before_any (nat_eq messages 0) why fault h)
 
-pub stopped : (is_broken : Bool) (reading : Option Reading) (messages : ℕ) (fault : PublishFault) → reading_fault (fault_in reading) messages ≡ Err fault → FailsBy is_broken fault
-stopped is_broken reading messages fault h = inr (reading, stopped_by (fault_in reading) messages fault h)
+pub stopped : (is_broken : Bool) (reading : Option Reading) (messages : ℕ) (fault : PublishFault) → reading_fault (fault_in reading) messages ≡ Err fault → FailsBy is_broken reading fault
+stopped is_broken reading messages fault h = inr (stopped_by (fault_in reading) messages fault h)
 
 -- a fault that is passed over was told
 pub told : (fault : Option PublishFault) (before after : Bool) → after ≡ (before || is_some fault) → IfSome fault (λ _. after ≡ true)
 told None before after h = tt
 told (Some why) true after h = h
 told (Some why) false after h = h
+
+-- where counters are told, nothing else of what was told changes
+shown_by : (due : Bool) (p : Progress) (messages now : ℕ) → ((if due then record p { shown = now; messages = messages } else p).faulted ≡ p.faulted) × ((if due then record p { shown = now; messages = messages } else p).ended ≡ p.ended)
+shown_by true p messages now = (refl, refl)
+shown_by false p messages now = (refl, refl)
+
+pub shown_alone : (p : Progress) (messages now : ℕ) (last : Bool) → ((shown_at p messages now last).faulted ≡ p.faulted) × ((shown_at p messages now last).ended ≡ p.ended)
+shown_alone p messages now last = shown_by (is_shown p now last) p messages now

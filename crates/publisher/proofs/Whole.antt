@@ -14,7 +14,7 @@ use Rattle.publisher.specs.declared.offering.reading.ReadingEnd.TheVariants.{All
 use Rattle.publisher.specs.declared.fault.PublishFault.{PublishFault}
 use Rattle.publisher.specs.declared.judging.Judged.{Judged}
 use Rattle.publisher.specs.Ended.{AllArrived, HasArrived}
-use Rattle.publisher.specs.Judging.{are_same, end_by, end_in, ended_by, ending_by, ending_of, fault_by, faulted_or, is_all, is_read}
+use Rattle.publisher.specs.Judging.{are_same, end_in, ended_by, ending_by, ending_of, fault_by, faulted_or, is_all, is_read, position_in, stream_end_by}
 
 -- ---- what can't be
 
@@ -43,7 +43,7 @@ whole_if false true h = absurd (subst NotWhole h tt)
 whole_if false false h = absurd (subst NotWhole h tt)
 
 -- it was whole there, where the stream ended
-whole_there : (a : Attendance) (end : Result ReadingEnd ReadingFault) (tail : ℕ) → peers.is_whole a (end_by end tail) ≡ true → peers.is_whole a (Some tail) ≡ true
+whole_there : (a : Attendance) (end : Result ReadingEnd ReadingFault) (tail : ℕ) → peers.is_whole a (position_in (stream_end_by end tail)) ≡ true → peers.is_whole a (Some tail) ≡ true
 whole_there a (Ok All) tail h = h
 whole_there a (Ok Stopped) tail h = absurd (not_true h)
 whole_there a (Err fault) tail h = h
@@ -74,7 +74,7 @@ by_judged r a None ending linger wait silence is h = absurd (not_true (is_whole_
 by_judged r a (Some s) ending linger wait silence is h =
     let by = is_whole_by (is_read (Some r) (Some s)) ending h in
     let both = both_true (is_all r.ended) (are_same r.offered s.offered) by.0 in
-    let end = end_by s.ended s.offered.tail in
+    let end = position_in (stream_end_by s.ended s.offered.tail) in
     let whole = whole_if (peers.is_whole a end) (peers.is_told a end || peers.is_silent a silence linger wait) (is ∙ ap (λ (e : Ending). Some e) by.1) in
     record {
       all = all_read r.ended both.0;

@@ -13,11 +13,12 @@ use Rattle.publisher.specs.declared.judging.Judged.{Judged}
 use Rattle.publisher.specs.Ended.{AllArrived}
 use Rattle.options.specs.declared.ends.plans.PublishPlan.{PublishPlan}
 use Rattle.peer.specs.declared.attended.ToldEnds.{ToldEnds}
-use Rattle.publisher.specs.Farewells.{TellsFarewell, ending_told, ends_along}
+use Rattle.peer.specs.declared.farewell.StreamEnd.{StreamEnd}
+use Rattle.publisher.specs.Farewells.{TellsFarewell, ending_told, ends_along, farewell_in}
 use Rattle.publisher.specs.Turns.{EndsBehind}
 use Rattle.publisher.specs.declared.sender_thread.ChannelSender.{ChannelSender}
 use Rattle.publisher.proofs.Many.{behind_many, farewell_heard, farewell_many}
-use Rattle.publisher.specs.Judging.{end_in, ended_by, ending_by, ending_of, fault_in, faulted_or, is_read}
+use Rattle.publisher.specs.Judging.{end_in, ended_by, ending_by, ending_of, fault_in, faulted_or, is_read, stream_end_in}
 use Rattle.publisher.proofs.Whole.{arrived}
 use Rattle.publisher.specs.Ended.{AllHaveArrived, HasNoted}
 use Rattle.publisher.specs.Endings.{heard_along, is_whole_along}
@@ -88,29 +89,29 @@ by_judged read judged Short linger wait destinations is ends ended =
     is_read_so : Option Reading → Judged → Bool
     is_read_so r j = is_read r j.reading
 
-noted_by : {D : Type 0} (p : PublishPlan) (first last : ChannelSender D) (judged : Judged) (end : Option ℕ) (after : List (ChannelDestination D)) (heard : List Attendance) (told : List (Option ToldEnds)) → EndsBehind p first last judged → TellsFarewell end last.passes.duty.device.ways after
-    → heard ≡ map heard_along after → told ≡ map ends_along after → HasNoted p first heard told
-noted_by {D} p first last judged end after heard told behind farewell heard_are told_are = record {
+noted_by : {D : Type 0} (p : PublishPlan) (read : Option Reading) (first last : ChannelSender D) (judged : Judged) (after : List (ChannelDestination D)) (heard : List Attendance) (told : List (Option ToldEnds)) → EndsBehind p first last judged → TellsFarewell (stream_end_in read) last.passes.duty.device.ways after
+    → heard ≡ map heard_along after → told ≡ map ends_along after → HasNoted p first read heard told
+noted_by {D} p read first last judged after heard told behind farewell heard_are told_are = record {
   last = last;
   judged = judged;
   ends = behind;
-  end = end;
   after = after;
   farewell = farewell;
   heard_are = heard_are;
   told_are = told_are;
-  many = ap length heard_are ∙ length-map after heard_along ∙ farewell_many end last.passes.duty.device.ways after farewell ∙ behind_many p first last judged behind;
+  many = ap length heard_are ∙ length-map after heard_along ∙ farewell_many (stream_end_in read) last.passes.duty.device.ways after farewell ∙ behind_many p first last judged behind;
 }
 
-pub all_arrived : {D : Type 0} (p : PublishPlan) (read : Option Reading) (sent : Result Judged PublishFault) (ending : Result Ending PublishFault) (first last : ChannelSender D) (end : Option ℕ) (after : List (ChannelDestination D)) (heard : List Attendance) (told : List (Option ToldEnds))
-    → IfOk sent (EndsBehind p first last) → ending ≡ ended_by read sent → TellsFarewell end last.passes.duty.device.ways after → heard ≡ map heard_along after → told ≡ map ends_along after → ending ≡ Ok Whole → AllHaveArrived p first read heard told
-all_arrived {D} p read (Ok judged) ending first last end after heard told behind is farewell heard_are told_are whole =
+pub all_arrived : {D : Type 0} (p : PublishPlan) (read : Option Reading) (sent : Result Judged PublishFault) (ending : Result Ending PublishFault) (first last : ChannelSender D) (end : Option StreamEnd) (after : List (ChannelDestination D)) (heard : List Attendance) (told : List (Option ToldEnds))
+    → IfOk sent (EndsBehind p first last) → ending ≡ ended_by read sent → end ≡ farewell_in read ending → TellsFarewell end last.passes.duty.device.ways after → heard ≡ map heard_along after → told ≡ map ends_along after → ending ≡ Ok Whole → AllHaveArrived p first read heard told
+all_arrived {D} p read (Ok judged) ending first last end after heard told behind is announced farewell heard_are told_are whole =
     let there : map heard_along last.passes.duty.device.ways ≡ heard = sym (heard_are ∙ farewell_heard end last.passes.duty.device.ways after farewell) in
+    let reading : end ≡ stream_end_in read = announced ∙ ap (farewell_in read) whole in
     record {
-      noted = noted_by p first last judged end after heard told behind farewell heard_are told_are;
+      noted = noted_by p read first last judged after heard told behind (subst (λ (o : Option StreamEnd). TellsFarewell o last.passes.duty.device.ways after) reading farewell) heard_are told_are;
       arrived = subst (AllByRecursion (AllArrived read)) there (by_judged read judged judged.ending p.linger p.wait last.passes.duty.device.ways refl behind.is (sym is ∙ whole));
     }
-all_arrived {D} p read (Err fault) ending first last end after heard told behind is farewell heard_are told_are whole = absurd (not_err (fault_in read) fault (sym is ∙ whole))
+all_arrived {D} p read (Err fault) ending first last end after heard told behind is announced farewell heard_are told_are whole = absurd (not_err (fault_in read) fault (sym is ∙ whole))
 
 -- ---- what the end that was told makes of it
 

@@ -38,7 +38,7 @@ shown f g xs ys i x d lx ly done rest is =
 
 -- ---- of what a sender sends with
 
-all_ways : {D : Type 0} (f : Fanned D) (ws : List D) → length ws ≡ length f.ways → with_ways f ws ≡ record f { ways = ws }
+pub all_ways : {D : Type 0} (f : Fanned D) (ws : List D) → length ws ≡ length f.ways → with_ways f ws ≡ record f { ways = ws }
 all_ways {D} f ws same =
     ap (λ (xs : List D). record f { ways = xs })
     (ap (λ (ys : List D). take (length f.ways) (ws ++ ys)) (ap (λ n. drop n f.ways) same ∙ drop-length f.ways)

@@ -2,10 +2,11 @@
 use Rattle.std.specs.Prelude.{◌≡◌, ◌<◌, ◌+◌, ◌%◌, ◌^◌, ◌&&◌, ℕ, ℤ, pos, negsuc, Bool, not, false, nat_le, nat_lt, is_some, if◌then◌else◌, List, [], ◌∷◌, length, count_by, slice_index_or, Option, None, Some}
 use Rattle.std.specs.Int.{cast_signed, w64}
 use Rattle.std.specs.declared.net.SocketAddr.{SocketAddr}
-use Rattle.peer.specs.Ties.{Tied}
+use Rattle.peer.specs.Ties.{Tied, hearing_anybody, tied_waiting}
 use Rattle.endpoint.specs.declared.udp.Route.{Route}
 use Rattle.options.specs.declared.ends.plans.PublishPlan.{PublishPlan}
 use Rattle.publisher.specs.Beginnings.{device_of}
+use Rattle.publisher.specs.Openings.{identity_of}
 use Rattle.publisher.specs.Progress.{nothing_seen}
 use Rattle.agents.specs.Duties.{Agent}
 use Rattle.flow_control.specs.Stream.{flow_after}
@@ -24,14 +25,21 @@ id_of (Some number) = Some (pos number)
 
 -- at this place and peer, over this device; nothing was seen of it yet
 abbrev pub IsDestinationOf : {D : Type 0} → PublishPlan → Option ℕ → SocketAddr → D → ChannelDestination D → Type 0
-IsDestinationOf p place peer device w = w ≡ record { device = device_of p place device; id = id_of place; peer = peer; before = record { nones = 0; lost = 0 }; progress = nothing_seen; silence = None; quiet = false; behind = false; broken = false }
+IsDestinationOf p place peer device w = w ≡ record { device = device_of p place device; id = id_of place; peer = peer; before = record { nones = 0; lost = 0 }; progress = nothing_seen; silence = None; unheard = 0; quiet = false; behind = None; broken = false }
 
--- by its number the one along the route that stands there, over a socket
+-- to whom a route leads
+abbrev pub peer_of : Route → SocketAddr
+peer_of route = route.peer
+
+-- the socket along it: tied to its peer, it waits for the start of the plan's stream, and nothing has come or gone
+abbrev pub socket_along : PublishPlan → Route → Tied
+socket_along p route = tied_waiting hearing_anybody (peer_of route) (Some (record { sent = identity_of p; start = p.start }))
+
+-- by its number the one along the route that stands there, over its socket
 pub record IsAlong (p : PublishPlan) (routes : List Route) (number : ℕ) (w : ChannelDestination Tied) : Type 0 where
-  pub socket : Tied
   pub route : Route
   pub stands : route ≡ slice_index_or routes number route
-  pub is : IsDestinationOf p (place_of (length routes) number) route.peer socket w
+  pub is : IsDestinationOf p (place_of (length routes) number) (peer_of route) (socket_along p route) w
 
 -- one along each route, in order
 pub record AreDestinationsAlong (p : PublishPlan) (routes : List Route) (destinations : List (ChannelDestination Tied)) : Type 0 where

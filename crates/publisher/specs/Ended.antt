@@ -26,7 +26,7 @@ use Rattle.publisher.specs.declared.offering.reading.ReadingEnd.TheVariants.{All
 use Rattle.publisher.specs.Destinations.{AreDestinationsAlong}
 use Rattle.publisher.specs.Endings.{heard_along}
 use Rattle.publisher.specs.Farewells.{TellsFarewell, are_told_alone, ends_along}
-use Rattle.publisher.specs.Judging.{end_in}
+use Rattle.publisher.specs.Judging.{stream_end_in}
 use Rattle.publisher.specs.Openings.{AreOthers, IsKept, IsPlanned}
 use Rattle.publisher.specs.Seeing.{ChannelDestination}
 use Rattle.publisher.specs.Turns.{EndsBehind}
@@ -107,21 +107,20 @@ pub record IsBegun {D : Type 0} (l : LogValue) (passes : SenderPasses (Fanned (C
   pub peer_is : first.peer ≡ peer
 
 -- whom the device of each destination has heard, and the ends that it was given to tell, as it notes them itself: it has lived on from
--- the one that was handed in, through all cycles and the farewell
-pub record HasNoted {D : Type 0} (p : PublishPlan) (first : ChannelSender D) (heard : List Attendance) (told : List (Option ToldEnds)) : Type 0 where
+-- the one that was handed in, through all cycles and the farewell, which tells the reading's end
+pub record HasNoted {D : Type 0} (p : PublishPlan) (first : ChannelSender D) (r : Option Reading) (heard : List Attendance) (told : List (Option ToldEnds)) : Type 0 where
   pub last : ChannelSender D
   pub judged : Judged
   pub ends : EndsBehind p first last judged
-  pub end : Option ℕ
   pub after : List (ChannelDestination D)
-  pub farewell : TellsFarewell end last.passes.duty.device.ways after
+  pub farewell : TellsFarewell (stream_end_in r) last.passes.duty.device.ways after
   pub heard_are : heard ≡ map heard_along after
   pub told_are : told ≡ map ends_along after
   pub many : length heard ≡ length first.passes.duty.device.ways
 
 -- by that each has received all
 pub record AllHaveArrived {D : Type 0} (p : PublishPlan) (first : ChannelSender D) (r : Option Reading) (heard : List Attendance) (told : List (Option ToldEnds)) : Type 0 where
-  pub noted : HasNoted p first heard told
+  pub noted : HasNoted p first r heard told
   pub arrived : AllByRecursion (AllArrived r) heard
 
 abbrev pub ArrivesAt : {D : Type 0} → LogValue → SenderPasses (Fanned (ChannelDestination D)) → SocketAddr → PublishPlan → Option Reading → List Attendance → List (Option ToldEnds) → Type 0
@@ -130,11 +129,11 @@ ArrivesAt {D} l passes peer p r heard told = (first : ChannelSender D) × IsBegu
 -- ---- in all
 
 -- for the plan all that the input had was read, and it was published, each message once and whole, in their order, by the first
--- publisher of a log of the plan, which had just been opened; and that has arrived at each of so many destinations, along a route each,
--- by what their devices have noted, which were given no other end to tell than where its messages end. The log was closed: the others
--- have claimed nothing, so what the first has claimed, in the order of the stream, tiles it from its start to its tail, and each frame
--- of that is committed; and the sender has sent nothing else
-pub record PublishesAll (p : PublishPlan) (destinations : ℕ) (old : Option (List ℕ)) : Type 0 where
+-- publisher of a log of the plan, which had just been opened; and that has arrived at the peer of each of these routes, by what the device
+-- of that one's own socket has noted, which was given no other end to tell than where its messages end, and none at which the stream is
+-- broken off. The log was closed: the others have claimed nothing, so what the first has claimed, in the order of the stream, tiles it from
+-- its start to its tail, and each frame of that is committed; and the sender has sent nothing else
+pub record PublishesAll (p : PublishPlan) (routes : List Route) (old : Option (List ℕ)) : Type 0 where
   pub log : LogValue
   pub log_is : IsPlanned p log
   pub first : PublisherValue
@@ -143,18 +142,16 @@ pub record PublishesAll (p : PublishPlan) (destinations : ℕ) (old : Option (Li
   pub last : PublisherValue
   pub reading : Reading
   pub ends : EndsInput p.end.form log old new first.pass last reading
-  pub some : 0 < destinations
-  pub routes : List Route
-  pub many : length routes ≡ destinations
+  pub some : 0 < length routes
   pub passes : SenderPasses (Fanned (ChannelDestination Tied))
   pub destinations_are : AreDestinationsAlong p routes passes.duty.device.ways
   pub peer : SocketAddr
   pub heard : List Attendance
   pub told : List (Option ToldEnds)
   pub arrived : ArrivesAt log passes peer p (Some reading) heard told
-  pub alone : are_told_alone p.geometry (end_in (Some reading)) told ≡ true
+  pub alone : are_told_alone p.geometry (stream_end_in (Some reading)) told ≡ true
   pub others : List PublisherValue
   pub others_are : AreOthers log others
   pub book : Book
   pub shows : ShowsBook log (others ++ last ∷ []) book
-  pub sends : SendsCommitted log destinations (others ++ last ∷ [])
+  pub sends : SendsCommitted log (length routes) (others ++ last ∷ [])

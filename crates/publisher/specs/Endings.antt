@@ -18,7 +18,7 @@ is_whole_along end w = is_whole (heard_along w) end
 
 -- nothing more is waited for along it: its receiver is left behind, or it has ended
 abbrev pub is_over_along : {D : Type 0} → Option ℕ → ℕ → ℕ → ChannelDestination D → Bool
-is_over_along end linger wait w = w.behind || is_some (ending_of (heard_along w) end w.silence linger wait)
+is_over_along end linger wait w = is_some w.behind || is_some (ending_of (heard_along w) end w.silence linger wait)
 
 abbrev pub is_broken_along : {D : Type 0} → Destination D → Bool
 is_broken_along w = w.broken

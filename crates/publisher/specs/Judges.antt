@@ -13,8 +13,7 @@ use Rattle.publisher.specs.Endings.{ending_along, heard_along, is_whole_along}
 use Rattle.publisher.specs.Seeing.{ChannelDestination}
 
 -- by how the reading has ended, if it has, this is how the publisher ends, if it does; where that was a fault, it was told
-pub record Judges {D : Type 0} (p : Progress) (destinations : List (ChannelDestination D)) (linger wait : ℕ) (answer : Option Judged) : Type 0 where
-  pub reading : Option Reading
+pub record Judges {D : Type 0} (p : Progress) (reading : Option Reading) (destinations : List (ChannelDestination D)) (linger wait : ℕ) (answer : Option Judged) : Type 0 where
   pub line : Option ToldShortfall
   pub is : answer ≡ judged_by reading line (ending_along destinations (end_in reading) linger wait)
   pub told : IfSome (fault_in reading) (λ _. p.faulted ≡ true)
@@ -25,12 +24,12 @@ Ends destinations linger wait judged = ending_along destinations (end_in judged.
 
 -- ---- the lines
 
--- not all was written at this destination, and its line was given: what it lacks of the subscriber there, by whom was heard and for how
--- long nothing more was
+-- not all was written at this destination, and its line was given: what it lacks of the subscriber there, by whom was heard, for how long
+-- nothing more was, and how far that is left behind, if it is
 pub record IsUnwritten {D : Type 0} (end : Option ℕ) (tail : ℕ) (w : ChannelDestination D) (told : ToldShortfall) : Type 0 where
   pub short : is_whole_along end w ≡ false
   pub peer : told.peer ≡ w.peer
-  pub shortfall : told.shortfall ≡ shortfall_of (heard_along w) end tail w.silence
+  pub shortfall : told.shortfall ≡ shortfall_of (heard_along w) end tail w.unheard w.behind
 
 -- the line is of one of these destinations
 abbrev pub IsToldOf : {D : Type 0} → Option ℕ → ℕ → List (ChannelDestination D) → ToldShortfall → Type 0

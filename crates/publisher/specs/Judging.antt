@@ -1,8 +1,9 @@
 -- What stops a publisher, and where its stream ends.
-use Rattle.std.specs.Prelude.{◌≡◌, ◌⊎◌, ℕ, Bool, true, false, ◌&&◌, nat_eq, if◌then◌else◌, Option, None, Some, Result, Ok, Err}
+use Rattle.std.specs.Prelude.{◌≡◌, ◌⊎◌, ⊤, ℕ, Bool, true, false, ◌&&◌, nat_eq, if◌then◌else◌, Option, None, Some, Result, Ok, Err}
 use Rattle.endpoint.specs.declared.device_error.DeviceError.TheVariants.{Device}
 use Rattle.peer.specs.declared.attendance.Ending.{Ending}
 use Rattle.peer.specs.declared.attendance.Ending.TheVariants.{Short}
+use Rattle.peer.specs.declared.farewell.StreamEnd.{StreamEnd}
 use Rattle.publisher.specs.Inputs as inputs
 use Rattle.publisher.specs.declared.offering.reading.ReadingFault.{ReadingFault}
 use Rattle.publisher.specs.declared.offering.reading.Offered.{Offered}
@@ -26,15 +27,30 @@ fault_in (Some reading) = fault_by reading.ended
 abbrev pub IsStop : PublishFault → Type 0
 IsStop fault = (f : ReadingFault) × (fault ≡ publish_fault f) × inputs.IsStop f
 
--- where the accepted messages do, once none comes any more; where the reading was stopped, more may come of the input
-abbrev pub end_by : Result ReadingEnd ReadingFault → ℕ → Option ℕ
-end_by (Ok All) tail = Some tail
-end_by (Ok Stopped) tail = None
-end_by (Err fault) tail = Some tail
+-- the stream ends where the accepted messages do, once none comes any more, and is broken off there where that is by a fault; where the
+-- reading was stopped, more may come of the input
+abbrev pub stream_end_by : Result ReadingEnd ReadingFault → ℕ → Option StreamEnd
+stream_end_by (Ok All) tail = Some (record { position = tail; broken = false })
+stream_end_by (Ok Stopped) tail = None
+stream_end_by (Err fault) tail = Some (record { position = tail; broken = true })
 
+-- the end that is announced
+abbrev pub stream_end_in : Option Reading → Option StreamEnd
+stream_end_in None = None
+stream_end_in (Some reading) = stream_end_by reading.ended reading.offered.tail
+
+abbrev pub position_in : Option StreamEnd → Option ℕ
+position_in None = None
+position_in (Some end) = Some end.position
+
+-- its position
 abbrev pub end_in : Option Reading → Option ℕ
-end_in None = None
-end_in (Some reading) = end_by reading.ended reading.offered.tail
+end_in reading = position_in (stream_end_in reading)
+
+-- how the reading ended, if it had, it has still
+abbrev pub StaysEnded : Option Reading → Option Reading → Type 0
+StaysEnded None after = ⊤
+StaysEnded (Some reading) after = after ≡ Some reading
 
 -- how many messages were accepted, and where they end: as the reading says, once it has ended
 abbrev pub messages_in : Option Reading → ℕ → ℕ
@@ -55,8 +71,8 @@ reading_fault None messages = Ok tt
 reading_fault (Some fault) messages = input_fault fault messages
 
 -- why it goes on no more: each call of the device has failed for too long, or the reading has stopped for that
-abbrev pub FailsBy : Bool → PublishFault → Type 0
-FailsBy broken fault = ((broken ≡ true) × (fault ≡ Failed Device)) ⊎ ((reading : Option Reading) × (fault_in reading ≡ Some fault))
+abbrev pub FailsBy : Bool → Option Reading → PublishFault → Type 0
+FailsBy broken reading fault = ((broken ≡ true) × (fault ≡ Failed Device)) ⊎ (fault_in reading ≡ Some fault)
 
 -- ---- how it ended in all
 

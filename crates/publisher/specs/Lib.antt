@@ -13,6 +13,7 @@ pub mod Destinations
 pub mod Turns
 pub mod Ended
 pub mod Texts
+pub mod News
 pub mod Whys
 pub mod Shorts
 pub mod Beginnings

@@ -3,6 +3,7 @@ use Rattle.std.specs.Prelude.{ℕ, ◌-◌, ◌&&◌, ◌||◌, Bool, not, true,
 use Rattle.peer.specs.declared.attendance.Attendance.{Attendance}
 use Rattle.peer.specs.declared.attendance.Heard.{Heard}
 use Rattle.peer.specs.declared.attendance.Ending.{Ending}
+use Rattle.peer.specs.declared.farewell.StreamEnd.{StreamEnd}
 use Rattle.peer.specs.Silences.{never, seen_at}
 use Rattle.publisher.specs.declared.offering.reading.Reading.{Reading}
 use Rattle.publisher.specs.declared.fault.PublishFault.{PublishFault}
@@ -26,6 +27,10 @@ nothing_seen = record { changes = 0; statuses = never; worked = never; shown = 0
 -- which receivers are there, and since when none was heard
 abbrev pub seen : Progress → Seen → ℕ → Progress
 seen p s now = record p { changes = s.attendance.changes; statuses = seen_at p.statuses s.tally.statuses now }
+
+-- a status message is noted again, behind more than five seconds in which none was
+abbrev pub is_back : Progress → ℕ → ℕ → Bool
+is_back p statuses now = not (nat_eq statuses p.statuses.count) && nat_lt 5000000000 (now - p.statuses.since)
 
 -- each call of the device failed for so long
 abbrev pub is_broken : Progress → ℕ → ℕ → ℕ → Bool
@@ -58,15 +63,21 @@ is_due_since (Some ended) now = nat_le 100000000 (now - ended)
 abbrev pub is_end_due : Progress → ℕ → Bool
 is_end_due p now = is_due_since p.ended now
 
--- the input has ended, the stream was sent up to its end, and that is due to be told
-abbrev pub end_to_tell : Progress → Option ℕ → ℕ → ℕ → Option ℕ
-end_to_tell p None sent_to now = None
-end_to_tell p (Some tail) sent_to now = if nat_lt sent_to tail then None else (if is_end_due p now then Some tail else None)
+-- the stream ends here, was sent up to there, and that is due to be told, where it was told last at some moment
+abbrev pub end_due : Option ℕ → Option StreamEnd → ℕ → ℕ → Option StreamEnd
+end_due ended None sent_to now = None
+end_due ended (Some end) sent_to now = if nat_lt sent_to end.position then None else (if is_due_since ended now then Some end else None)
 
 -- then the next 100 ms begin
-abbrev pub with_end_told : Progress → Option ℕ → ℕ → Progress
-with_end_told p None now = p
-with_end_told p (Some tail) now = record p { ended = Some now }
+abbrev pub ended_after : Option ℕ → Option StreamEnd → ℕ → Option ℕ
+ended_after ended None now = ended
+ended_after ended (Some end) now = Some now
+
+abbrev pub end_to_tell : Progress → Option StreamEnd → ℕ → ℕ → Option StreamEnd
+end_to_tell p end sent_to now = end_due p.ended end sent_to now
+
+abbrev pub with_end_told : Progress → Option StreamEnd → ℕ → Progress
+with_end_told p told now = record p { ended = ended_after p.ended told now }
 
 abbrev pub is_nobody : Option Heard → Bool
 is_nobody None = true

@@ -11,10 +11,10 @@ use Rattle.peer.specs.declared.attendance.Ending.{Ending}
 use Rattle.peer.specs.declared.attendance.Ending.TheVariants.{Short}
 use Rattle.peer.specs.declared.attended.ToldEnds.{ToldEnds}
 use Rattle.publisher.specs.declared.offering.reading.Reading.{Reading}
-use Rattle.publisher.specs.Destinations.{AreDestinationsAlong}
+use Rattle.publisher.specs.Destinations.{AreDestinationsAlong, peer_of}
 use Rattle.publisher.specs.Ended.{ArrivesAt, IsBegun}
 use Rattle.publisher.specs.Farewells.{are_told_no_other}
-use Rattle.publisher.specs.Judging.{end_in}
+use Rattle.publisher.specs.Judging.{stream_end_in}
 use Rattle.publisher.specs.Openings.{IsPlanned}
 use Rattle.publisher.specs.Seeing.{ChannelDestination}
 use Rattle.publisher.specs.Turns.{SaysWhy}
@@ -55,6 +55,6 @@ pub record SaysItsShortfall (p : PublishPlan) (routes : List Route) : Type 0 whe
   pub stands : first ≡ slice_index_or routes 0 first
   pub told : Option ToldShortfall
   pub reading : Option Reading
-  pub why : EndsShort log passes p first.peer told ⊎ IsUnclosed log passes p first.peer reading told
+  pub why : EndsShort log passes p (peer_of first) told ⊎ IsUnclosed log passes p (peer_of first) reading told
   pub ends : List (Option ToldEnds)
-  pub no_other : are_told_no_other p.geometry (end_in reading) ends ≡ true
+  pub no_other : are_told_no_other p.geometry (stream_end_in reading) ends ≡ true

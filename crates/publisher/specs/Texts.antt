@@ -5,6 +5,7 @@ use Rattle.std.specs.Net.Text.{socket_text}
 use Rattle.peer.specs.Texts.{joined}
 use Rattle.peer.specs.declared.attendance.Attendance.{Attendance}
 use Rattle.peer.specs.declared.attendance.Heard.{Heard}
+use Rattle.peer.specs.declared.attended.Behind.{Behind}
 use Rattle.peer.specs.Endings.{is_told}
 use Rattle.std.specs.declared.net.SocketAddr.{SocketAddr}
 use Rattle.endpoint.specs.Texts as devices
@@ -18,7 +19,7 @@ use Rattle.publisher.specs.declared.telling.Line.{Line}
 use Rattle.publisher.specs.declared.telling.Line.TheVariants as lines
 use Rattle.publisher.specs.declared.telling.Totals.{Totals}
 use Rattle.publisher.specs.declared.telling.Shortfall.{Shortfall}
-use Rattle.publisher.specs.declared.telling.Shortfall.TheVariants.{Unheard, Silent, Several, Elsewhere, Unclosed}
+use Rattle.publisher.specs.declared.telling.Shortfall.TheVariants.{Unheard, Silent, LeftBehind, Several, Elsewhere, Unclosed}
 use Rattle.publisher.specs.declared.fault.PublishFault.{PublishFault}
 use Rattle.publisher.specs.declared.fault.PublishFault.TheVariants.{Input, Full, NoSocket, NoThread, Failed}
 
@@ -39,29 +40,32 @@ number_of (Failed error) = None
 
 -- ---- lines
 
--- what a publisher that ends short lacks of a subscriber: somebody; the acknowledgement of all bytes; or one that was there alone,
--- from the start on
-abbrev pub heard_shortfall : Bool → ℕ → ℕ → ℕ → Heard → Shortfall
-heard_shortfall true seconds start tail h = Several
-heard_shortfall false seconds start tail h = Silent seconds (h.last - start) (tail - start)
+-- what a publisher that ends short lacks of a subscriber: somebody; the acknowledgement of all bytes, which one that is left behind can't
+-- get any more; or one that was there alone, from the start on
+abbrev pub unacknowledged : Option Behind → ℕ → ℕ → ℕ → Shortfall
+unacknowledged None seconds acknowledged bytes = Silent seconds acknowledged bytes
+unacknowledged (Some b) seconds acknowledged bytes = LeftBehind acknowledged bytes b.reach
 
-abbrev pub shortfall_by : Attendance → Option Heard → Option ℕ → ℕ → ℕ → Shortfall
-shortfall_by a None end tail seconds = Unheard seconds
-shortfall_by a (Some h) end tail seconds = heard_shortfall (is_told a end) seconds a.start tail h
+abbrev pub heard_shortfall : Bool → Option Behind → ℕ → ℕ → ℕ → Heard → Shortfall
+heard_shortfall true behind seconds start tail h = Several
+heard_shortfall false behind seconds start tail h = unacknowledged behind seconds (h.last - start) (tail - start)
 
--- the silence of so many nanoseconds in whole seconds
-abbrev pub whole_seconds : Option ℕ → ℕ
-whole_seconds None = 0
-whole_seconds (Some silence) = silence / 1000000000
+abbrev pub shortfall_by : Attendance → Option Heard → Option ℕ → ℕ → ℕ → Option Behind → Shortfall
+shortfall_by a None end tail seconds behind = Unheard seconds
+shortfall_by a (Some h) end tail seconds behind = heard_shortfall (is_told a end) behind seconds a.start tail h
 
-abbrev pub shortfall_of : Attendance → Option ℕ → ℕ → Option ℕ → Shortfall
-shortfall_of a end tail silence = shortfall_by a a.present end tail (whole_seconds silence)
+-- where no status message was noted for so many nanoseconds
+abbrev pub shortfall_of : Attendance → Option ℕ → ℕ → ℕ → Option Behind → Shortfall
+shortfall_of a end tail unheard behind = shortfall_by a a.present end tail (unheard / 1000000000) behind
 
 abbrev pub gave_up_text : SocketAddr → Shortfall → List ℕ
 gave_up_text peer (Unheard seconds) = joined (codes "gave up: nobody was heard at " ∷ socket_text peer ∷ codes " for " ∷ decimal seconds ∷ codes " s" ∷ [])
 gave_up_text peer (Silent seconds acknowledged bytes) = joined (
     codes "gave up: nothing was heard from " ∷ socket_text peer ∷ codes " for " ∷ decimal seconds ∷ codes " s; it has acknowledged "
     ∷ decimal acknowledged ∷ codes " of " ∷ decimal bytes ∷ codes " bytes" ∷ [])
+gave_up_text peer (LeftBehind acknowledged bytes reach) = joined (
+    codes "gave up: " ∷ socket_text peer ∷ codes " is left behind: it has acknowledged " ∷ decimal acknowledged ∷ codes " of " ∷ decimal bytes
+    ∷ codes " bytes, and " ∷ decimal reach ∷ codes " can be sent again" ∷ [])
 gave_up_text peer Several = joined (codes "not all was written at " ∷ socket_text peer ∷ codes " by one subscriber that was there from the start on" ∷ [])
 gave_up_text peer Elsewhere = codes "gave up: the input ended elsewhere than where the stream was taken to"
 gave_up_text peer Unclosed = codes "gave up: the log couldn't be closed, since memory was refused or a thread still has it"
@@ -90,10 +94,13 @@ line_text (lines.Changed left present) = joined (
     ∷ codes ", receiver " ∷ signed_decimal present.receiver ∷ codes " joined at position " ∷ decimal present.first ∷ [])
 line_text lines.Alone = codes "nobody was heard for 5 s: no subscriber is there, or it follows another publisher, or takes another stream or session, or only shorter terms"
 line_text lines.Quiet = codes "nothing was heard for 5 s: the others go on without it"
+line_text (lines.LeftBehind peer position b) = joined (
+    socket_text peer ∷ codes " is left behind: it stands at position " ∷ decimal position ∷ codes ", " ∷ decimal b.missing
+    ∷ codes " bytes behind, of which " ∷ decimal b.reach ∷ codes " can be sent again" ∷ [])
 line_text (lines.CameBack peer b) = joined (
-    socket_text peer ∷ codes " came back " ∷ decimal b.missing ∷ codes " bytes behind, of which " ∷ decimal b.reach ∷ codes " can be sent again: left behind" ∷ [])
+    socket_text peer ∷ codes " came back " ∷ decimal b.missing ∷ codes " bytes behind, of which " ∷ decimal b.reach ∷ codes " can be sent again" ∷ [])
 line_text (lines.LeftOut peer seconds) = joined (codes "nobody was heard at " ∷ socket_text peer ∷ codes " for " ∷ decimal seconds ∷ codes " s: the others begin without it" ∷ [])
-line_text (lines.Faulted fault) = text_of fault ++ codes "; what came before it is delivered first"
+line_text (lines.BrokenOff messages) = joined (codes "the stream is broken off behind " ∷ decimal messages ∷ codes " messages: they are delivered first" ∷ [])
 line_text (lines.GaveUp gave_up) = gave_up_text gave_up.0 gave_up.1
 line_text lines.Empty = codes "the input was empty: nothing was published"
 line_text (lines.Counters c) = counters_text c

@@ -11,16 +11,15 @@ ghost use Rattle.shared_log.specs.Readers.{IsReaderOf};
 ghost use Rattle.agents.specs.LogSenders.{SendsLog};
 ghost use Rattle.endpoint.specs.declared.open_error.OpenError.{OpenError};
 ghost use Rattle.endpoint.specs.declared.udp.Route.{Route};
-ghost use Rattle.peer.specs.Ties.{hearing_anybody, tied_waiting};
 ghost use Rattle.peer.specs.declared.attendance.Ending.TheVariants.{Short, Whole};
 ghost use Rattle.publisher.specs.Beginnings.{ArePublisherParts};
-ghost use Rattle.publisher.specs.Destinations.{AreDestinationsAlong, IsDestinationOf, id_of, place_of};
+ghost use Rattle.publisher.specs.Destinations.{AreDestinationsAlong, IsDestinationOf, id_of, peer_of, place_of, socket_along};
 ghost use Rattle.publisher.specs.Ended.{ArrivesAt, CanClose, HasSent, IsBegun, IsClosed, LeavesLog, PublishesAll, reading_left};
 ghost use Rattle.publisher.specs.Farewells.{are_told_alone, are_told_no_other};
 ghost use Rattle.publisher.specs.Faults.{of_opening};
 ghost use Rattle.publisher.specs.InputEnds.{EndsInput};
-ghost use Rattle.publisher.specs.Judging.{end_in, fault_in};
-ghost use Rattle.publisher.specs.Openings.{ArePasses, IsKept, identity_of};
+ghost use Rattle.publisher.specs.Judging.{fault_in, stream_end_in};
+ghost use Rattle.publisher.specs.Openings.{ArePasses, IsKept};
 ghost use Rattle.publisher.specs.Shorts.{EndsShort, SaysItsShortfall, unclosed};
 
 use crate::beginning::{PublisherParts, channel_device, parts_over, planned_stream};
@@ -81,8 +80,9 @@ fn destination_over<D: Datagrams>(
         before: Calls { nones: 0, lost: 0 },
         progress: Progress::new(),
         silence: None,
+        unheard: 0,
         quiet: false,
-        behind: false,
+        behind: None,
         broken: false,
     }
 }
@@ -104,7 +104,7 @@ fn connected<R: Net>(
     plan: &PublishPlan,
     route: &Route,
 ) -> Result<TiedDevice, PublishFault>
-    ensures waits { IfOk result (λ t. t ≡ tied_waiting hearing_anybody route.now.peer (Some (record { sent = identity_of plan.now; start = plan.now.start }))) }
+    ensures waits { IfOk result (λ t. t ≡ socket_along plan.now route.now) }
     ensures refused { IfErr result (λ fault. (error : OpenError) × (fault ≡ of_opening route.now error)) }
 {
     let awaited = Awaited {
@@ -215,9 +215,9 @@ pub fn publish_over<
     // A message that couldn't be read is a fault, however the sending went.
     ensures faulted { IfOk result (λ e. IfSome (fault_in (reading_left e.0.input)) (λ fault. e.0.ending ≡ Err fault)) }
     // Where it ends whole no device was given an end to tell but the reading's.
-    ensures told { IfOk result (λ e. e.0.ending ≡ Ok Whole → are_told_alone plan.now.geometry (end_in (reading_left e.0.input)) e.0.ends.items ≡ true) }
+    ensures told { IfOk result (λ e. e.0.ending ≡ Ok Whole → are_told_alone plan.now.geometry (stream_end_in (reading_left e.0.input)) e.0.ends.items ≡ true) }
     // Where it ends without a fault no device was given another end to tell.
-    ensures no_other { IfOk result (λ e. IfOk e.0.ending (λ _. are_told_no_other plan.now.geometry (end_in (reading_left e.0.input)) e.0.ends.items ≡ true)) }
+    ensures no_other { IfOk result (λ e. IfOk e.0.ending (λ _. are_told_no_other plan.now.geometry (stream_end_in (reading_left e.0.input)) e.0.ends.items ≡ true)) }
     // Where it ends short a line has said why.
     ensures short { IfOk result (λ e. e.0.ending ≡ Ok Short → EndsShort parts.state.log parts.passes plan.now parts.peer e.0.told) }
 {
@@ -268,7 +268,7 @@ fn prepared<R: Net + Clock>(
     requires few { length routes.now ≤ 8 }
     ensures parts { IfOk result (λ p. ArePublisherParts plan.now p) }
     ensures destinations { IfOk result (λ p. AreDestinationsAlong plan.now routes.now p.passes.duty.device.ways) }
-    ensures peer { IfOk result (λ p. (first : Route) × (first ≡ slice_index_or routes.now 0 first) × (p.peer ≡ first.peer)) }
+    ensures peer { IfOk result (λ p. (first : Route) × (first ≡ slice_index_or routes.now 0 first) × (p.peer ≡ peer_of first)) }
 {
     let began = Began::now(rt)?;
     let destinations = destinations_along(rt, alloc, plan, routes)?;
@@ -299,7 +299,8 @@ pub fn buffered<I: Read + Drop>(
 /// what those that are heard allow, once each was heard; one that is silent for five seconds holds the others up no longer.
 ///
 /// Where its input has ended, by its end or a fault, and all was sent, it tells where the stream ends: each 100 ms until all is
-/// acknowledged, and five times at its own end. Where it ends whole it has told no other end.
+/// acknowledged, and five times at its own end. Behind a fault it tells that the stream is broken off there. Where it ends whole it
+/// has told no other end than the input's, and none at which the stream is broken off.
 ///
 /// It waits for nobody but receivers: where it ends the input may still be read, by a thread of its own that ends with the
 /// process, or at its next message. It ends whole only where all of the input was read, and its log is closed then.
@@ -322,7 +323,7 @@ pub fn publish<
 ) -> Result<Ending, PublishFault>
     requires some { 0 < length routes.now }
     requires few { length routes.now ≤ 8 }
-    ensures whole { result ≡ Ok Whole → PublishesAll plan.now (length routes.now) (I.remaining input) }
+    ensures whole { result ≡ Ok Whole → PublishesAll plan.now routes.now (I.remaining input) }
     ensures short { result ≡ Ok Short → SaysItsShortfall plan.now routes.now }
 {
     let input = buffered(alloc, input)?;

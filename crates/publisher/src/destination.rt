@@ -7,7 +7,7 @@ ghost use Rattle.endpoint.specs.Devices.{NeverFall};
 ghost use Rattle.publisher.specs.Endings.{ending_along, is_broken_along, is_over_along, is_whole_along};
 ghost use Rattle.publisher.specs.Looking.{calls_of, is_at_rest};
 ghost use Rattle.publisher.specs.Numbers.{GoesOn, NumbersBy, ReceivesNumbered, goes_on, goes_still};
-ghost use Rattle.publisher.specs.Seeing.{begun, behind_now, is_quiet, label_of, news_along, seen_along, shown};
+ghost use Rattle.publisher.specs.Seeing.{back_now, begun, behind_now, is_quiet, label_of, news_along, seen_along, shown};
 
 use crate::progress::Progress;
 use endpoint::{Datagrams, DeviceFailed};
@@ -54,10 +54,12 @@ pub struct Destination<D> {
     pub progress: Progress,
     /// For how many nanoseconds no status message came from there, where that was judged.
     pub silence: Option<u64>,
-    /// Whether one that was heard is silent, by what was seen last.
+    /// For how many nanoseconds none was noted, by what was seen last.
+    pub unheard: u64,
+    /// Whether one that was heard, and lacks something, is silent, by what was seen last.
     pub quiet: bool,
-    /// Whether it was told that the one that was heard last is left behind.
-    pub behind: bool,
+    /// How far the one that was heard last is left behind, by what was seen last.
+    pub behind: Option<Behind>,
     /// Whether each call of its device has failed for too long.
     pub broken: bool,
 }
@@ -144,22 +146,40 @@ pub struct News {
     pub quiet: bool,
     /// The one that was heard last is left behind now, so far.
     pub behind: Option<Behind>,
+    /// It was left behind, and is heard again, so far behind.
+    pub back: Option<Behind>,
 }
 
 /// What is news of one that is left behind so far, if it is: it wasn't before.
-fn behind_now(behind: Option<Behind>, before: bool) -> Option<Behind>
+fn behind_now(behind: Option<Behind>, before: Option<Behind>) -> Option<Behind>
     ensures { result ≡ behind_now behind before }
 {
-    if before { None } else { behind }
+    match before {
+        None => behind,
+        Some(_) => None,
+    }
 }
 
-/// Whether one that was heard is silent for so long that the others go on without it; as before where that isn't judged.
-fn is_quiet(attendance: &Attendance, silence: Option<u64>, before: bool) -> bool
-    ensures { result ≡ is_quiet attendance.now silence before }
+/// What is news of one that is left behind so far, if it is: it was before, and is heard again.
+fn back_now(behind: Option<Behind>, before: Option<Behind>, heard: bool) -> Option<Behind>
+    ensures { result ≡ back_now behind before heard }
+{
+    match before {
+        Some(_) if heard => behind,
+        _ => None,
+    }
+}
+
+/// Whether one that was heard, and hasn't told the stream's end, is silent for so long that the others go on without it; as before
+/// where that isn't judged.
+fn is_quiet(attendance: &Attendance, end: Option<u64>, silence: Option<u64>, before: bool) -> bool
+    ensures { result ≡ is_quiet attendance.now end silence before }
 {
     match silence {
         None => before,
-        Some(silence) => attendance.present.is_some() && silence > LIVE,
+        Some(silence) => {
+            attendance.present.is_some() && !attendance.is_told(end) && silence > LIVE
+        }
     }
 }
 
@@ -198,25 +218,27 @@ impl<D: Datagrams> Destination<ChannelDevice<D>> {
         }
     }
 
-    /// Sees at a moment what the cycle has shown. What is to be told of that.
-    pub(crate) fn see(&mut self, linger: u64, now: u64) -> News
-        ensures seen { self.new ≡ seen_along linger now self.old }
-        ensures news { result ≡ news_along linger now self.old }
+    /// Sees at a moment what the cycle has shown, of a stream that ends at `end`, if that is known. What is to be told of that.
+    pub(crate) fn see(&mut self, end: Option<u64>, linger: u64, now: u64) -> News
+        ensures seen { self.new ≡ seen_along end linger now self.old }
+        ensures news { result ≡ news_along end linger now self.old }
     {
         let seen = self.look();
         let (was_quiet, was_behind) = (self.quiet, self.behind);
-        let behind = self.device.behind();
+        let heard = self.progress.is_back(seen.tally.statuses, now);
         self.broken = self.progress.is_broken(seen.worked, linger, now);
         let changed = self.progress.see(&seen, now);
         let alone = self.progress.is_alone(&seen.attendance, now);
         self.silence = self.progress.statuses.judged(seen.at_rest, now);
-        self.quiet = is_quiet(&seen.attendance, self.silence, was_quiet);
-        self.behind = behind.is_some();
+        self.unheard = self.progress.statuses.lasts(now);
+        self.quiet = is_quiet(&seen.attendance, end, self.silence, was_quiet);
+        self.behind = self.device.behind();
         News {
             changed,
             alone,
             quiet: self.quiet && !was_quiet,
-            behind: behind_now(behind, was_behind),
+            behind: behind_now(self.behind, was_behind),
+            back: back_now(self.behind, was_behind, heard),
         }
     }
 
@@ -232,7 +254,7 @@ impl<D: Datagrams> Destination<ChannelDevice<D>> {
         ensures { result ≡ is_over_along end linger wait self.now }
     {
         let attendance = self.device.attendance();
-        self.behind || attendance.ending(end, self.silence, linger, wait).is_some()
+        self.behind.is_some() || attendance.ending(end, self.silence, linger, wait).is_some()
     }
 }
 

@@ -1,10 +1,12 @@
 //! What a publisher tells of its destinations on its error output.
 
-ghost use Rattle.std.specs.Prelude.{◌≡◌, true, IfNone, IfSome, None};
+ghost use Rattle.std.specs.Prelude.{◌≡◌, true, IfNone, IfSome, None, OnOk};
+ghost use Rattle.std.specs.Io.KnownBytes.{Appends};
 ghost use Rattle.std.specs.List.{list_all};
 ghost use Rattle.peer.specs.declared.attendance.Ending.TheVariants.{Short, Whole};
 ghost use Rattle.publisher.specs.Endings.{is_whole_along};
 ghost use Rattle.publisher.specs.Judges.{IsToldOf, IsUnwritten, last_of};
+ghost use Rattle.publisher.specs.News.{alone_line, back_line, behind_line, behind_text, change_line, heard_text, news_text, quiet_line, text_if};
 
 use crate::destination::{ChannelDevice, Destination, News};
 use crate::progress::{Progress, told_in};
@@ -14,31 +16,114 @@ use crate::telling::{
     tell_whole, tell_why,
 };
 use endpoint::Datagrams;
-use peer::Ending;
+use peer::{Attendance, Behind, Ending};
+use std::io;
 use std::io::Write;
+use std::net::SocketAddr;
 use text::Pace;
 
+/// Another receiver is heard than before.
+fn change_line(changed: bool, attendance: &Attendance) -> Option<Line>
+    ensures { result ≡ change_line changed attendance.now }
+{
+    if changed { change_in(attendance) } else { None }
+}
+
+/// Nobody was heard.
+fn alone_line(alone: bool) -> Option<Line>
+    ensures { result ≡ alone_line alone }
+{
+    if alone { Some(Line::Alone) } else { None }
+}
+
+/// One of several is silent.
+fn quiet_line(quiet: bool, label: Option<SocketAddr>) -> Option<Line>
+    ensures { result ≡ quiet_line quiet label }
+{
+    if quiet && label.is_some() {
+        Some(Line::Quiet)
+    } else {
+        None
+    }
+}
+
+/// One is left behind so far, if it is, and stands here.
+fn behind_line(peer: SocketAddr, position: u64, behind: Option<Behind>) -> Option<Line>
+    ensures { result ≡ behind_line peer position behind }
+{
+    match behind {
+        None => None,
+        Some(behind) => Some(Line::LeftBehind(peer, position, behind)),
+    }
+}
+
+/// One is heard again while it is left behind so far, if it is.
+fn back_line(peer: SocketAddr, back: Option<Behind>) -> Option<Line>
+    ensures { result ≡ back_line peer back }
+{
+    match back {
+        None => None,
+        Some(behind) => Some(Line::CameBack(peer, behind)),
+    }
+}
+
+/// Tells a line, if there is one.
+#[tactic(auto, using(crate::proofs::NewsLines::none))]
+fn tell_if<E: Write>(
+    errors: &mut E,
+    label: Option<SocketAddr>,
+    line: Option<Line>,
+) -> io::Result<()>
+    ensures { OnOk result (Appends (E.contents errors.old) (E.contents errors.new) (text_if label line)) }
+{
+    match line {
+        None => Ok(()),
+        Some(line) => tell(errors, label, line),
+    }
+}
+
+/// Tells who is heard along a destination, or that nobody is, where that is new.
+#[tactic(auto, using(crate::proofs::NewsLines::both))]
+fn tell_heard<D: Datagrams, E: Write>(
+    errors: &mut E,
+    destination: &Destination<ChannelDevice<D>>,
+    news: News,
+) -> io::Result<()>
+    ensures { OnOk result (Appends (E.contents errors.old) (E.contents errors.new) (heard_text destination.now news)) }
+{
+    let label = destination.label();
+    let attendance = destination.device.attendance();
+    tell_if(errors, label, change_line(news.changed, &attendance))?;
+    tell_if(errors, label, alone_line(news.alone))?;
+    tell_if(errors, label, quiet_line(news.quiet, label))
+}
+
+/// Tells who is left behind along a destination, where that is new.
+#[tactic(auto, using(crate::proofs::NewsLines::both))]
+fn tell_behind<D: Datagrams, E: Write>(
+    errors: &mut E,
+    destination: &Destination<ChannelDevice<D>>,
+    news: News,
+) -> io::Result<()>
+    ensures { OnOk result (Appends (E.contents errors.old) (E.contents errors.new) (behind_text destination.now news)) }
+{
+    let peer = destination.peer;
+    let position = told_in(&destination.device.attendance());
+    tell_if(errors, None, behind_line(peer, position, news.behind))?;
+    tell_if(errors, None, back_line(peer, news.back))
+}
+
 /// Tells what is new along a destination.
+#[tactic(auto, using(crate::proofs::NewsLines::both))]
 pub(crate) fn tell_news<D: Datagrams, E: Write>(
     errors: &mut E,
     destination: &Destination<ChannelDevice<D>>,
     news: News,
-) {
-    let label = destination.label();
-    if news.changed {
-        if let Some(line) = change_in(&destination.device.attendance()) {
-            let _ = tell(errors, label, line);
-        }
-    }
-    if news.alone {
-        let _ = tell(errors, label, Line::Alone);
-    }
-    if news.quiet && label.is_some() {
-        let _ = tell(errors, label, Line::Quiet);
-    }
-    if let Some(behind) = news.behind {
-        let _ = tell(errors, None, Line::CameBack(destination.peer, behind));
-    }
+) -> io::Result<()>
+    ensures { OnOk result (Appends (E.contents errors.old) (E.contents errors.new) (news_text destination.now news)) }
+{
+    tell_heard(errors, destination, news)?;
+    tell_behind(errors, destination, news)
 }
 
 /// Gives the line of a destination along which not all was written of a stream that ends at `end`, if its input has ended, and else has
@@ -56,7 +141,8 @@ fn tell_unwritten<D: Datagrams, E: Write>(
     if attendance.is_whole(end) {
         return None;
     }
-    let shortfall = shortfall_of(&attendance, end, tail, destination.silence);
+    let (unheard, behind) = (destination.unheard, destination.behind);
+    let shortfall = shortfall_of(&attendance, end, tail, unheard, behind);
     Some(tell_why(errors, destination.peer, shortfall))
 }
 
@@ -152,7 +238,8 @@ pub(crate) fn tell_counts<R, D: Datagrams, E: Write>(
     now: u64,
     last: bool,
 )
-    ensures { progress.new.faulted ≡ progress.old.faulted }
+    ensures faulted { progress.new.faulted ≡ progress.old.faulted }
+    ensures ended { progress.new.ended ≡ progress.old.ended }
 {
     let (plan, messages) = (context.plan, context.state.messages());
     if !plan.end.counters {

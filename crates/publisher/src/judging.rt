@@ -1,14 +1,14 @@
 //! How the reading ended, why a publisher goes on no more by that, and how its end was judged.
 
 ghost use Rattle.std.specs.Prelude.{◌≡◌, true, IfSome, OnErr, OnOk};
-ghost use Rattle.publisher.specs.Judging.{IsStop, end_in, fault_in, input_fault, messages_in, reading_fault, tail_in};
+ghost use Rattle.publisher.specs.Judging.{IsStop, end_in, fault_in, input_fault, messages_in, reading_fault, stream_end_in, tail_in};
 ghost use Rattle.publisher.specs.Progress.{with_fault};
 
 use crate::fault::PublishFault;
 use crate::offering::{Reading, ReadingEnd};
 use crate::progress::Progress;
 use crate::telling::{Line, ToldShortfall, tell};
-use peer::Ending;
+use peer::{Ending, StreamEnd};
 use std::io::Write;
 
 /// How a publisher ends by whom it has heard, and how the reading had ended then, if it had.
@@ -34,16 +34,37 @@ pub fn fault_in(reading: &Option<Reading>) -> Option<PublishFault>
     }
 }
 
-/// Where the stream ends, if the reading has, and wasn't stopped: where the accepted messages do.
-pub fn end_in(reading: &Option<Reading>) -> Option<u64>
-    ensures { result ≡ end_in reading.now }
+/// The stream's end that is announced, if the reading has ended, and wasn't stopped: where the accepted messages end. It is broken off
+/// there where the reading ended by a fault.
+pub fn stream_end_in(reading: &Option<Reading>) -> Option<StreamEnd>
+    ensures { result ≡ stream_end_in reading.now }
 {
     match *reading {
         None => None,
-        Some(ref reading) => match reading.ended {
-            Ok(ReadingEnd::Stopped) => None,
-            Ok(ReadingEnd::All) | Err(_) => Some(reading.offered.tail),
-        },
+        Some(ref reading) => {
+            let position = reading.offered.tail;
+            match reading.ended {
+                Ok(ReadingEnd::Stopped) => None,
+                Ok(ReadingEnd::All) => Some(StreamEnd {
+                    position,
+                    broken: false,
+                }),
+                Err(_) => Some(StreamEnd {
+                    position,
+                    broken: true,
+                }),
+            }
+        }
+    }
+}
+
+/// Its position.
+pub fn end_in(reading: &Option<Reading>) -> Option<u64>
+    ensures { result ≡ end_in reading.now }
+{
+    match stream_end_in(reading) {
+        None => None,
+        Some(end) => Some(end.position),
     }
 }
 
@@ -67,7 +88,7 @@ pub fn tail_in(reading: &Option<Reading>, tail: u64) -> u64
     }
 }
 
-/// Tells once why no message comes any more, where messages came before. Where none did, that is the publisher's fault.
+/// Tells once that no message comes any more, where messages came before. Where none did, that is the publisher's fault.
 fn check_input<E: Write>(
     progress: &mut Progress,
     fault: PublishFault,
@@ -83,7 +104,7 @@ fn check_input<E: Write>(
     }
     if !progress.faulted {
         progress.faulted = true;
-        let _ = tell(errors, None, Line::Faulted(fault));
+        let _ = tell(errors, None, Line::BrokenOff(messages));
     }
     Ok(())
 }

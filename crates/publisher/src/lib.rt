@@ -13,7 +13,8 @@
 //! heard from the start to there, and no other, or nothing was to be delivered. That is what each one's own device has noted, which has
 //! lived on from the one that was handed in (`ArrivesAt`; `publish`, by `PublishesAll`). Its log is closed then, with all its passes:
 //! what its one publisher has claimed, in the order of the stream, tiles that from the log's start to its tail, and nobody else has
-//! claimed anything; what its sender knew of the log are frames that were committed to it.
+//! claimed anything; what its sender knew of the log are frames that were committed to it. Its destinations are those of the routes
+//! that it was given, each over a socket that is tied to its route's peer (`IsAlong`).
 //!
 //! Its sender stands where the plan starts and sends from there, and its core lives by datagrams and moments as a sender does, of
 //! several destinations also by a group of fewer (`StreamLived`). Each cycle goes through one of the conductor, by which the log is kept
@@ -25,9 +26,13 @@
 //! It gives up where nothing more is waited for at any destination: the end was told, or it was silent, or nobody was heard, for too
 //! long, by the silence that the cycles have shown, judged only where the socket was empty, or its receiver is left behind
 //! (`EndsBehind`). Reading stops only at a full stream or the input's fault, which is told before one of sending; the texts that are
-//! told are exact. Where it ends whole, each end that a device was given to tell is where the reading's messages end. Where it ends
-//! short none was given another, and a line was given that says why: it gave up on a destination, or its log couldn't be closed
-//! (`publish`, by `SaysItsShortfall`; only giving it makes a `ToldShortfall`).
+//! told are exact, and so is what is new along a destination (`news_along`, `news_text`).
+//!
+//! The end that is announced is the reading's (`stream_end_in`): where its messages end, and broken off there where it ended by a fault;
+//! one that was stopped, or goes on, has none. Each turn announces that one where it is due, and no other (`Turns`). Where it ends whole,
+//! each end that a device was given to tell is that one, and at none is the stream broken off. Where it ends short none was given
+//! another, and a line was given that says why: it gave up on a destination, or its log couldn't be closed (`publish`, by
+//! `SaysItsShortfall`; only giving it makes a `ToldShortfall`).
 //!
 //! While the reading goes on its thread hides the pass, so of a publisher that ends before it no more is said; nor which
 //! datagrams went out, since its devices tell nothing; nor that anything is read or sent: `tools/channels` shows it.

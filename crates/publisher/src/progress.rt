@@ -1,10 +1,11 @@
 //! What a publisher has seen and told.
 
 ghost use Rattle.std.specs.Prelude.{◌≡◌, ◌||◌, not, nat_eq};
-ghost use Rattle.publisher.specs.Progress.{end_to_tell, is_alone, is_broken, is_end_due, is_shown, nothing_seen, seen, shown_at, shown_messages, told_of, with_end_told, with_work};
+ghost use Rattle.publisher.specs.Progress.{end_to_tell, is_alone, is_back, is_broken, is_end_due, is_shown, nothing_seen, seen, shown_at, shown_messages, told_of, with_end_told, with_work};
 
 use crate::destination::Seen;
-use peer::{Attendance, Silence};
+use flow_control::LIVE;
+use peer::{Attendance, Silence, StreamEnd};
 
 /// Nanoseconds from one line of counters to the next.
 const SECOND: u64 = 1_000_000_000;
@@ -27,7 +28,7 @@ pub struct Progress {
     messages: u64,
     alone: bool,
     pub faulted: bool,
-    ended: Option<u64>,
+    pub ended: Option<u64>,
 }
 
 /// What the receiver that was heard last has told; before anybody was heard it is the start.
@@ -66,6 +67,13 @@ impl Progress {
         self.changes = cycle.attendance.changes;
         self.statuses.see(cycle.tally.statuses, now);
         changed
+    }
+
+    /// Whether a status message is noted again, with which there are so many, behind more than five seconds without one.
+    pub fn is_back(&self, statuses: u64, now: u64) -> bool
+        ensures { result ≡ is_back self.now statuses now }
+    {
+        statuses != self.statuses.count && self.statuses.lasts(now) > LIVE
     }
 
     /// Sees how many calls of the device have worked. Whether none did for so long, in nanoseconds.
@@ -114,15 +122,20 @@ impl Progress {
 
     /// The end that is to be told at this moment, where the input has ended and the stream was sent up to its end; then the
     /// next 100 ms begin.
-    pub fn end_to_tell(&mut self, end: Option<u64>, sent_to: u64, now: u64) -> Option<u64>
+    pub fn end_to_tell(
+        &mut self,
+        end: Option<StreamEnd>,
+        sent_to: u64,
+        now: u64,
+    ) -> Option<StreamEnd>
         ensures due { result ≡ end_to_tell self.old end sent_to now }
         ensures told { self.new ≡ with_end_told self.old result now }
     {
-        let tail = end?;
-        if sent_to < tail || !self.is_end_due(now) {
+        let end = end?;
+        if sent_to < end.position || !self.is_end_due(now) {
             return None;
         }
         self.ended = Some(now);
-        Some(tail)
+        Some(end)
     }
 }

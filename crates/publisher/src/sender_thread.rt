@@ -8,7 +8,6 @@ ghost use Rattle.endpoint.specs.Fans.{AllLive};
 ghost use Rattle.sender_meaning.specs.Moments.{CyclesAt};
 ghost use Rattle.sender_meaning.specs.StreamLives.{StreamLived};
 ghost use Rattle.endpoint.specs.declared.device_error.DeviceError.TheVariants.{Device};
-ghost use Rattle.publisher.specs.Judging.{FailsBy};
 ghost use Rattle.publisher.specs.Keeping.{KeepsLog};
 ghost use Rattle.publisher.specs.Openings.{ArePasses, IsKept};
 ghost use Rattle.publisher.specs.Progress.{end_to_tell, with_end_told};
@@ -17,14 +16,15 @@ ghost use Rattle.publisher.specs.Destinations.{begins_now, heard_count, is_heard
 ghost use Rattle.publisher.specs.Endings.{is_broken_along};
 ghost use Rattle.publisher.specs.Farewells.{TellsWhereDue};
 ghost use Rattle.publisher.specs.Judges.{HasToldWhy, Judges};
+ghost use Rattle.publisher.specs.Judging.{FailsBy, StaysEnded};
 ghost use Rattle.publisher.specs.Seeing.{LivesAlong, begun, seen_along};
 ghost use Rattle.publisher.specs.Turns.{Begins, Cycles, EndsBehind, LivedAt, LivedToLast};
 
 use crate::destination::{ChannelDevice, Destination, are_broken, begin_all, ending_along};
 use crate::destination_lines::{tell_all_done, tell_counts, tell_ending, tell_news};
 use crate::fault::PublishFault;
-use crate::judging::{Judged, check_reading, end_in, messages_in, tail_in};
-use crate::offering::OfferingState;
+use crate::judging::{Judged, check_reading, end_in, messages_in, stream_end_in, tail_in};
+use crate::offering::{OfferingState, Reading};
 use crate::progress::Progress;
 use crate::telling::{Line, NANOSECONDS_PER_SECOND, tell};
 use crate::two_threads::tell_all;
@@ -33,6 +33,7 @@ use conductor::{Client, Conductor, Taker};
 use endpoint::{Datagrams, DeviceError, Fan};
 use flow_control::StreamFlow;
 use options::PublishPlan;
+use peer::StreamEnd;
 use shared_log::Keeper;
 use std::io::Write;
 use std::net::SocketAddr;
@@ -79,18 +80,19 @@ pub struct ChannelSender<'a, D> {
     pub peer: SocketAddr,
 }
 
-/// Sees what a cycle has shown of each destination, and tells what is new.
+/// Sees what a cycle has shown of each destination of a stream that ends at `end`, if that is known, and tells what is new.
 fn see_all<D: Datagrams, E: Write>(
     destinations: &mut [Destination<ChannelDevice<D>>],
     errors: &mut E,
+    end: Option<u64>,
     linger: u64,
     now: u64,
 )
-    ensures { destinations.new ≡ map (seen_along linger now) destinations.old }
+    ensures { destinations.new ≡ map (seen_along end linger now) destinations.old }
 {
     for destination in destinations.iter_mut() {
-        let news = destination.see(linger, now);
-        tell_news(errors, destination, news);
+        let news = destination.see(end, linger, now);
+        let _ = tell_news(errors, destination, news);
     }
 }
 
@@ -122,12 +124,13 @@ pub fn keep<R: Wait, D>(context: &PublisherContext<'_, R>, passes: &mut SenderPa
     )
 }
 
-/// A cycle of the sender, with each destination told up to where the stream was sent, and one of the conductor. Whether there was
-/// work.
+/// A cycle of the sender, with each destination told up to where the stream was sent, and one of the conductor; the stream ends at
+/// `end`, if that is known. Whether there was work.
 fn cycle<R: Wait + Clock, D: Datagrams, E: Write>(
     context: &PublisherContext<'_, R>,
     sender: &mut ChannelSender<'_, D>,
     errors: &mut E,
+    end: Option<u64>,
     now: u64,
 ) -> Result<bool, PublishFault>
     requires agent { SendsLog context.now.state.now.log sender.old.agent }
@@ -139,7 +142,7 @@ fn cycle<R: Wait + Clock, D: Datagrams, E: Write>(
     ensures told { IfOk result (λ _. CyclesAt now sender.old.agent.core sender.new.agent.core) }
     ensures lived { IfOk result (λ _. LivedAt now sender.old sender.new) }
     ensures keeps { IfOk result (λ busy. KeepsLog context.now.state.now.log sender.old.passes busy sender.new.passes) }
-    ensures cycles { IfOk result (λ _. Cycles context.now.plan.now.linger now sender.old sender.new) }
+    ensures cycles { IfOk result (λ _. Cycles end context.now.plan.now.linger now sender.old sender.new) }
 {
     let position = sender.agent.position();
     begin_all(sender.passes.duty.device_mut().each_mut(), position);
@@ -152,7 +155,7 @@ fn cycle<R: Wait + Clock, D: Datagrams, E: Write>(
     let kept = keep(context, &mut sender.passes);
     let moved = work_of(sender) != before;
     let destinations = sender.passes.duty.device_mut().each_mut();
-    see_all(destinations, errors, context.plan.linger, now);
+    see_all(destinations, errors, end, context.plan.linger, now);
     Ok(kept | moved)
 }
 
@@ -161,7 +164,7 @@ fn cycle<R: Wait + Clock, D: Datagrams, E: Write>(
 fn tell_end_where_due<D: Datagrams>(
     sender: &mut ChannelSender<'_, D>,
     progress: &mut Progress,
-    end: Option<u64>,
+    end: Option<StreamEnd>,
     now: u64,
 )
     ensures told { TellsWhereDue (end_to_tell progress.old end sender.old.agent.core.handler.at now) sender.old.passes.duty.device.ways sender.new.passes.duty.device.ways }
@@ -170,12 +173,22 @@ fn tell_end_where_due<D: Datagrams>(
     ensures peer { sender.new.peer ≡ sender.old.peer }
     ensures passes { sender.new.passes ≡ record sender.old.passes { duty = record sender.old.passes.duty { device = sender.new.passes.duty.device } } }
 {
-    if let Some(tail) = progress.end_to_tell(end, sender.agent.position(), now) {
-        tell_all(&mut sender.passes.duty, tail);
+    if let Some(end) = progress.end_to_tell(end, sender.agent.position(), now) {
+        tell_all(&mut sender.passes.duty, end);
     }
 }
 
-/// Tells what is due. The answer is how the publisher ends, if it does, and how the reading had ended then.
+/// How the reading has ended, if it has. Once it has, it stays so.
+fn reading_after(state: &OfferingState, before: Option<Reading>) -> Option<Reading>
+    ensures { StaysEnded before result }
+{
+    match before {
+        None => state.reading(),
+        Some(reading) => Some(reading),
+    }
+}
+
+/// Tells what is due, where the reading has ended so, if it has. The answer is how the publisher ends, if it does.
 ///
 /// The fault is `Device` where each call of each destination's device failed for the plan's linger, and the input's where no message
 /// was accepted before it: no other.
@@ -183,24 +196,25 @@ fn tell_end_where_due<D: Datagrams>(
 fn judge<R, D: Datagrams, E: Write>(
     context: &PublisherContext<'_, R>,
     destinations: &[Destination<ChannelDevice<D>>],
+    reading: &Option<Reading>,
     progress: &mut Progress,
     errors: &mut E,
     now: u64,
 ) -> Result<Option<Judged>, PublishFault>
-    ensures judges { IfOk result (λ answer. Judges progress.new destinations.now context.now.plan.now.linger context.now.plan.now.wait answer) }
+    ensures judges { IfOk result (λ answer. Judges progress.new reading.now destinations.now context.now.plan.now.linger context.now.plan.now.wait answer) }
     ensures told { IfOk result (λ answer. IfSome answer (HasToldWhy destinations.now)) }
     ensures broken { IsTrue (list_all is_broken_along destinations.now) → result ≡ Err (Failed Device) }
-    ensures fails { IfErr result (FailsBy (list_all is_broken_along destinations.now)) }
+    ensures fails { IfErr result (FailsBy (list_all is_broken_along destinations.now) reading.now) }
+    ensures ended { IfOk result (λ _. progress.new.ended ≡ progress.old.ended) }
 {
     let (plan, state) = (context.plan, context.state);
-    let reading = state.reading();
-    let messages = messages_in(&reading, state.messages());
-    let tail = tail_in(&reading, state.tail());
+    let messages = messages_in(reading, state.messages());
+    let tail = tail_in(reading, state.tail());
     if are_broken(destinations) {
         return Err(PublishFault::Failed(DeviceError::Device));
     }
-    check_reading(progress, &reading, messages, errors)?;
-    let end = end_in(&reading);
+    check_reading(progress, reading, messages, errors)?;
+    let end = end_in(reading);
     let ending = ending_along(destinations, end, plan.linger, plan.wait);
     tell_counts(
         context,
@@ -223,7 +237,7 @@ fn judge<R, D: Datagrams, E: Write>(
     );
     Ok(Some(Judged {
         ending,
-        reading,
+        reading: *reading,
         told,
     }))
 }
@@ -375,17 +389,19 @@ pub(crate) fn send_all<R: Wait + Clock, D: Datagrams, E: Write>(
 {
     let mut progress = Progress::new();
     let mut begun = false;
+    let mut reading = None;
     let mut idle = IdleStrategy::new();
     for _ in context.rt.forever() {
         let now = context.began.moment(context.rt)?;
-        let busy = cycle(context, sender, errors, now)?;
+        reading = reading_after(context.state, reading);
+        let busy = cycle(context, sender, errors, end_in(&reading), now)?;
         let destinations = sender.passes.duty.device().each();
-        let judged = judge(context, destinations, &mut progress, errors, now)?;
+        let judged = judge(context, destinations, &reading, &mut progress, errors, now)?;
         if let Some(judged) = judged {
             return Ok(judged);
         }
         begun = begin_with_heard(sender, errors, begun, context.plan.wait, now);
-        let end = end_in(&context.state.reading());
+        let end = stream_end_in(&reading);
         tell_end_where_due(sender, &mut progress, end, now);
         idle.after(context.rt, busy);
     }

@@ -3,7 +3,7 @@
 ghost use Rattle.std.specs.Prelude.{◌≡◌, ◌≢◌, IsTrue, OnOk, Some};
 ghost use Rattle.std.specs.Io.KnownBytes.{Appends};
 ghost use Rattle.frames.specs.FaultCounts.{uncounted};
-ghost use Rattle.publisher.specs.Texts.{change_in, counters_text, gave_up_line, gave_up_text, line_at, line_text, refused_line, shortfall_of, totals_line, totals_text, traffic_text, whole_text};
+ghost use Rattle.publisher.specs.Texts.{change_in, counters_text, gave_up_line, gave_up_text, line_at, line_text, refused_line, shortfall_of, totals_line, totals_text, traffic_text, unacknowledged, whole_text};
 ghost use Rattle.publisher.specs.Whys.{SaysElsewhere, SaysUnclosed};
 
 use crate::fault::PublishFault;
@@ -74,6 +74,12 @@ pub enum Shortfall {
         acknowledged: u64,
         bytes: u64,
     },
+    /// One is left behind that has acknowledged so many of so many bytes: fewer than it lacks can be sent again.
+    LeftBehind {
+        acknowledged: u64,
+        bytes: u64,
+        reach: u64,
+    },
     /// The stream's end was acknowledged, but not by one that was there from the start on, alone.
     Several,
     /// All was acknowledged, but the input ended elsewhere than where the stream was taken to.
@@ -102,6 +108,14 @@ impl fmt::Display for GaveUp {
             } => write!(
                 f,
                 "gave up: nothing was heard from {peer} for {seconds} s; it has acknowledged {acknowledged} of {bytes} bytes"
+            ),
+            Shortfall::LeftBehind {
+                acknowledged,
+                bytes,
+                reach,
+            } => write!(
+                f,
+                "gave up: {peer} is left behind: it has acknowledged {acknowledged} of {bytes} bytes, and {reach} can be sent again"
             ),
             Shortfall::Several => write!(
                 f,
@@ -156,12 +170,14 @@ pub enum Line {
     Alone,
     /// The one that was heard is silent for five seconds, and is one of several.
     Quiet,
-    /// The one that was heard there last is left behind, so far.
+    /// The one that was heard there last is left behind: it stands at this position, so far behind.
+    LeftBehind(SocketAddr, u64, Behind),
+    /// It is heard again while it is left behind, so far.
     CameBack(SocketAddr, Behind),
     /// Nobody was heard there for so many seconds, and the others begin.
     LeftOut(SocketAddr, u64),
-    /// Why no message comes any more.
-    Faulted(PublishFault),
+    /// No message comes any more behind so many, by a fault.
+    BrokenOff(u64),
     /// Why it gave up on the subscriber there.
     GaveUp(GaveUp),
     /// The input was empty.
@@ -189,16 +205,24 @@ impl fmt::Display for Line {
                 "nobody was heard for 5 s: no subscriber is there, or it follows another publisher, or takes another stream or session, or only shorter terms"
             ),
             Line::Quiet => write!(f, "nothing was heard for 5 s: the others go on without it"),
+            Line::LeftBehind(peer, position, behind) => write!(
+                f,
+                "{peer} is left behind: it stands at position {position}, {} bytes behind, of which {} can be sent again",
+                behind.missing, behind.reach
+            ),
             Line::CameBack(peer, behind) => write!(
                 f,
-                "{peer} came back {} bytes behind, of which {} can be sent again: left behind",
+                "{peer} came back {} bytes behind, of which {} can be sent again",
                 behind.missing, behind.reach
             ),
             Line::LeftOut(peer, seconds) => write!(
                 f,
                 "nobody was heard at {peer} for {seconds} s: the others begin without it"
             ),
-            Line::Faulted(fault) => write!(f, "{fault}; what came before it is delivered first"),
+            Line::BrokenOff(messages) => write!(
+                f,
+                "the stream is broken off behind {messages} messages: they are delivered first"
+            ),
             Line::GaveUp(gave_up) => write!(f, "{gave_up}"),
             Line::Empty => write!(f, "the input was empty: nothing was published"),
             Line::Counters(counts) => write!(f, "{counts}"),
@@ -228,26 +252,46 @@ pub fn change_in(attendance: &Attendance) -> Option<Line>
     }
 }
 
+/// What one lacks that has acknowledged so many of so many bytes: it is left behind so far, if it is, or silent for so many seconds.
+fn unacknowledged(behind: Option<Behind>, seconds: u64, acknowledged: u64, bytes: u64) -> Shortfall
+    ensures { result ≡ unacknowledged behind seconds acknowledged bytes }
+{
+    match behind {
+        None => Shortfall::Silent {
+            seconds,
+            acknowledged,
+            bytes,
+        },
+        Some(behind) => Shortfall::LeftBehind {
+            acknowledged,
+            bytes,
+            reach: behind.reach,
+        },
+    }
+}
+
 /// What a publisher that ends short lacks of a subscriber, by whom it has heard, where its stream ends, if its input has
-/// ended, how far that has come, and for how many nanoseconds no status message came.
+/// ended, how far that has come, for how many nanoseconds no status message was noted, and how far that is left behind, if it is.
 pub fn shortfall_of(
     attendance: &Attendance,
     end: Option<u64>,
     tail: u64,
-    silence: Option<u64>,
+    unheard: u64,
+    behind: Option<Behind>,
 ) -> Shortfall
-    ensures { result ≡ shortfall_of attendance.now end tail silence }
+    ensures { result ≡ shortfall_of attendance.now end tail unheard behind }
 {
-    let seconds = silence.unwrap_or(0) / NANOSECONDS_PER_SECOND;
+    let seconds = unheard / NANOSECONDS_PER_SECOND;
     let start = attendance.start;
     match attendance.present {
         None => Shortfall::Unheard { seconds },
         Some(_) if attendance.is_told(end) => Shortfall::Several,
-        Some(heard) => Shortfall::Silent {
+        Some(heard) => unacknowledged(
+            behind,
             seconds,
-            acknowledged: heard.last.saturating_sub(start),
-            bytes: tail.saturating_sub(start),
-        },
+            heard.last.saturating_sub(start),
+            tail.saturating_sub(start),
+        ),
     }
 }
 

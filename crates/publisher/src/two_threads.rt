@@ -8,7 +8,7 @@ ghost use Rattle.publisher.specs.Ended.{AllHaveArrived, reading_left};
 ghost use Rattle.publisher.specs.Endings.{heard_along};
 ghost use Rattle.publisher.specs.Farewells.{AreTold, TellsFarewell, are_told_alone, are_told_no_other, ending_told, ending_unless_another, ends_along, farewell_in, has_told_alone, has_told_no_other, noted, told_times};
 ghost use Rattle.publisher.specs.InputEnds.{EndsInput};
-ghost use Rattle.publisher.specs.Judging.{end_in, ended_by, fault_in, is_read};
+ghost use Rattle.publisher.specs.Judging.{ended_by, fault_in, is_read, stream_end_in};
 ghost use Rattle.publisher.specs.Openings.{ArePasses, IsKept};
 ghost use Rattle.publisher.specs.Turns.{SaysWhy};
 ghost use Rattle.publisher.specs.Whys.{told_by};
@@ -16,13 +16,13 @@ ghost use Rattle.publisher.specs.Whys.{told_by};
 use crate::destination::{ChannelDevice, Destination};
 use crate::destination_lines::tell_each_refused;
 use crate::fault::PublishFault;
-use crate::judging::{Judged, end_in, fault_in};
+use crate::judging::{Judged, fault_in, stream_end_in};
 use crate::offering::{InputEnd, Reader, Reading, ReadingEnd};
 use crate::sender_thread::{ChannelSender, Destinations, PublisherContext, send_all};
 use crate::telling::{ToldShortfall, tell_if_elsewhere};
 use agents::Duty;
 use endpoint::{Datagrams, DeviceError};
-use peer::{Attendance, Ending, ToldEnds};
+use peer::{Attendance, Ending, StreamEnd, ToldEnds};
 use position::Geometry;
 use std::alloc::{AllocError, Global};
 use std::io::{BufRead, Write};
@@ -99,33 +99,36 @@ fn input_end<R: Threads, I: BufRead + Drop, C>(
     Some(reader.join(rt))
 }
 
-/// Where the stream's end is told, if it is: where the reading has, unless it was stopped. One whose device, thread or clock
-/// failed tells none.
-fn farewell_in(reading: &Option<Reading>, ending: &Result<Ending, PublishFault>) -> Option<u64>
+/// The stream's end that is told, if one is: the reading's, unless it was stopped. One whose device, thread or clock failed tells
+/// none.
+fn farewell_in(
+    reading: &Option<Reading>,
+    ending: &Result<Ending, PublishFault>,
+) -> Option<StreamEnd>
     ensures { result ≡ farewell_in reading.now ending.now }
 {
     match *ending {
         Err(PublishFault::Failed(_) | PublishFault::NoSocket(_, _) | PublishFault::NoThread) =>
             None,
-        _ => end_in(reading),
+        _ => stream_end_in(reading),
     }
 }
 
 /// Whether a device that told ends told this one alone. The stream's shape bounds it.
-fn has_told_alone(ends: Option<ToldEnds>, geometry: &Geometry, end: Option<u64>) -> bool
+fn has_told_alone(ends: Option<ToldEnds>, geometry: &Geometry, end: Option<StreamEnd>) -> bool
     ensures { result ≡ has_told_alone ends geometry.now end }
 {
     match (ends, end) {
-        (Some(ends), Some(tail)) => {
-            let last = tail.min(geometry.max_position());
-            ends.least == last && ends.greatest == last
+        (Some(ends), Some(end)) => {
+            let last = end.position.min(geometry.max_position());
+            ends.least == last && ends.greatest == last && ends.broken == end.broken
         }
         _ => false,
     }
 }
 
 /// Whether a device told no end but this one, if any. The stream's shape bounds it.
-fn has_told_no_other(ends: Option<ToldEnds>, geometry: &Geometry, end: Option<u64>) -> bool
+fn has_told_no_other(ends: Option<ToldEnds>, geometry: &Geometry, end: Option<StreamEnd>) -> bool
     ensures { result ≡ has_told_no_other ends geometry.now end }
 {
     ends.is_none() || has_told_alone(ends, geometry, end)
@@ -205,14 +208,14 @@ fn ends_of<D: Datagrams>(
 }
 
 /// Whether each device told this end alone.
-fn are_told_alone(ends: &[Option<ToldEnds>], geometry: &Geometry, end: Option<u64>) -> bool
+fn are_told_alone(ends: &[Option<ToldEnds>], geometry: &Geometry, end: Option<StreamEnd>) -> bool
     ensures { result ≡ are_told_alone geometry.now end ends.now }
 {
     ends.iter().all(|told| has_told_alone(*told, geometry, end))
 }
 
 /// Whether no device told an end but this one.
-fn are_told_no_other(ends: &[Option<ToldEnds>], geometry: &Geometry, end: Option<u64>) -> bool
+fn are_told_no_other(ends: &[Option<ToldEnds>], geometry: &Geometry, end: Option<StreamEnd>) -> bool
     ensures { result ≡ are_told_no_other geometry.now end ends.now }
 {
     ends.iter()
@@ -220,40 +223,47 @@ fn are_told_no_other(ends: &[Option<ToldEnds>], geometry: &Geometry, end: Option
 }
 
 /// Tells the receiver along a destination where the stream ends.
-fn tell<D: Datagrams>(destination: &mut Destination<ChannelDevice<D>>, tail: u64)
-    ensures { noted destination.new ≡ told_times 1 tail (noted destination.old) }
+fn tell<D: Datagrams>(destination: &mut Destination<ChannelDevice<D>>, end: StreamEnd)
+    ensures { noted destination.new ≡ told_times 1 end (noted destination.old) }
 {
-    destination.device.tell_end(tail);
+    destination.device.tell_end(end);
 }
 
 /// Tells the receivers along all destinations where the stream ends, whatever becomes of it along the others.
-pub(crate) fn tell_each<D: Datagrams>(destinations: &mut [Destination<ChannelDevice<D>>], tail: u64)
-    ensures { AreTold 1 tail destinations.old destinations.new }
+pub(crate) fn tell_each<D: Datagrams>(
+    destinations: &mut [Destination<ChannelDevice<D>>],
+    end: StreamEnd,
+)
+    ensures { AreTold 1 end destinations.old destinations.new }
 {
     for destination in destinations.iter_mut() {
-        tell(destination, tail);
+        tell(destination, end);
     }
 }
 
 /// The same over what it sends with.
-pub(crate) fn tell_all<D: Datagrams>(duty: &mut Duty<Destinations<D>>, tail: u64)
+pub(crate) fn tell_all<D: Datagrams>(duty: &mut Duty<Destinations<D>>, end: StreamEnd)
     ensures same { duty.new ≡ record duty.old { device = duty.new.device } }
-    ensures told { AreTold 1 tail duty.old.device.ways duty.new.device.ways }
+    ensures told { AreTold 1 end duty.old.device.ways duty.new.device.ways }
 {
-    tell_each(duty.device_mut().each_mut(), tail);
+    tell_each(duty.device_mut().each_mut(), end);
 }
 
 /// Tells the receivers along all destinations where the stream ends: five times, 20 ms apart.
-fn bid_farewell<R: Clock, D: Datagrams>(rt: &R, duty: &mut Duty<Destinations<D>>, end: Option<u64>)
+fn bid_farewell<R: Clock, D: Datagrams>(
+    rt: &R,
+    duty: &mut Duty<Destinations<D>>,
+    end: Option<StreamEnd>,
+)
     ensures { TellsFarewell end duty.old.device.ways duty.new.device.ways }
 {
-    let Some(tail) = end else {
+    let Some(end) = end else {
         return;
     };
-    tell_all(duty, tail);
+    tell_all(duty, end);
     for _count in 1..FAREWELLS {
         let _ = thread::sleep(rt, Duration::from_millis(FAREWELL_PAUSE));
-        tell_all(duty, tail);
+        tell_all(duty, end);
     }
 }
 
@@ -277,9 +287,9 @@ pub(crate) fn run<R: Threads + Wait + Clock, I: BufRead + Drop, D: Datagrams, E:
     ensures whole { IfOk result (λ p. p.ending ≡ Ok Whole → AllHaveArrived context.now.plan.now sender.old (reading_left p.input) p.attendances.items p.ends.items) }
     // A message that couldn't be read is a fault, however the sending went.
     ensures faulted { IfOk result (λ p. IfSome (fault_in (reading_left p.input)) (λ fault. p.ending ≡ Err fault)) }
-    ensures told { IfOk result (λ p. p.ending ≡ Ok Whole → are_told_alone context.now.plan.now.geometry (end_in (reading_left p.input)) p.ends.items ≡ true) }
+    ensures told { IfOk result (λ p. p.ending ≡ Ok Whole → are_told_alone context.now.plan.now.geometry (stream_end_in (reading_left p.input)) p.ends.items ≡ true) }
     // Where it ends without a fault no device has told an end but the reading's.
-    ensures no_other { IfOk result (λ p. IfOk p.ending (λ _. are_told_no_other context.now.plan.now.geometry (end_in (reading_left p.input)) p.ends.items ≡ true)) }
+    ensures no_other { IfOk result (λ p. IfOk p.ending (λ _. are_told_no_other context.now.plan.now.geometry (stream_end_in (reading_left p.input)) p.ends.items ≡ true)) }
     // Where it ends short a line has said why.
     ensures short { IfOk result (λ p. p.ending ≡ Ok Short → SaysWhy context.now.plan.now sender.old p.told) }
 {
@@ -296,8 +306,9 @@ pub(crate) fn run<R: Threads + Wait + Clock, I: BufRead + Drop, D: Datagrams, E:
     let attendances = attendances_of(alloc, destinations)?;
     let ends = ends_of(alloc, destinations)?;
     let geometry = &context.plan.geometry;
-    let told_alone = are_told_alone(ends.as_slice(), geometry, end_in(&reading));
-    let no_other = are_told_no_other(ends.as_slice(), geometry, end_in(&reading));
+    let announced = stream_end_in(&reading);
+    let told_alone = are_told_alone(ends.as_slice(), geometry, announced);
+    let no_other = are_told_no_other(ends.as_slice(), geometry, announced);
     let ending = ending_unless_another(ending_told(ending, told_alone), no_other);
     Ok(Published {
         told: tell_if_elsewhere(errors, sender.peer, line, &ending),

@@ -4,10 +4,11 @@ use Rattle.std.specs.Io.KnownBytes.{Appends}
 use Rattle.messages.specs.Forms.{spelling}
 use Rattle.options.specs.declared.ends.plans.SubscribePlan.{SubscribePlan}
 use Rattle.subscriber.proofs.Given.{all_of_one, below_at, below_front, given_on, length-given_at, length-messages_of, messages_at, messages_on}
-use Rattle.subscriber.proofs.Lived.{older_unlost, told_end, unlost_so}
+use Rattle.subscriber.proofs.Lived.{told_end, uncut_so}
 use Rattle.subscriber.specs.Breaking.{BreaksOnePlace, BreaksPlaces, LosesOne, OnePlaceBreaks, ToldEach}
 use Rattle.subscriber.specs.Endings.{AreDone, AreEnough, AreGivenUp, EndsEach, EndsWithImage, HasEnoughOfAll, IsDone, IsEndingOfAll, OneSessionEnds}
-use Rattle.subscriber.specs.Images.{has_lost}
+use Rattle.peer.specs.declared.farewell.StreamEnd.{StreamEnd}
+use Rattle.subscriber.specs.Cuts.{has_lost}
 use Rattle.subscriber.specs.Leavings.{HasEnough, IsEnding, IsEnough, IsGivenUp}
 use Rattle.subscriber.specs.Living.{AreLives, EachPlaceWrites, FollowsAt, IsOfOnePlace, Life, LivesEach, OnePlaceWrites, WritesPlaces, given_through}
 use Rattle.subscriber.specs.Places.{AreBelow, Given, given_at, messages_of, of_place}
@@ -146,7 +147,7 @@ one_done j told h = by_case h.each.0
   where
     by_case : IsDone j → HasAll j.stood
     by_case (inl all) = all
-    by_case (inr unheard) = absurd (h.some ((λ all. subst (λ (e : Option ℕ). HasAllUpTo e j.stood.rebuilt j.stood.place) (told ∙ unheard.end) all), tt))
+    by_case (inr unheard) = absurd (h.some ((λ all. subst (λ (e : Option StreamEnd). HasAllUpTo e j.stood.rebuilt j.stood.place) (told ∙ unheard.end) all), tt))
 
 one_enough : (plan : SubscribePlan) (written : ℕ) (j : Session) → j.stood.end ≡ j.follower.end → HasEnoughOfAll plan written (j ∷ []) → HasEnough plan written j.stood
 one_enough plan written j told (inl many) = inl many
@@ -167,12 +168,12 @@ or_false : (b : Bool) → (b || false) ≡ b
 or_false true = refl
 or_false false = refl
 
-one_ending : (plan : SubscribePlan) (written : ℕ) (j : Session) (how : Ending) → j.stood.end ≡ j.follower.end → IsEndingOfAll plan written (j ∷ []) (Some how) → IsEnding plan written j.watch j.stood (has_lost j.lost j.images) (Some how)
-one_ending plan written j Whole told h = (sym (or_false (has_lost j.lost j.images)) ∙ h.0, one_is_enough plan written j told h.1)
+one_ending : (plan : SubscribePlan) (written : ℕ) (j : Session) (how : Ending) → j.stood.end ≡ j.follower.end → IsEndingOfAll plan written (j ∷ []) (Some how) → IsEnding plan written j.watch j.stood (has_lost j) (Some how)
+one_ending plan written j Whole told h = (sym (or_false (has_lost j)) ∙ h.0, one_is_enough plan written j told h.1)
 one_ending plan written j Short told h = one_given_up plan written j Short h
-one_ending plan written j Lost told h = (sym (or_false (has_lost j.lost j.images)) ∙ h.0, one_is_enough plan written j told h.1)
+one_ending plan written j Lost told h = (sym (or_false (has_lost j)) ∙ h.0, one_is_enough plan written j told h.1)
 
-whole_unlost : (plan : SubscribePlan) (written : ℕ) (j : Session) (how : Ending) → IsEnding plan written j.watch j.stood (has_lost j.lost j.images) (Some how) → how ≡ Whole → has_lost j.lost j.images ≡ false
+whole_unlost : (plan : SubscribePlan) (written : ℕ) (j : Session) (how : Ending) → IsEnding plan written j.watch j.stood (has_lost j) (Some how) → how ≡ Whole → has_lost j ≡ false
 whole_unlost plan written j Whole ending is = ending.0
 whole_unlost plan written j Short ending is = absurd (cc)
 whole_unlost plan written j Lost ending is = absurd (cc)
@@ -182,7 +183,7 @@ one_ends : (plan : SubscribePlan) (before : Option (List ℕ)) (done : Subscribe
 one_ends plan before done after given j each known counted written ending =
     let e = each.0 in
     let follows : FollowsAt plan 1 0 j.images j.follower (messages_of given) = subst (FollowsAt plan 1 0 j.images j.follower) (all_of_one given known) e.follows in
-    let how : IsEnding plan done.messages j.watch j.stood (has_lost j.lost j.images) (Some done.ending) = one_ending plan done.messages j done.ending e.stood.stands.told ending in
+    let how : IsEnding plan done.messages j.watch j.stood (has_lost j) (Some done.ending) = one_ending plan done.messages j done.ending e.stood.stands.told ending in
     record {
       given = messages_of given;
       follows = follows;
@@ -190,8 +191,7 @@ one_ends plan before done after given j each known counted written ending =
       counted = counted ∙ sym (length-messages_of given);
       written = written;
       ends = record { stand = j.stood; stands = e.stood.stands; ending = how; answered = e.stood.answered };
-      unlost = λ whole. older_unlost plan 1 0 j.images j.follower.subscriber (messages_of given) follows.life
-          (unlost_so j.lost j.images (whole_unlost plan done.messages j done.ending how whole));
+      unlost = λ whole. follows.life.uncut (uncut_so j (whole_unlost plan done.messages j done.ending how whole));
     }
 
 pub one_session_ends : OneSessionEnds

@@ -1,5 +1,5 @@
 -- A loop over a list that changes each element so: the first so many are changed, and those behind them are as they were.
-use Rattle.std.proofs.Common.{◌≡◌, ◌∙◌, ℕ, zero, suc, ◌+◌, ◌<◌, ◌≤◌, List, [], ◌∷◌, length, get_or, set, refl, sym, ap, subst, add-one, arith}
+use Rattle.std.proofs.Common.{◌≡◌, ℕ, zero, suc, ◌+◌, ◌<◌, ◌≤◌, List, [], ◌∷◌, length, get_or, set, sym, ap, subst, add-one, arith}
 use Rattle.std.specs.List.{AllByRecursion, AllZip}
 
 -- the first so many became others so

@@ -9,7 +9,7 @@ use Rattle.messages.specs.declared.form.Form.{Form}
 use Rattle.options.specs.declared.ends.plans.SubscribePlan.{SubscribePlan}
 use Rattle.receiver.specs.Lives.{Act, ActsSo, Hears, Lives, Ticks}
 use Rattle.receiver.specs.Subscribing.{Subscribing}
-use Rattle.subscriber.specs.Offers.{setup_taken}
+use Rattle.subscriber.specs.Offers.{peer_of, setup_taken}
 use Rattle.subscriber.specs.Losing.{with_device, JudgesTurn}
 use Rattle.subscriber.specs.Watches.{AttendsEach, IsWithinTurn, JudgesEach, Seen, Timing, looking}
 use Rattle.subscriber.specs.declared.images.session.Session.{Session}
@@ -93,7 +93,8 @@ considered plan share from f j k (inr p) h = turned_answered plan share p.0 j k 
 
 own : (plan : SubscribePlan) (share : ℕ) (setup : Option Setup) (j k : Session) → ConsidersOwn plan share setup j k → (IsTrue j.ended → HasAnswered j.follower.subscriber) → IsTrue k.ended → HasAnswered k.follower.subscriber
 own plan share None j k p h = same_answered j k (ap (λ x. x.ended) p) (ap (λ x. x.follower.subscriber) p) h
-own plan share (Some f) j k p h = considered plan share j.duty.device.inner.inner.inner.peer f j k p h
+own plan share (Some f) j k (inl p) h = considered plan share (peer_of j.duty.device) f j k p.1 h
+own plan share (Some f) j k (inr p) h = same_answered j k (ap (λ x. x.ended) p.1) (ap (λ x. x.follower.subscriber) p.1) h
 
 pub attended_answered : (plan : SubscribePlan) (share : ℕ) (j k : Session) → AttendsOwn plan share j k → (IsTrue j.ended → HasAnswered j.follower.subscriber) → IsTrue k.ended → HasAnswered k.follower.subscriber
 attended_answered plan share j k p h =
@@ -124,7 +125,8 @@ considered_within plan share from f j k (inr p) = turned_within plan share p.0 j
 
 own_within : (plan : SubscribePlan) (share : ℕ) (setup : Option Setup) (j k : Session) → ConsidersOwn plan share setup j k → IsWithinTurn j.watch k.watch
 own_within plan share None j k p = same_within j.watch k.watch (ap (λ (x : Session). x.watch) p)
-own_within plan share (Some f) j k p = considered_within plan share j.duty.device.inner.inner.inner.peer f j k p
+own_within plan share (Some f) j k (inl p) = considered_within plan share (peer_of j.duty.device) f j k p.1
+own_within plan share (Some f) j k (inr p) = same_within j.watch k.watch (ap (λ (x : Session). x.watch) p.1)
 
 -- in a turn it was judged once whether the image is lost, and nothing was attended yet
 pub record HasJudged (s t : Seen) : Type 0 where

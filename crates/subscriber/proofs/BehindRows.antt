@@ -1,6 +1,6 @@
 -- Rows: when a subscriber is behind, in which turns that is judged, what is lacking, and what is missing between images.
-use Rattle.std.proofs.Common.{◌≡◌, pos, negsuc, true, false, refl, arith}
-use Rattle.subscriber.specs.Images.{first_image, has_lost, loss_between, next_images}
+use Rattle.std.proofs.Common.{◌≡◌, None, pos, negsuc, true, false, refl, arith}
+use Rattle.subscriber.specs.Images.{first_image, loss_between, next_images}
 use Rattle.subscriber.specs.Standing.{lies_above}
 use Rattle.subscriber.specs.Watches.{IsBehind, IsSilent, JudgesEach, Seen, attending, beginning, hearing, judging, keeping, looking, noting}
 
@@ -68,24 +68,15 @@ before_all : lies_above (negsuc 0) 0 ≡ false
 before_all = refl
 
 -- images
-second : next_images (first_image 0) (loss_between 64 4096) ≡ record { number = 1; missing = 4032 }
+second : next_images (first_image 0) (loss_between 64 4096) None ≡ record { number = 1; missing = 4032; cut = None }
 second = refl
 
-unlost : next_images (first_image 0) (loss_between 64 64) ≡ record { number = 1; missing = 0 }
+unlost : next_images (first_image 0) (loss_between 64 64) None ≡ record { number = 1; missing = 0; cut = None }
 unlost = refl
 
-third : next_images (next_images (first_image 0) (loss_between 64 4096)) (loss_between 5000 5001) ≡ record { number = 2; missing = 4033 }
+third : next_images (next_images (first_image 0) (loss_between 64 4096) None) (loss_between 5000 5001) None ≡ record { number = 2; missing = 4033; cut = None }
 third = refl
 
 -- those of another place have numbers of their own
-second_place : next_images (first_image 1) (loss_between 64 4096) ≡ record { number = 1152921504606846977; missing = 4032 }
+second_place : next_images (first_image 1) (loss_between 64 4096) None ≡ record { number = 1152921504606846977; missing = 4032; cut = None }
 second_place = refl
-
-first_unlost : has_lost false (first_image 0) ≡ false
-first_unlost = refl
-
-told_lost : has_lost true (first_image 0) ≡ true
-told_lost = refl
-
-later_lost : has_lost false (next_images (first_image 0) (loss_between 64 4096)) ≡ true
-later_lost = refl

@@ -41,6 +41,7 @@ legal_call plan from bytes h (found, tells, is) = legal_with plan from bytes fou
 
 asks_by : (plan : SubscribePlan) (from : SocketAddr) (call : Call) (l : Listening) (s : Timing) → l.asks ≡ s.calls → (answered plan from call l).asks ≡ (seen_by call s).calls
 asks_by plan from (calls.Opens m) l s same = same
+asks_by plan from (calls.Untaken u) l s same = same
 asks_by plan from (calls.Asks h) l s same = ap counted same
 asks_by plan from calls.Stranger l s same = same
 

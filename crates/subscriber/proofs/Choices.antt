@@ -1,5 +1,5 @@
 -- Which place a SETUP goes to: the first that is so, how many weren't heard yet, and the oldest of those.
-use Rattle.std.proofs.Common.{◌≡◌, ◌<◌, ◌≤◌, ◌+◌, ℕ, zero, suc, Bool, true, false, IsTrue, List, [], ◌∷◌, ◌++◌, Option, None, Some, length, take, drop, get_or, refl, ap, sym, subst, arith}
+use Rattle.std.proofs.Common.{◌≡◌, ◌<◌, ◌≤◌, ◌+◌, ℕ, zero, suc, Bool, true, false, IsTrue, List, [], ◌∷◌, Option, None, Some, length, take, drop, get_or, refl, ap, sym, subst, arith}
 use Rattle.std.specs.Prelude.{◌↔◌, ◌&&◌, IfNone, IfSome, MatchOption, is_none}
 use Rattle.std.specs.List.{AllByRecursion, AllWithin, HoldsAt, filter}
 use Rattle.std.proofs.lemmas.List.{length-take}

@@ -1,6 +1,7 @@
 -- Rows: when a subscriber has all of its stream, has enough, when all of its sessions are done, and how one ends that is quiet.
 use Rattle.std.proofs.Common.{◌≡◌, ◌-◌, ◌^◌, ℕ, [], ◌∷◌, subst, Option, None, Some, true, false, inl, inr, refl, arith, lit≤}
 use Rattle.options.specs.declared.ends.plans.SubscribePlan.{SubscribePlan}
+use Rattle.peer.specs.declared.farewell.StreamEnd.{StreamEnd}
 use Rattle.subscriber.specs.Answering.{ahead_of}
 use Rattle.subscriber.specs.Watches.{Seen}
 use Rattle.subscriber.specs.Endings.{AreDone, HasEnoughOfAll, IsDone, NoneCame}
@@ -14,7 +15,10 @@ use Rattle.subscriber.specs.declared.images.session.Stand.{Stand}
 use Rattle.subscriber.specs.declared.listening.setup_offer.SetupOffer.{SetupOffer}
 
 -- an end at which both stand
-all_there : HasAllUpTo (Some 96) 96 96
+abbrev ends_at : ℕ → Option StreamEnd
+ends_at position = Some (record { position = position; broken = false })
+
+all_there : HasAllUpTo (ends_at 96) 96 96
 all_there = (lit≤ tt, lit≤ tt)
 
 -- no end was told
@@ -22,15 +26,15 @@ untold : (rebuilt place : ℕ) → HasAllUpTo None rebuilt place → ⊥
 untold rebuilt place h = h
 
 -- an end below what is rebuilt isn't believed
-below_rebuilt : HasAllUpTo (Some 64) 96 96 → ⊥
+below_rebuilt : HasAllUpTo (ends_at 64) 96 96 → ⊥
 below_rebuilt h = omega (arith, h.0)
 
 -- the consumer isn't there yet
-not_there : HasAllUpTo (Some 96) 64 64 → ⊥
+not_there : HasAllUpTo (ends_at 96) 64 64 → ⊥
 not_there h = omega (arith, h.1)
 
 -- rebuilt, and not yet polled
-not_polled : HasAllUpTo (Some 96) 96 64 → ⊥
+not_polled : HasAllUpTo (ends_at 96) 96 64 → ⊥
 not_polled h = omega (arith, h.1)
 
 -- one message fewer than were asked for isn't enough, and as many are
@@ -44,7 +48,7 @@ as_many plan x three = inl (omega (arith, three))
 -- without an end one that is to end with the stream hasn't enough
 unended : (plan : SubscribePlan) (x : Stand) → plan.messages ≡ 3 → x.end ≡ None → HasEnough plan 2 x → ⊥
 unended plan x three none (inl h) = omega (arith, h, three)
-unended plan x three none (inr h) = subst (λ (e : Option ℕ). HasAllUpTo e x.rebuilt x.place) none h.1
+unended plan x three none (inr h) = subst (λ (e : Option StreamEnd). HasAllUpTo e x.rebuilt x.place) none h.1
 
 -- one alone may have come just now
 came_alone : (j : Session) → NoneCame (j ∷ [])

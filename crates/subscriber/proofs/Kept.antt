@@ -12,7 +12,7 @@ use Rattle.subscriber.specs.Calls.{IsJoinedBy}
 use Rattle.subscriber.specs.Choosing.{AttendsAll, AttendsOther, ChangesAt, GoesTo}
 use Rattle.subscriber.specs.Endings.{HasStood}
 use Rattle.subscriber.specs.Losing.{with_device}
-use Rattle.subscriber.specs.Offers.{setup_taken}
+use Rattle.subscriber.specs.Offers.{peer_of, setup_taken}
 use Rattle.subscriber.specs.Sessions.{HasLooked, IsBegun, IsRouted, IsSized, news_told, share_of, turn_begun}
 use Rattle.subscriber.specs.Turning.{AttendsOwn, Considers, ConsidersOwn, Passes, Renews, Replaces, Resumes, Turns, Warns}
 use Rattle.subscriber.specs.Watches.{AttendsEach, IsWithinTurn, JudgesEach, looking}
@@ -162,7 +162,7 @@ own_kept plan share j k own h =
       judged = once.0 ∙ h.judged ∙ sym once.2;
     }
 
-within_kept : (j k : Session) → IsWithinTurn j.watch k.watch → (IsTrue k.ended → HasAnswered k.follower.subscriber) → IsKept j → IsKept k
+pub within_kept : (j k : Session) → IsWithinTurn j.watch k.watch → (IsTrue k.ended → HasAnswered k.follower.subscriber) → IsKept j → IsKept k
 within_kept j k w answered h = record { answered = answered; attended = w.turns ∙ h.attended ∙ sym w.attended; judged = w.turns ∙ h.judged ∙ sym w.judged }
 
 pub turned_kept : (plan : SubscribePlan) (share : ℕ) (m : SetupOffer) (j k : Session) → Turns plan share m j k → IsKept j → IsKept k
@@ -222,7 +222,8 @@ considered_mtu plan share from f j k (inr p) = turned_mtu plan share p.0 j k p.2
 
 own_mtu : (plan : SubscribePlan) (share : ℕ) (own : Option Setup) (j k : Session) → ConsidersOwn plan share own j k → k.duty.mtu ≡ j.duty.mtu
 own_mtu plan share None j k p = ap (λ (x : Session). x.duty.mtu) p
-own_mtu plan share (Some f) j k p = considered_mtu plan share j.duty.device.inner.inner.inner.peer f j k p
+own_mtu plan share (Some f) j k (inl p) = considered_mtu plan share (peer_of j.duty.device) f j k p.1
+own_mtu plan share (Some f) j k (inr p) = ap (λ (x : Session). x.duty.mtu) p.1
 
 pub own_sized : (plan : SubscribePlan) (share : ℕ) (j k : Session) → AttendsOwn plan share j k → IsSized j → IsSized k
 own_sized plan share j k p h =

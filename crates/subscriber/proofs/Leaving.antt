@@ -17,7 +17,7 @@ use Rattle.receiver.specs.Receiving.{Meets, MeetsAll, MeetsFrame, MeetsHeartbeat
 use Rattle.receiver.specs.Subscribing.{RepresentsSubscriber, Subscribing}
 use Rattle.receiver.specs.declared.receiver_core.Outcome.{Outcome}
 use Rattle.subscriber.proofs.Lived.{all_heard, all_in, follows_on, heard_on, lives_on}
-use Rattle.subscriber.proofs.Parties.{subscribers_cycle}
+use Rattle.subscriber.proofs.Parties.{notes_none, subscribers_cycle}
 use Rattle.subscriber.specs.Followers.{FollowerHears, FollowerTicks, HasNoted}
 use Rattle.subscriber.specs.declared.images.follower.Follower.{Follower}
 use Rattle.subscriber.specs.declared.images.Images.{Images}
@@ -131,7 +131,7 @@ none_lived_through s = record { acts = []; unpolled = tt; lived = refl }
 
 pub listens_none : (f : Follower) → ListensOn f f
 unfolding none_lived_through
-listens_none f = record { lives = none_lived_through f.subscriber; notes = record { notes = refl; session = refl; stream = refl } }
+listens_none f = record { lives = none_lived_through f.subscriber; notes = notes_none f }
 
 pub unpolled_on : (s m t : Subscribing) → LivesUnpolled s m → LivesUnpolled m t → LivesUnpolled s t
 unpolled_on s m t a b = record { acts = a.acts ++ b.acts; unpolled = unpolled_with a.acts b.acts a.unpolled b.unpolled; lived = lives_on s m t a.acts b.acts a.lived b.lived }

@@ -9,12 +9,14 @@ pub mod Seated
 pub mod Repeaters
 mod Repeated
 mod BehindRows
+mod CutRows
 pub mod Due
 pub mod Ends
 pub mod Parties
 pub mod Writing
 pub mod Written
 pub mod Patience
+pub mod Faults
 pub mod Given
 pub mod Lived
 pub mod Placed
@@ -27,6 +29,7 @@ pub mod Answered
 pub mod Looked
 pub mod Chosen
 pub mod Kept
+pub mod Called
 pub mod Lost
 pub mod EndRows
 pub mod TurnRows
@@ -37,3 +40,4 @@ pub mod Taken
 pub mod Settled
 pub mod Turned
 pub mod Rounds
+pub mod Apart

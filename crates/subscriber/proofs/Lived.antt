@@ -1,10 +1,9 @@
 -- What a subscriber lives through in a cycle, and from image to image.
-use Rattle.std.proofs.Common.{◌≡◌, ◌≤◌, ◌⊎◌, ℕ, ℤ, Bool, true, false, if◌then◌else◌, ◌+◌, None, Some, List, [], ◌∷◌, ◌++◌, map, length, Option, inl, inr, refl, sym, ap, ◌∙◌, subst, arith, true≢false, append_assoc, append-nil, length-append}
-use Rattle.std.specs.Prelude.{nat_lt}
-use Rattle.std.proofs.lemmas.Bool.{ltb-false, ltb-true}
+use Rattle.std.proofs.Common.{◌≡◌, ◌≤◌, ◌⊎◌, ◌↔◌, ◌&&◌, ◌||◌, not, IsTrue, ℕ, ℤ, Bool, true, false, if◌then◌else◌, ◌+◌, None, Some, List, [], ◌∷◌, ◌++◌, map, length, Option, inl, inr, refl, sym, ap, ◌∙◌, subst, arith, true≢false, append_assoc, append-nil}
+use Rattle.std.specs.Prelude.{is_some, nat_lt}
+use Rattle.std.proofs.lemmas.Bool.{ltb-true}
 use Rattle.std.specs.Io.KnownBytes.{Appends}
 use Rattle.std.specs.declared.net.SocketAddr.{SocketAddr}
-use Rattle.std.proofs.KnownBytes.{Appends-nil, Appends-trans}
 use Rattle.std.proofs.lemmas.Grind.{flat_map-append}
 use Rattle.endpoint.specs.Devices.{Device}
 use Rattle.frames.specs.Frames.{setup_of}
@@ -18,17 +17,22 @@ use Rattle.receiver.specs.Subscribing.{Subscribing}
 use Rattle.receiver.specs.Lives.{Act, Gives, GivesNone, Hears, Lives, Ticks, given_in, heard_in}
 use Rattle.subscriber.specs.Calls.{IsJoinedBy, IsMeeting}
 use Rattle.subscriber.specs.Deliveries.{Delivers, PollsAll, PollsNone, WritesAndNotes, WritesFirst}
-use Rattle.subscriber.specs.Living.{AreLives, AreShared, AreUnlost, FollowsAt, IsLossFrom, IsLossTo, IsNumbered, Life, LivesAt, LivesOn, LosesNothing, WritesActs, given_through, missing_through}
+use Rattle.subscriber.specs.Living.{AreLives, AreShared, FollowsAt, IsLossFrom, IsLossTo, IsNumbered, Life, HasWritten, IsUnlost, LivesAt, LivesOn, WritesActs, given_through}
 use Rattle.subscriber.specs.Meetings.{Opens}
 use Rattle.subscriber.specs.Places.{first_number}
 use Rattle.subscriber.specs.Turning.{AttendsOwn, Considers, ConsidersOwn, IsLoss, Passes, Renews, Replaces, Resumes, Turns, Warns}
-use Rattle.subscriber.specs.Offers.{SubscriberDevice, setup_taken}
+use Rattle.subscriber.specs.Offers.{SubscriberDevice, peer_of, setup_taken}
 use Rattle.subscriber.specs.Losing.{with_device}
-use Rattle.subscriber.specs.Images.{has_lost, missing_with, next}
+use Rattle.subscriber.specs.Cuts.{has_lost, is_uncut}
+use Rattle.subscriber.specs.Images.{first_cut, missing_with, next}
+use Rattle.subscriber.specs.Standing.{Stands, is_broken_off, is_whole}
+use Rattle.subscriber.specs.declared.images.CutOff.{CutOff}
+use Rattle.subscriber.specs.declared.images.session.Stand.{Stand}
+use Rattle.subscriber.specs.declared.listening.setup_offer.ImageParams.{ImageParams}
 use Rattle.subscriber.specs.declared.images.Images.{Images}
 use Rattle.subscriber.specs.declared.images.Loss.{Loss}
-use Rattle.subscriber.proofs.Ends.{ends_on, greatest_end}
-use Rattle.subscriber.specs.Followers.{HasNoted, IsGreatestEnd, NotesEnds}
+use Rattle.subscriber.proofs.Ends.{ends_on, greatest_end, heard_none, hears_after}
+use Rattle.subscriber.specs.Followers.{HasNoted, IsGreatestEnd, IsHeard, NotesEnds}
 use Rattle.subscriber.specs.declared.images.follower.Follower.{Follower}
 use Rattle.subscriber.specs.declared.images.delivery.Delivered.{Delivered}
 use Rattle.subscriber.specs.declared.images.session.Session.{Session}
@@ -131,6 +135,10 @@ cycle_lives_on form most now count more tells f a d done g b e sum w = record {
 pub spelled_on : (form : Form) (xs ys : List (List ℕ)) → spelling form (xs ++ ys) ≡ spelling form xs ++ spelling form ys
 spelled_on form xs ys = flat_map-append (spelled form) xs ys
 
+-- nothing was heard of its stream
+fresh_hears : (f : Follower) → f.heard ≡ false → IsTrue f.heard ↔ IsHeard f.opening f.stream []
+fresh_hears f unheard = (λ b. absurd (true≢false (sym b ∙ unheard)), λ h. absurd (heard_none f.opening f.stream h))
+
 -- the first image of a place
 pub joined_life : (plan : SubscribePlan) (places place share moment : ℕ) (m : SetupOffer) (j : Session) → 1 ≤ share → share ≤ places → Opens plan (setup_of m.setup) m.opening → IsJoinedBy plan place share moment m j → FollowsAt plan places place j.images j.follower []
 joined_life plan places place share moment m j some few opens h = record {
@@ -145,10 +153,12 @@ joined_life plan places place share moment m j some few opens h = record {
     lives = tt;
     shared = (some, few, tt);
     gave = refl;
+    uncut = λ none. tt;
   };
-  session = h.fresh.own_session;
+  opening = h.fresh.own_opening;
   stream = h.fresh.own_stream;
   notes = h.fresh.untold;
+  hears = fresh_hears j.follower h.fresh.unheard;
 }
 
 -- it lived on
@@ -165,6 +175,7 @@ life_on plan places place images s t acts given h lives = record {
   shared = h.shared;
   gave = ap (λ xs. xs ++ given_in acts) h.gave ∙ append_assoc (given_through h.older) (given_in h.newest.acts) (given_in acts)
       ∙ ap (λ xs. given_through h.older ++ xs) (sym (given_on h.newest.acts acts));
+  uncut = h.uncut;
 }
   where
     numbered : (older : List Life) → IsNumbered place h.newest older → IsNumbered place (record h.newest { acts = h.newest.acts ++ acts }) older
@@ -175,12 +186,16 @@ pub follows_on : (plan : SubscribePlan) (places place : ℕ) (images : Images) (
 unfolding life_on
 follows_on plan places place images f g acts given h lives noted = record {
   life = life_on plan places place images f.subscriber g.subscriber acts given h.life lives;
-  session = noted.session ∙ h.session;
+  opening = noted.opening ∙ h.opening;
   stream = noted.stream ∙ h.stream;
-  notes = subst (λ (n : ℤ). NotesEnds n g.stream (heard_in (h.life.newest.acts ++ acts)) None g.end) (sym noted.session)
-      (subst (λ (n : ℤ). NotesEnds f.session n (heard_in (h.life.newest.acts ++ acts)) None g.end) (sym noted.stream)
-      (subst (λ (heard : List (List ℕ)). NotesEnds f.session f.stream heard None g.end) (sym (heard_on h.life.newest.acts acts))
-      (ends_on f.session f.stream (heard_in h.life.newest.acts) (heard_in acts) None f.end g.end h.notes noted.notes)));
+  notes = subst (λ (o : ImageParams). NotesEnds o.session g.stream (heard_in (h.life.newest.acts ++ acts)) None g.end) (sym noted.opening)
+      (subst (λ (n : ℤ). NotesEnds f.opening.session n (heard_in (h.life.newest.acts ++ acts)) None g.end) (sym noted.stream)
+      (subst (λ (heard : List (List ℕ)). NotesEnds f.opening.session f.stream heard None g.end) (sym (heard_on h.life.newest.acts acts))
+      (ends_on f.opening.session f.stream (heard_in h.life.newest.acts) (heard_in acts) None f.end g.end h.notes noted.notes)));
+  hears = subst (λ (o : ImageParams). IsTrue g.heard ↔ IsHeard o g.stream (heard_in (h.life.newest.acts ++ acts))) (sym noted.opening)
+      (subst (λ (n : ℤ). IsTrue g.heard ↔ IsHeard f.opening n (heard_in (h.life.newest.acts ++ acts))) (sym noted.stream)
+      (subst (λ (heard : List (List ℕ)). IsTrue g.heard ↔ IsHeard f.opening f.stream heard) (sym (heard_on h.life.newest.acts acts))
+      (hears_after f.opening f.stream (heard_in h.life.newest.acts) (heard_in acts) (IsTrue f.heard) (IsTrue g.heard) h.hears noted.hears)));
 }
 
 -- the place is one of more
@@ -201,10 +216,12 @@ follows_more plan few many place images f given more h = record {
     lives = h.life.lives;
     shared = shared_more few many (h.life.newest ∷ h.life.older) more h.life.shared;
     gave = h.life.gave;
+    uncut = h.life.uncut;
   };
-  session = h.session;
+  opening = h.opening;
   stream = h.stream;
   notes = h.notes;
+  hears = h.hears;
 }
 
 -- and its lives are these
@@ -228,6 +245,61 @@ lost_to m j loss (inl (left, (place, stands, is))) = subst (λ x. IsLossTo x m.o
     by_order false = tt
 lost_to m j loss (inr (stays, is)) = subst (λ x. IsLossTo x m.opening.position) (sym is) tt
 
+-- the end that it knows is the greatest that the datagrams tell which its newest image was handed
+pub told_end : (plan : SubscribePlan) (places place : ℕ) (images : Images) (f : Follower) (given : List (List ℕ)) → (h : FollowsAt plan places place images f given) → IsGreatestEnd h.life.newest.opening.session plan.end.stream (heard_in h.life.newest.acts) f.end
+told_end plan places place images f given h =
+    greatest_end _ _ _ _
+    (subst (λ (o : ImageParams). NotesEnds o.session plan.end.stream (heard_in h.life.newest.acts) None f.end) h.opening
+    (subst (λ (n : ℤ). NotesEnds f.opening.session n (heard_in h.life.newest.acts) None f.end) h.stream h.notes))
+
+-- where no stream is cut off none was before, and none is now
+pub none_cut : (before : Option CutOff) (cut : Bool) (own : CutOff) → first_cut before cut own ≡ None → (before ≡ None) × (cut ≡ false)
+none_cut (Some before) cut own e = absurd (let so = e in cc)
+none_cut None true own e = absurd (let so = e in cc)
+none_cut None false own e = (refl, refl)
+
+not_false : (b : Bool) → not b ≡ false → b ≡ true
+not_false true e = refl
+not_false false e = absurd (true≢false e)
+
+both_true : (a b : Bool) → (a && b) ≡ true → (a ≡ true) × (b ≡ true)
+both_true true b e = (refl, e)
+both_true false b e = absurd (true≢false (sym e))
+
+not_some : (loss : Option Loss) → not (is_some loss) ≡ true → loss ≡ None
+not_some None e = refl
+not_some (Some loss) e = absurd (true≢false (sym e))
+
+-- nothing is lost of the stream of an image that is closed uncut
+unlost_behind : (plan : SubscribePlan) (places place : ℕ) (given : List (List ℕ)) (j : Session) (loss : Option Loss) → IsLossFrom j.follower.subscriber loss → (x : Stand) → (follows : FollowsAt plan places place j.images j.follower given)
+    → Stands j.follower.subscriber j.follower.end x → is_uncut j x loss ≡ true → IsUnlost plan (record follows.life.newest { loss = loss })
+unlost_behind plan places place given j loss lacks x follows stands uncut = record {
+  none = not_some loss (both_true (not j.lost) (not (is_some loss)) parts.0).1;
+  last = j.follower.subscriber;
+  is = record { opens = follows.life.is.opens; first = follows.life.is.first; met = follows.life.is.met; lived = follows.life.is.lived; lacks = lacks };
+  ended = by_heard j.follower.heard refl;
+}
+  where
+    parts : ((not j.lost && not (is_some loss)) ≡ true) × ((not j.follower.heard || is_whole x) ≡ true)
+    parts = both_true (not j.lost && not (is_some loss)) (not j.follower.heard || is_whole x) uncut
+
+    whole : (b : Bool) → b ≡ true → (not b || is_whole x) ≡ true → IsTrue (is_whole x)
+    whole true is e = e
+    whole false is e = absurd (true≢false (sym is))
+
+    by_heard : (b : Bool) → j.follower.heard ≡ b
+        → (IsHeard follows.life.newest.opening plan.end.stream (heard_in follows.life.newest.acts) → ⊥) ⊎ HasWritten plan (record follows.life.newest { loss = loss }) j.follower.subscriber
+    by_heard false is = inl (λ h. true≢false (sym (follows.hears.1
+        (subst (λ (o : ImageParams). IsHeard o j.follower.stream (heard_in follows.life.newest.acts)) (sym follows.opening)
+        (subst (λ (n : ℤ). IsHeard follows.life.newest.opening n (heard_in follows.life.newest.acts)) (sym follows.stream) h))) ∙ is))
+    by_heard true is = inr (record {
+      end = j.follower.end;
+      told = told_end plan places place j.images j.follower given follows;
+      stand = x;
+      stands = stands;
+      whole = whole j.follower.heard is parts.1;
+    })
+
 -- a SETUP opened another image in its place
 pub renewed : (plan : SubscribePlan) (places place share : ℕ) (from : SocketAddr) (f : Setup) (m : SetupOffer) (given : List (List ℕ)) (j k : Session) → 1 ≤ share → share ≤ places → IsMeeting plan from f m → Replaces plan share m j k → FollowsAt plan places place j.images j.follower given → FollowsAt plan places place k.images k.follower given
 renewed plan places place share from f m given j k some few meeting x follows =
@@ -247,10 +319,13 @@ renewed plan places place share from f m given j k some few meeting x follows =
         lives = (j.follower.subscriber, record { opens = h.is.opens; first = h.is.first; met = h.is.met; lived = h.is.lived; lacks = lost_from m j x.loss x.is }, numbered_on h.older h.numbered, h.lives);
         shared = (some, few, h.shared);
         gave = h.gave ∙ sym (append-nil (given_through (h.newest ∷ h.older)));
+        uncut = λ none. let uncut = none_cut j.images.cut _ _ (sym (ap (λ (i : Images). i.cut) r.images) ∙ none) in
+            (unlost_behind plan places place given j x.loss (lost_from m j x.loss x.is) r.stand follows r.stands (not_false _ uncut.1), h.uncut uncut.0);
       };
-      session = r.fresh.own_session;
+      opening = r.fresh.own_opening;
       stream = r.fresh.own_stream;
       notes = r.fresh.untold;
+      hears = fresh_hears k.follower r.fresh.unheard;
     }
   where
     numbered_on : (older : List Life) → IsNumbered place follows.life.newest older → IsNumbered place (record follows.life.newest { loss = x.loss }) older
@@ -282,7 +357,8 @@ considered_life plan places place share from f given j k some few (inr p) h = tu
 
 own_life : (plan : SubscribePlan) (places place share : ℕ) (own : Option Setup) (given : List (List ℕ)) (j k : Session) → 1 ≤ share → share ≤ places → ConsidersOwn plan share own j k → FollowsAt plan places place j.images j.follower given → FollowsAt plan places place k.images k.follower given
 own_life plan places place share None given j k some few p h = kept_life plan places place given j k p h
-own_life plan places place share (Some f) given j k some few p h = considered_life plan places place share j.duty.device.inner.inner.inner.peer f given j k some few p h
+own_life plan places place share (Some f) given j k some few (inl p) h = considered_life plan places place share (peer_of j.duty.device) f given j k some few p.1 h
+own_life plan places place share (Some f) given j k some few (inr p) h = kept_life plan places place given j k p.1 h
 
 -- whatever came of its peer's own SETUP
 pub attended_life : (plan : SubscribePlan) (places place share : ℕ) (given : List (List ℕ)) (j k : Session) → 1 ≤ share → share ≤ places → AttendsOwn plan share j k → FollowsAt plan places place j.images j.follower given → FollowsAt plan places place k.images k.follower given
@@ -296,25 +372,10 @@ told_life plan places place given j k d told h = same_life plan places place giv
 
 -- ---- to the end
 
--- the end that it knows is the greatest that the datagrams tell which its newest image was handed
-pub told_end : (plan : SubscribePlan) (places place : ℕ) (images : Images) (f : Follower) (given : List (List ℕ)) → (h : FollowsAt plan places place images f given) → IsGreatestEnd h.life.newest.opening.session plan.end.stream (heard_in h.life.newest.acts) f.end
-told_end plan places place images f given h =
-    greatest_end _ _ _ _
-    (subst (λ (n : ℤ). NotesEnds n plan.end.stream (heard_in h.life.newest.acts) None f.end) h.session
-    (subst (λ (n : ℤ). NotesEnds f.session n (heard_in h.life.newest.acts) None f.end) h.stream h.notes))
-
--- where nothing is missing in all, nothing is behind any image
-pub lose_nothing : LosesNothing
-lose_nothing plan place [] lives none = tt
-lose_nothing plan place (l ∷ older) (t, is, numbered, lives) none = (by_loss l.loss is.lacks none, lose_nothing plan place older lives (let all = none in omega (arith, all)))
+-- where no stream is cut off none was before
+pub uncut_so : (j : Session) → has_lost j ≡ false → j.images.cut ≡ None
+uncut_so j none = by_cut j.images.cut (j.lost || is_broken_off j.stood) (record { session = j.opening.session; position = j.stood.place }) none
   where
-    by_loss : (loss : Option Loss) → IsLossFrom t loss → missing_with (missing_through older) loss ≡ 0 → loss ≡ None
-    by_loss None lacks zero = refl
-    by_loss (Some loss) lacks zero = absurd (let less = lacks.1 in omega (arith, less, zero))
-
-pub older_unlost : (plan : SubscribePlan) (places place : ℕ) (images : Images) (t : Subscribing) (given : List (List ℕ)) → (h : LivesAt plan places place images t given) → images.missing ≡ 0 → AreUnlost h.older
-older_unlost plan places place images t given h none = lose_nothing plan place h.older h.lives (sym h.missing_is ∙ none)
-
-pub unlost_so : (lost : Bool) (i : Images) → has_lost lost i ≡ false → i.missing ≡ 0
-unlost_so true i none = absurd (true≢false none)
-unlost_so false i none = let few = ltb-false 0 i.missing none in omega (arith, few)
+    by_cut : (before : Option CutOff) (cut : Bool) (own : CutOff) → is_some (first_cut before cut own) ≡ false → before ≡ None
+    by_cut (Some before) cut own e = absurd (true≢false e)
+    by_cut None cut own e = refl

@@ -1,13 +1,14 @@
 -- What a subscriber lived through in a turn up to where its image's loss is judged.
-use Rattle.std.proofs.Common.{◌≡◌, ◌≢◌, ◌⊎◌, ◌∙◌, ◌+◌, ⊎_elim, inr, IsTrue, ℕ, ℤ, List, ◌++◌, length, Option, inl, refl, sym, ap, subst, append-nil}
+use Rattle.std.proofs.Common.{◌≡◌, ◌≢◌, ◌⊎◌, ◌↔◌, ◌∙◌, ◌+◌, ⊎_elim, inr, IsTrue, ℕ, ℤ, List, ◌++◌, length, Option, inl, refl, sym, ap, subst, append-nil}
 use Rattle.std.proofs.lemmas.Bool.Decides.{eqb_tells}
 use Rattle.std.specs.Io.KnownBytes.{Appends}
 use Rattle.messages.specs.Forms.{spelling}
 use Rattle.messages.specs.declared.form.Form.{Form}
 use Rattle.receiver.specs.Lives.{Act, given_in, heard_in}
 use Rattle.receiver.specs.Subscribing.{Subscribing}
-use Rattle.subscriber.proofs.Ends.{ends_on}
-use Rattle.subscriber.specs.Followers.{HasNoted, NotesEnds}
+use Rattle.subscriber.proofs.Ends.{ends_on, hears_more}
+use Rattle.subscriber.specs.Followers.{HasNoted, IsHeard, NotesEnds}
+use Rattle.subscriber.specs.declared.listening.setup_offer.ImageParams.{ImageParams}
 use Rattle.subscriber.specs.declared.images.follower.Follower.{Follower}
 use Rattle.subscriber.specs.declared.images.session.Session.{Session}
 use Rattle.subscriber.specs.Watches.{Seen}
@@ -25,11 +26,15 @@ same_given xs ys none = given_on xs ys ∙ ap (λ ms. given_in xs ++ ms) (none_g
 -- what was noted of these datagrams, and then of those
 noted_on : (f g h : Follower) (xs ys : List Act) → HasNoted f (heard_in xs) g → HasNoted g (heard_in ys) h → HasNoted f (heard_in (xs ++ ys)) h
 noted_on f g h xs ys first then = record {
-  notes = subst (λ (heard : List (List ℕ)). NotesEnds f.session f.stream heard f.end h.end) (sym (heard_on xs ys))
-      (ends_on f.session f.stream (heard_in xs) (heard_in ys) f.end g.end h.end first.notes
-      (subst (λ (n : ℤ). NotesEnds n f.stream (heard_in ys) g.end h.end) first.session
-      (subst (λ (n : ℤ). NotesEnds g.session n (heard_in ys) g.end h.end) first.stream then.notes)));
-  session = then.session ∙ first.session;
+  notes = subst (λ (heard : List (List ℕ)). NotesEnds f.opening.session f.stream heard f.end h.end) (sym (heard_on xs ys))
+      (ends_on f.opening.session f.stream (heard_in xs) (heard_in ys) f.end g.end h.end first.notes
+      (subst (λ (o : ImageParams). NotesEnds o.session f.stream (heard_in ys) g.end h.end) first.opening
+      (subst (λ (n : ℤ). NotesEnds g.opening.session n (heard_in ys) g.end h.end) first.stream then.notes)));
+  hears = subst (λ (heard : List (List ℕ)). IsTrue h.heard ↔ (IsTrue f.heard ⊎ IsHeard f.opening f.stream heard)) (sym (heard_on xs ys))
+      (hears_more f.opening f.stream (heard_in xs) (heard_in ys) (IsTrue f.heard) (IsTrue g.heard) (IsTrue h.heard) first.hears
+      (subst (λ (o : ImageParams). IsTrue h.heard ↔ (IsTrue g.heard ⊎ IsHeard o f.stream (heard_in ys))) first.opening
+      (subst (λ (n : ℤ). IsTrue h.heard ↔ (IsTrue g.heard ⊎ IsHeard g.opening n (heard_in ys))) first.stream then.hears)));
+  opening = then.opening ∙ first.opening;
   stream = then.stream ∙ first.stream;
 }
 

@@ -24,7 +24,7 @@ one_geometry f g h a b =
     ∙ ap (λ (n : ℕ). shape h.term_length n g.initial_term_id) (same_pos _ _ (sym a.mtu ∙ b.mtu))
     ∙ ap (λ (i : ℤ). shape h.term_length h.mtu i) (sym a.initial ∙ b.initial)
 
-never : (f : Setup) (width : ℕ) (g : Geometry) (p : ℕ) (e : SetupError) → HasSetupFault f width (fault_of e) → OpensAt f width g p → ⊥
+pub never : (f : Setup) (width : ℕ) (g : Geometry) (p : ℕ) (e : SetupError) → HasSetupFault f width (fault_of e) → OpensAt f width g p → ⊥
 never f width g p errors.Geometry wrong opens = wrong g opens.geometry
 never f width g p errors.Position (h, named, nowhere) opens =
     nowhere p (subst (λ (x : Geometry). NamesPosition f x p) (one_geometry f g h opens.geometry named) opens.position)

@@ -1,29 +1,33 @@
 -- A follower's cycle is its subscriber's, and it notes the ends that it hears.
-use Rattle.std.proofs.Common.{◌≡◌, ◌⊎◌, ◌∙◌, ℕ, ℤ, Bool, List, [], ◌∷◌, Option, inl, inr, sym, ap, subst}
+use Rattle.std.proofs.Common.{◌≡◌, ◌⊎◌, ◌↔◌, ◌∙◌, IsTrue, ℕ, ℤ, Bool, List, [], ◌∷◌, Option, inl, inr, refl, sym, ap, subst}
 use Rattle.agents.specs.Cycles.{Cycle, Fault, HearsAll, TicksBehind}
 use Rattle.agents.specs.Parties.{ReceiverHears, ReceiverTicks}
 use Rattle.endpoint.specs.Devices.{Device}
 use Rattle.endpoint.specs.declared.device_error.DeviceError.{DeviceError}
-use Rattle.subscriber.specs.Followers.{FollowerHears, FollowerTicks, HasNoted, NotesEnds}
+use Rattle.peer.specs.declared.farewell.StreamEnd.{StreamEnd}
+use Rattle.subscriber.proofs.Ends.{hears_more, hears_none, hears_one}
+use Rattle.subscriber.specs.Followers.{FollowerHears, FollowerTicks, HasNoted, IsHeard, NotesEnds}
+use Rattle.subscriber.specs.declared.listening.setup_offer.ImageParams.{ImageParams}
 use Rattle.subscriber.specs.declared.images.follower.Follower.{Follower}
 
 pub hears_all : (now : ℕ) (f g : Follower) (heard given : List (List ℕ)) → HearsAll FollowerHears now f heard g given → HearsAll ReceiverHears now f.subscriber heard g.subscriber given
 hears_all now f g [] given all = (ap (λ (x : Follower). x.subscriber) all.0, all.1)
 hears_all now f g (d ∷ ds) given (u, first, rest, one, more, is) = (u.subscriber, first, rest, one.hears, hears_all now u g ds rest more, is)
 
+pub notes_none : (f : Follower) → HasNoted f [] f
+notes_none f = record { notes = refl; hears = hears_none f.opening f.stream (IsTrue f.heard); opening = refl; stream = refl }
+
 pub notes_all : (now : ℕ) (f g : Follower) (heard given : List (List ℕ)) → HearsAll FollowerHears now f heard g given → HasNoted f heard g
-notes_all now f g [] given all = record {
-  notes = ap (λ (x : Follower). x.end) all.0;
-  session = ap (λ (x : Follower). x.session) all.0;
-  stream = ap (λ (x : Follower). x.stream) all.0;
-}
+notes_all now f g [] given all = subst (HasNoted f []) (sym all.0) (notes_none f)
 notes_all now f g (d ∷ ds) given (u, first, rest, one, more, is) =
     let later = notes_all now u g ds rest more in
-    let session : u.session ≡ f.session = ap (λ (x : Follower). x.session) one.same in
+    let opening : u.opening ≡ f.opening = ap (λ (x : Follower). x.opening) one.same in
     let stream : u.stream ≡ f.stream = ap (λ (x : Follower). x.stream) one.same in
     record {
-      notes = (u.end, one.notes, subst (λ (n : ℤ). NotesEnds n f.stream ds u.end g.end) session (subst (λ (n : ℤ). NotesEnds u.session n ds u.end g.end) stream later.notes));
-      session = later.session ∙ session;
+      notes = (u.end, one.notes, subst (λ (o : ImageParams). NotesEnds o.session f.stream ds u.end g.end) opening (subst (λ (n : ℤ). NotesEnds u.opening.session n ds u.end g.end) stream later.notes));
+      hears = hears_more f.opening f.stream (d ∷ []) ds (IsTrue f.heard) (IsTrue u.heard) (IsTrue g.heard) (hears_one f.opening f.stream d (IsTrue f.heard) (IsTrue u.heard) one.heard)
+          (subst (λ (o : ImageParams). IsTrue g.heard ↔ (IsTrue u.heard ⊎ IsHeard o f.stream ds)) opening (subst (λ (n : ℤ). IsTrue g.heard ↔ (IsTrue u.heard ⊎ IsHeard u.opening n ds)) stream later.hears));
+      opening = later.opening ∙ opening;
       stream = later.stream ∙ stream;
     }
 
@@ -43,8 +47,9 @@ subscribers_cycle now tells f d busy g e c =
         is_busy = c.is_busy;
       },
       record {
-        notes = subst (λ (end : Option ℕ). NotesEnds f.session f.stream c.heard f.end end) (sym (ap (λ (x : Follower). x.end) c.ticked.same)) noted.notes;
-        session = ap (λ (x : Follower). x.session) c.ticked.same ∙ noted.session;
+        notes = subst (λ (end : Option StreamEnd). NotesEnds f.opening.session f.stream c.heard f.end end) (sym (ap (λ (x : Follower). x.end) c.ticked.same)) noted.notes;
+        hears = subst (λ (b : Bool). IsTrue b ↔ (IsTrue f.heard ⊎ IsHeard f.opening f.stream c.heard)) (sym (ap (λ (x : Follower). x.heard) c.ticked.same)) noted.hears;
+        opening = ap (λ (x : Follower). x.opening) c.ticked.same ∙ noted.opening;
         stream = ap (λ (x : Follower). x.stream) c.ticked.same ∙ noted.stream;
       },
     )

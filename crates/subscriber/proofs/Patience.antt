@@ -16,7 +16,7 @@ never_grown : (a b : ℕ) → a ≡ 0 → b ≡ 0 → HasGrown a b → ⊥
 never_grown a b x y (inl less) = omega arith
 never_grown a b x y (inr most) = omega arith
 
-never_failed : (why : DeviceError) (d e : Device) (lost : List (List ℕ)) → d.failures ≡ 0 → e.failures ≡ 0 → Explains why d lost e → why ≢ errors.Device
+pub never_failed : (why : DeviceError) (d e : Device) (lost : List (List ℕ)) → d.failures ≡ 0 → e.failures ≡ 0 → Explains why d lost e → why ≢ errors.Device
 never_failed errors.Device d e lost x y h = λ _. never_grown d.failures e.failures x y h.0
 never_failed errors.Memory d e lost x y h = λ is. absurd (cc)
 

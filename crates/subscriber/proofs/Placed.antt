@@ -8,8 +8,9 @@ use Rattle.options.specs.declared.ends.plans.SubscribePlan.{SubscribePlan}
 use Rattle.receiver.specs.Lives.{Act, Lives, given_in}
 use Rattle.receiver.specs.Subscribing.{Subscribing}
 use Rattle.subscriber.proofs.Given.{below_at, below_on, given_on, length-given_at, length-messages_of, messages_at, messages_more, of_place_beside, of_place_more}
-use Rattle.subscriber.proofs.Lived.{attended_life, follows_lives, follows_on, joined_life, life_on, older_unlost, same_life, spelled_on, told_end, told_life}
+use Rattle.subscriber.proofs.Lived.{attended_life, follows_lives, follows_on, joined_life, life_on, same_life, spelled_on, told_end, told_life}
 use Rattle.subscriber.proofs.Told.{none_told_behind, told_behind, told_first}
+use Rattle.subscriber.specs.Apart.{AreApart}
 use Rattle.subscriber.specs.Breaking.{BreaksActs, BreaksPlaces, LosesOne, ToldEach, is_ticked, told_in, told_through}
 use Rattle.subscriber.specs.Calls.{IsJoined}
 use Rattle.subscriber.specs.Endings.{EndsEach, EndsWithSessions, HasStood, IsEndingOfAll}
@@ -219,17 +220,18 @@ ends_each plan places place given (x ∷ xs) h stood = (
     follows = h.0;
     told = told_end plan places place x.images x.follower (of_place place given) h.0;
     stood = stood.0;
-    unlost = older_unlost plan places place x.images x.follower.subscriber (of_place place given) h.0.life;
+    unlost = h.0.life.uncut;
   },
   ends_each plan places (place + 1) given xs h.1 stood.1,
 )
 
-pub ends_with : (plan : SubscribePlan) (a b : Option (List ℕ)) (done : Subscribed) (xs : List Session) → 0 < length xs → length xs ≤ most_places plan → FollowsAll plan a done.messages xs b → AllByRecursion HasStood xs → IsEndingOfAll plan done.messages xs (Some done.ending) → EndsWithSessions plan a done b
-ends_with plan a b done xs some few h stood ending = record {
+pub ends_with : (plan : SubscribePlan) (a b : Option (List ℕ)) (done : Subscribed) (xs : List Session) → 0 < length xs → length xs ≤ most_places plan → AreApart xs → FollowsAll plan a done.messages xs b → AllByRecursion HasStood xs → IsEndingOfAll plan done.messages xs (Some done.ending) → EndsWithSessions plan a done b
+ends_with plan a b done xs some few apart h stood ending = record {
   sessions = xs;
   given = h.given;
   some = some;
   few = few;
+  apart = apart;
   each = ends_each plan (length xs) 0 h.given xs h.each stood;
   known = h.known;
   counted = h.counted;

@@ -1,5 +1,5 @@
 -- A turn of a subscriber, from its begin to its end, over all sessions.
-use Rattle.std.proofs.Common.{◌≡◌, ◌≢◌, ◌∙◌, ◌<◌, ◌≤◌, ◌+◌, ◌⊎◌, ℕ, List, [], ◌∷◌, ◌++◌, map, length, Option, None, Some, inl, inr, ap, sym, subst, arith, length-append}
+use Rattle.std.proofs.Common.{◌≡◌, ◌∙◌, ◌<◌, ℕ, List, [], ◌∷◌, map, length, Option, None, Some, inl, inr, ap, sym, subst, arith, length-append}
 use Rattle.std.proofs.lemmas.List.{length-map}
 use Rattle.std.specs.List.{AllByRecursion, AllZip}
 use Rattle.options.specs.declared.ends.plans.SubscribePlan.{SubscribePlan}
@@ -9,7 +9,7 @@ use Rattle.subscriber.proofs.Kept.{begun_sized, routed_sized}
 use Rattle.subscriber.proofs.Placed.{begun_all, routed_all}
 use Rattle.subscriber.specs.Attending.{AnswersTurn}
 use Rattle.subscriber.specs.Callers.{AsksCaller}
-use Rattle.subscriber.specs.Choosing.{AttendsAll, AttendsOther, ChangesAt, GoesTo, IsPlaced, Joins}
+use Rattle.subscriber.specs.Choosing.{AttendsAll, AttendsOther, ChangesAt, GoesTo}
 use Rattle.subscriber.specs.Living.{FollowsAll}
 use Rattle.subscriber.specs.Losing.{AsksEach}
 use Rattle.subscriber.specs.Receivings.{Receiving, caller_given, offer_given}
@@ -54,24 +54,25 @@ attended_some plan moment offer xs ys h some =
 
 -- ---- what a turn is answered by
 
-pub turn_answered : (plan : SubscribePlan) (moment : ℕ) (old asked placed new : List Session) (heard between attended left : Receiving)
+pub turn_answered : (plan : SubscribePlan) (moment : ℕ) (old asked placed called new : List Session) (heard between attended left : Receiving)
     → asked ≡ old → AsksEach plan old heard.socket between.socket → between ≡ record heard { socket = between.socket }
     → AttendsAll plan moment between.offer asked placed → attended ≡ offer_given between
-    → AsksCaller plan placed attended.caller attended.socket left.socket → left ≡ record (caller_given attended) { socket = left.socket }
-    → new ≡ map news_told placed → AnswersTurn plan moment old heard new left
-turn_answered plan moment old asked placed new heard between attended left same asks kept attends given calls called told =
+    → AsksCaller plan attended.caller placed attended.socket called left.socket → left ≡ record (caller_given attended) { socket = left.socket }
+    → new ≡ map news_told called → AnswersTurn plan moment old heard new left
+turn_answered plan moment old asked placed called new heard between attended left same asks kept attends given calls gave told =
     let offer : between.offer ≡ heard.offer = ap (λ (r : Receiving). r.offer) kept in
     let caller : attended.caller ≡ heard.caller = ap (λ (r : Receiving). r.caller) given ∙ ap (λ (r : Receiving). r.caller) kept in
     let socket : attended.socket ≡ between.socket = ap (λ (r : Receiving). r.socket) given in
     let here : AttendsAll plan moment heard.offer asked placed = subst (λ (o : Offer). AttendsAll plan moment o asked placed) offer attends in
-    let by : AsksCaller plan placed heard.caller attended.socket left.socket = subst (λ c. AsksCaller plan placed c attended.socket left.socket) caller calls in
+    let by : AsksCaller plan heard.caller placed attended.socket called left.socket = subst (λ c. AsksCaller plan c placed attended.socket called left.socket) caller calls in
     let through : attended ≡ offer_given (record heard { socket = between.socket }) = given ∙ ap offer_given kept in
     record {
       asked = between.socket;
       asks = asks;
       placed = placed;
       attends = subst (λ (xs : List Session). AttendsAll plan moment heard.offer xs placed) same here;
-      calls = subst (λ (s : Listening). AsksCaller plan placed heard.caller s left.socket) socket by;
+      called = called;
+      calls = subst (λ (s : Listening). AsksCaller plan heard.caller placed s called left.socket) socket by;
       told = told;
-      given = called ∙ ap (λ (r : Receiving). record (caller_given r) { socket = left.socket }) through;
+      given = gave ∙ ap (λ (r : Receiving). record (caller_given r) { socket = left.socket }) through;
     }

@@ -1,5 +1,5 @@
 -- What is changed at a place, and which places there are.
-use Rattle.std.proofs.Common.{◌≡◌, ◌∙◌, ◌<◌, ℕ, suc, inl, inr, List, [], ◌∷◌, ◌++◌, length, take, drop, get_or, set, ap, sym, subst, append-nil, arith, length-append}
+use Rattle.std.proofs.Common.{◌≡◌, ◌∙◌, ◌<◌, ℕ, ℤ, suc, inl, inr, List, ◌∷◌, ◌++◌, length, take, drop, get_or, set, ap, sym, subst, append-nil, arith, length-append}
 use Rattle.std.proofs.Math.Seq.{drop-length}
 use Rattle.std.proofs.lemmas.List.{length-take, take_all}
 use Rattle.options.specs.declared.ends.plans.SubscribePlan.{SubscribePlan}
@@ -10,7 +10,6 @@ use Rattle.subscriber.specs.Choosing.{AttendsAll, AttendsOther, ChangesAt, IsCho
 use Rattle.subscriber.specs.Sessions.{IsShareAt, share_of}
 use Rattle.subscriber.specs.Turning.{AttendsOwn}
 use Rattle.subscriber.specs.declared.images.session.Session.{Session}
-use Rattle.subscriber.specs.declared.listening.setup_offer.SetupOffer.{SetupOffer}
 use Rattle.subscriber.specs.declared.subscription.offers.Chosen.TheVariants as chosen
 
 -- the one at a place becomes another one, by the share of the next image there
@@ -38,11 +37,11 @@ within front back here xs i parts at =
 first_within : (Is : Session → Type 0) (xs : List Session) (i : ℕ) → IsFirst Is xs i → i < length xs
 first_within Is xs i f = within f.front f.back f.here xs i f.parts f.at
 
-pub own_within : (plan : SubscribePlan) (m : SetupOffer) (xs : List Session) (i : ℕ) → IsChosen plan m xs (chosen.Own i) → i < length xs
-own_within plan m xs i is = first_within _ xs i is
+pub own_within : (plan : SubscribePlan) (session : ℤ) (xs : List Session) (i : ℕ) → IsChosen plan session xs (chosen.Own i) → i < length xs
+own_within plan session xs i is = first_within _ xs i is
 
-pub given_within : (plan : SubscribePlan) (m : SetupOffer) (xs : List Session) (i : ℕ) → IsChosen plan m xs (chosen.Given i) → i < length xs
-given_within plan m xs i (none, is) =
+pub given_within : (plan : SubscribePlan) (session : ℤ) (xs : List Session) (i : ℕ) → IsChosen plan session xs (chosen.Given i) → i < length xs
+given_within plan session xs i (none, is) =
     elim is [
       | inl oldest ↦ within oldest.1.front oldest.1.back oldest.1.here xs i oldest.1.parts oldest.1.at
       | inr vacant ↦ elim vacant.1 [

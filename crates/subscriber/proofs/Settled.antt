@@ -1,7 +1,6 @@
 -- Whether all sessions are settled.
 use Rattle.std.proofs.Math.Seq.{take-length}
 use Rattle.std.proofs.Common.{◌≡◌, ◌∙◌, ◌-◌, ◌↔◌, ◌<◌, ℕ, take, ap, IsTrue, Bool, true, false, ◌&&◌, List, [], ◌∷◌, length, drop, get_or, subst, arith}
-use Rattle.std.specs.List.{AllZip}
 use Rattle.options.specs.declared.ends.plans.SubscribePlan.{SubscribePlan}
 use Rattle.subscriber.specs.Sessions.{AreSettled, IsSettledSo, StandsSo}
 use Rattle.subscriber.specs.declared.images.session.Session.{Session}

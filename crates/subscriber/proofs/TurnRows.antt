@@ -1,12 +1,13 @@
 -- Rows: when an image gives way to a SETUP.
 use Rattle.std.proofs.Common.{◌≡◌, ℕ, IsTrue, inl, inr, arith}
+use Rattle.subscriber.specs.Offers.{peer_of}
 use Rattle.subscriber.specs.Watches.{IsBehind}
 use Rattle.subscriber.specs.declared.images.session.Session.{Session}
 use Rattle.subscriber.specs.declared.listening.setup_offer.SetupOffer.{SetupOffer}
 use Rattle.subscriber.specs.Turning.{GivesWay, IsAgain, IsAhead, IsNext}
 
 -- of an ended session its own SETUP, from its own peer, however silent it is
-its_own : (m : SetupOffer) (rebuilt : ℕ) (j : Session) → IsTrue j.ended → m.opening.session ≡ j.opening.session → m.from ≡ j.duty.device.inner.inner.inner.peer → GivesWay m rebuilt j → ⊥
+its_own : (m : SetupOffer) (rebuilt : ℕ) (j : Session) → IsTrue j.ended → m.opening.session ≡ j.opening.session → m.from ≡ peer_of j.duty.device → GivesWay m rebuilt j → ⊥
 its_own m rebuilt j ended session from (inl (so, inl other)) = other session
 its_own m rebuilt j ended session from (inl (so, inr other)) = other from
 its_own m rebuilt j ended session from (inr (going, silent)) = going ended
@@ -16,7 +17,7 @@ another_session : (m : SetupOffer) (rebuilt : ℕ) (j : Session) → IsTrue j.en
 another_session m rebuilt j ended other = inl (ended, inl other)
 
 -- one of its session that another sent
-another_sender : (m : SetupOffer) (rebuilt : ℕ) (j : Session) → IsTrue j.ended → (m.from ≡ j.duty.device.inner.inner.inner.peer → ⊥) → GivesWay m rebuilt j
+another_sender : (m : SetupOffer) (rebuilt : ℕ) (j : Session) → IsTrue j.ended → (m.from ≡ peer_of j.duty.device → ⊥) → GivesWay m rebuilt j
 another_sender m rebuilt j ended other = inl (ended, inr other)
 
 -- one that hasn't ended, a nanosecond before it is silent, gives way to no other's, and then to any

@@ -1,5 +1,5 @@
 -- A turn of the session at a place, among those of all.
-use Rattle.std.proofs.Common.{◌≡◌, ◌∙◌, ◌<◌, ◌≤◌, ℕ, suc, List, ◌∷◌, ◌++◌, length, take, drop, get_or, set, Option, ap, sym, subst}
+use Rattle.std.proofs.Common.{◌≡◌, ◌<◌, ◌≤◌, ℕ, suc, List, length, take, drop, get_or, set, Option, sym, subst}
 use Rattle.options.specs.declared.ends.plans.SubscribePlan.{SubscribePlan}
 use Rattle.receiver.specs.Subscribing.{Subscribing}
 use Rattle.subscriber.proofs.Each.{parted, parted_set}

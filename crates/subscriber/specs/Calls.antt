@@ -16,10 +16,11 @@ use Rattle.subscriber.specs.Images.{first_image}
 use Rattle.subscriber.specs.Places.{first_number}
 use Rattle.subscriber.specs.Hearings.{following}
 use Rattle.subscriber.specs.Meetings.{HasMet, Opens, OpensNothing, TakesSession, TellsHeader, id_of}
-use Rattle.subscriber.specs.Watches.{Timing, awaking, beginning, called, with_stranger}
+use Rattle.subscriber.specs.Untaken.{IsUntaken, IsUnwanted}
+use Rattle.subscriber.specs.Watches.{Timing, awaking, beginning, called, with_stranger, with_untaken}
 use Rattle.subscriber.specs.declared.images.session.Session.{Session}
 use Rattle.subscriber.specs.declared.listening.Call.{Call}
-use Rattle.subscriber.specs.declared.listening.Call.TheVariants.{Opens as OpensBy, Asks, Stranger}
+use Rattle.subscriber.specs.declared.listening.Call.TheVariants.{Opens as OpensBy, Untaken, Asks, Stranger}
 use Rattle.subscriber.specs.declared.listening.setup_offer.SetupOffer.{SetupOffer}
 
 -- the image that a SETUP would open, and who sent it
@@ -33,16 +34,18 @@ pub record IsTaken (plan : SubscribePlan) (h : Header) : Type 0 where
   pub stream : h.stream ≡ plan.end.stream
   pub session : TakesSession plan.session h.session
 
--- a SETUP opens an image, or is a stranger's
+-- a SETUP opens an image, or the plan doesn't take it, or it opens none for any plan and is a stranger's
 abbrev pub IsSetupCall : SubscribePlan → SocketAddr → Setup → Call → Type 0
 IsSetupCall plan from f (OpensBy m) = IsMeeting plan from f m
+IsSetupCall plan from f (Untaken u) = OpensNothing plan (setup_of f) × IsUntaken plan from (setup_of f) u
 IsSetupCall plan from f (Asks h) = ⊥
-IsSetupCall plan from f Stranger = OpensNothing plan (setup_of f)
+IsSetupCall plan from f Stranger = OpensNothing plan (setup_of f) × IsUnwanted plan (setup_of f) None
 
 -- for a frame of a stream that the plan takes a SETUP is asked for; all else is a stranger's
 abbrev pub IsFrameCall : SubscribePlan → Option Header → Call → Type 0
 IsFrameCall plan None c = c ≡ Stranger
 IsFrameCall plan (Some h) (OpensBy m) = ⊥
+IsFrameCall plan (Some h) (Untaken u) = ⊥
 IsFrameCall plan (Some h) (Asks named) = IsTaken plan h × IsHeader h × (header_of named ≡ h)
 IsFrameCall plan (Some h) Stranger = ¬ IsTaken plan h
 
@@ -57,18 +60,21 @@ IsCall plan from bytes c = (found : Option Setup) × TellsSetup bytes (option_ma
 -- a SETUP that opens an image is met
 abbrev pub met_by : Call → Option SetupOffer
 met_by (OpensBy m) = Some m
+met_by (Untaken u) = None
 met_by (Asks h) = None
 met_by Stranger = None
 
--- a stranger's are counted, and all others heard
+-- a stranger's are counted, and so is a SETUP that the plan doesn't take, the first of which is noted; all others are heard
 abbrev pub seen_by : Call → Timing → Timing
 seen_by (OpensBy m) s = awaking s
+seen_by (Untaken u) s = with_untaken u s
 seen_by (Asks h) s = called s
 seen_by Stranger s = with_stranger s
 
 -- only the sender of a frame is asked, once and with the frame's place, for a SETUP that opens the first image
 abbrev pub answered : SubscribePlan → SocketAddr → Call → Listening → Listening
 answered plan from (OpensBy m) l = l
+answered plan from (Untaken u) l = l
 answered plan from (Asks h) l = asking l from (asking_at (header_of h) (id_of plan 0))
 answered plan from Stranger l = l
 
@@ -94,7 +100,7 @@ pub record IsJoinedBy (plan : SubscribePlan) (place share moment : ℕ) (m : Set
   pub opening : j.opening ≡ m.opening
   pub images : j.images ≡ first_image place
   pub met : HasMet plan (first_number place) share (setup_of m.setup) moment j.follower.subscriber
-  pub fresh : IsFresh j.follower m.opening.session plan.end.stream
+  pub fresh : IsFresh j.follower m.opening plan.end.stream
   pub duty : j.duty ≡ record { device = following (begun (patient (sending_to m.from)) plan.end.rates plan.end.seed) m.opening.session plan.end.stream; mtu = 40 }
   pub watch : j.watch ≡ beginning moment
   pub lost : j.lost ≡ false

@@ -1,8 +1,8 @@
--- Which place a SETUP goes to that would open an image, and what comes of it.
+-- Which place a session gets, and what comes of a SETUP that would open an image.
 -- A session has its own. Else, where eight are held by sessions that weren't heard yet, it goes to the oldest of those; or else to one whose
 -- stream ended more than a second ago, to a further one while there is one, to one whose stream has ended, or to one that is silent; else
 -- nowhere.
-use Rattle.std.specs.Prelude.{◌≡◌, ◌⊎◌, ◌<◌, ◌≤◌, ◌+◌, ◌-◌, ◌++◌, ℕ, Bool, true, false, IsTrue, List, [], ◌∷◌, length, Option, None, Some, if◌then◌else◌, ◌&&◌, is_none, map}
+use Rattle.std.specs.Prelude.{◌≡◌, ◌⊎◌, ◌<◌, ◌≤◌, ◌+◌, ◌-◌, ◌++◌, ℕ, ℤ, Bool, IsTrue, List, [], ◌∷◌, length, None, Some, ◌&&◌, is_none}
 use Rattle.std.specs.List.{AllByRecursion, AllZip, filter}
 use Rattle.frames.specs.Frames.{setup_of}
 use Rattle.options.specs.declared.ends.plans.SubscribePlan.{SubscribePlan}
@@ -29,9 +29,9 @@ IsEnded j = IsTrue j.ended
 abbrev pub IsSilentNow : Session → Type 0
 IsSilentNow j = IsSilent j.watch
 
--- the SETUP is of its session
-abbrev pub IsItsOwn : SetupOffer → Session → Type 0
-IsItsOwn m j = j.opening.session ≡ m.opening.session
+-- this one is followed there
+abbrev pub IsItsOwn : ℤ → Session → Type 0
+IsItsOwn session j = j.follower.opening.session ≡ session
 
 -- the first that is so stands at this place
 pub record IsFirst (Is : Session → Type 0) (sessions : List Session) (place : ℕ) : Type 0 where
@@ -73,15 +73,15 @@ IsVacant plan sessions place =
     IsFirst IsOver sessions place
     ⊎ (IsNone IsOver sessions × IsFull plan sessions × (IsFirst IsEnded sessions place ⊎ (IsNone IsEnded sessions × IsFirst IsSilentNow sessions place)))
 
-abbrev pub IsChosen : SubscribePlan → SetupOffer → List Session → Chosen → Type 0
-IsChosen plan m sessions (Own place) = IsFirst (IsItsOwn m) sessions place
-IsChosen plan m sessions (Given place) =
-    IsNone (IsItsOwn m) sessions
+abbrev pub IsChosen : SubscribePlan → ℤ → List Session → Chosen → Type 0
+IsChosen plan session sessions (Own place) = IsFirst (IsItsOwn session) sessions place
+IsChosen plan session sessions (Given place) =
+    IsNone (IsItsOwn session) sessions
     × (((8 ≤ unheard_count sessions) × IsOldest sessions place) ⊎ ((unheard_count sessions < 8) × IsVacant plan sessions place))
-IsChosen plan m sessions Further =
-    IsNone (IsItsOwn m) sessions × (unheard_count sessions < 8) × IsNone IsOver sessions × (length sessions < most_places plan)
-IsChosen plan m sessions Nowhere =
-    IsNone (IsItsOwn m) sessions × (unheard_count sessions < 8) × IsFull plan sessions × IsNone IsEnded sessions × IsNone IsSilentNow sessions
+IsChosen plan session sessions Further =
+    IsNone (IsItsOwn session) sessions × (unheard_count sessions < 8) × IsNone IsOver sessions × (length sessions < most_places plan)
+IsChosen plan session sessions Nowhere =
+    IsNone (IsItsOwn session) sessions × (unheard_count sessions < 8) × IsFull plan sessions × IsNone IsEnded sessions × IsNone IsSilentNow sessions
 
 -- the session at a place becomes another one so, and the others stay
 pub record ChangesAt (place : ℕ) (Becomes : Session → Session → Type 0) (old new : List Session) : Type 0 where
@@ -109,7 +109,7 @@ GoesTo plan m moment Nowhere old new = ChangesAt 0 (Warns m) old new
 -- what is made of a SETUP that would open an image
 pub record IsPlaced (plan : SubscribePlan) (m : SetupOffer) (moment : ℕ) (old new : List Session) : Type 0 where
   pub chosen : Chosen
-  pub is : IsChosen plan m old chosen
+  pub is : IsChosen plan m.opening.session old chosen
   pub goes : GoesTo plan m moment chosen old new
 
 -- and of the first that is kept of others, if one is

@@ -11,13 +11,15 @@ use Rattle.subscriber.specs.Places.{AreBelow, Given, messages_of, most_places, o
 use Rattle.subscriber.specs.Watches.{HasWaited, IsQuiet, Seen, Timing}
 use Rattle.subscriber.specs.declared.images.session.Session.{Session}
 use Rattle.subscriber.specs.Answering.{HasAnswered}
+use Rattle.subscriber.specs.Apart.{AreApart}
 use Rattle.subscriber.specs.Leavings.{IsEnding, IsQuietEnding}
 use Rattle.subscriber.specs.Living.{AreUnlost, FollowsAt}
 use Rattle.subscriber.specs.Standing.{HasAll, Stands}
 use Rattle.subscriber.specs.Turning.{IsUnheardYet}
 use Rattle.subscriber.specs.declared.ending.Ending.{Ending}
 use Rattle.subscriber.specs.declared.ending.Ending.TheVariants.{Lost, Short, Whole}
-use Rattle.subscriber.specs.Images.{has_lost}
+use Rattle.peer.specs.declared.farewell.StreamEnd.{StreamEnd}
+use Rattle.subscriber.specs.Cuts.{has_lost}
 use Rattle.subscriber.specs.declared.ending.Subscribed.{Subscribed}
 use Rattle.subscriber.specs.declared.images.session.Stand.{Stand}
 
@@ -33,7 +35,7 @@ pub record EndsWithoutImage (plan : SubscribePlan) (before : Option (List ℕ)) 
 
 -- it ends so behind so many messages, by what it has seen of its session, where it stands, the end that it was told, and whether it has lost an
 -- image; where it has all of its stream it has told that
-pub record EndsSo (plan : SubscribePlan) (written : ℕ) (s : Seen) (t : Subscribing) (end : Option ℕ) (lost : Bool) (how : Ending) : Type 0 where
+pub record EndsSo (plan : SubscribePlan) (written : ℕ) (s : Seen) (t : Subscribing) (end : Option StreamEnd) (lost : Bool) (how : Ending) : Type 0 where
   pub stand : Stand
   pub stands : Stands t end stand
   pub ending : IsEnding plan written s stand lost (Some how)
@@ -74,7 +76,7 @@ AreEnough plan written sessions = HasEnoughOfAll plan written sessions ⊎ AreGi
 
 -- one of them has lost an image
 abbrev pub have_lost : List Session → Bool
-have_lost sessions = list_any (λ (j : Session). has_lost j.lost j.images) sessions
+have_lost sessions = list_any has_lost sessions
 
 -- how it ends behind so many messages, where its sessions stand so
 abbrev pub IsEndingOfAll : SubscribePlan → ℕ → List Session → Option Ending → Type 0
@@ -89,23 +91,24 @@ pub record HasStood (j : Session) : Type 0 where
   pub answered : HasAll j.stood → HasAnswered j.follower.subscriber
 
 -- of so many places, from this one on: each place's images gave its share of this; it ends by the greatest end that the datagrams told
--- which its newest image was handed; and where nothing is missing in all, nothing is between its images
+-- which its newest image was handed; and where no stream was cut off, nothing is lost of its older images' streams
 pub record EndsAt (plan : SubscribePlan) (places place : ℕ) (given : List (List ℕ)) (j : Session) : Type 0 where
   pub follows : FollowsAt plan places place j.images j.follower given
   pub told : IsGreatestEnd follows.life.newest.opening.session plan.end.stream (heard_in follows.life.newest.acts) j.follower.end
   pub stood : HasStood j
-  pub unlost : j.images.missing ≡ 0 → AreUnlost follows.life.older
+  pub unlost : j.images.cut ≡ None → AreUnlost plan follows.life.older
 
 abbrev pub EndsEach : SubscribePlan → ℕ → ℕ → List Given → List Session → Type 0
 EndsEach plan places place given [] = ⊤
 EndsEach plan places place given (j ∷ more) = EndsAt plan places place (of_place place given) j × EndsEach plan places (place + 1) given more
 
--- it had images, and all that their polls gave is written; with what stands at its places it ends so
+-- it had images, of another session at each place, and all that their polls gave is written; with what stands at its places it ends so
 pub record EndsWithSessions (plan : SubscribePlan) (before : Option (List ℕ)) (done : Subscribed) (after : Option (List ℕ)) : Type 0 where
   pub sessions : List Session
   pub given : List Given
   pub some : 0 < length sessions
   pub few : length sessions ≤ most_places plan
+  pub apart : AreApart sessions
   pub each : EndsEach plan (length sessions) 0 given sessions
   pub known : AreBelow (length sessions) given
   pub counted : done.messages ≡ length given
@@ -126,8 +129,8 @@ pub record EndsWithImage (plan : SubscribePlan) (before : Option (List ℕ)) (do
   pub told : IsGreatestEnd follows.life.newest.opening.session plan.end.stream (heard_in follows.life.newest.acts) j.follower.end
   pub counted : done.messages ≡ length given
   pub written : Appends before after (spelling plan.end.form given)
-  pub ends : EndsSo plan done.messages j.watch j.follower.subscriber j.follower.end (has_lost j.lost j.images) done.ending
-  pub unlost : done.ending ≡ Whole → AreUnlost follows.life.older
+  pub ends : EndsSo plan done.messages j.watch j.follower.subscriber j.follower.end (has_lost j) done.ending
+  pub unlost : done.ending ≡ Whole → AreUnlost plan follows.life.older
 
 abbrev pub OneSessionEnds : Type 0
 OneSessionEnds =

@@ -3,7 +3,9 @@ pub mod Meetings
 pub mod Hearings
 pub mod Places
 pub mod Images
+pub mod Cuts
 pub mod Watches
+pub mod Untaken
 pub mod Receivings
 pub mod Routing
 pub mod Offers
@@ -21,10 +23,12 @@ pub mod Answering
 pub mod Living
 pub mod Losing
 pub mod Breaking
+pub mod Apart
 pub mod Endings
 pub mod Telling
 pub mod FirstFrames
 pub mod Sessions
-pub mod Callers
 pub mod Choosing
+pub mod Callers
 pub mod Attending
+pub mod Faults

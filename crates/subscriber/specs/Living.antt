@@ -1,5 +1,5 @@
 -- What a subscriber lived through with its images, and what it wrote of it.
-use Rattle.std.specs.Prelude.{◌≡◌, ◌+◌, ◌<◌, ◌≤◌, ◌↔◌, ⊤, ℕ, List, [], ◌∷◌, ◌++◌, length, Option, None, Some}
+use Rattle.std.specs.Prelude.{◌≡◌, ◌⊎◌, ◌+◌, ◌<◌, ◌≤◌, ◌↔◌, ⊤, ℕ, IsTrue, List, [], ◌∷◌, ◌++◌, length, Option, None, Some}
 use Rattle.std.specs.Io.KnownBytes.{Appends}
 use Rattle.theory.specs.Wire.{Setup}
 use Rattle.messages.specs.Forms.{spelling}
@@ -7,7 +7,8 @@ use Rattle.messages.specs.declared.form.Form.{Form}
 use Rattle.options.specs.declared.ends.plans.SubscribePlan.{SubscribePlan}
 use Rattle.receiver.specs.Subscribing.{Subscribing}
 use Rattle.receiver.specs.Lives.{Act, Lives, given_in, heard_in}
-use Rattle.subscriber.specs.Followers.{HasNoted, NotesEnds}
+use Rattle.peer.specs.declared.farewell.StreamEnd.{StreamEnd}
+use Rattle.subscriber.specs.Followers.{HasNoted, IsGreatestEnd, IsHeard, NotesEnds}
 use Rattle.subscriber.specs.Meetings.{HasMet, Opens}
 use Rattle.subscriber.specs.declared.images.follower.Follower.{Follower}
 use Rattle.subscriber.specs.declared.listening.setup_offer.ImageParams.{ImageParams}
@@ -16,7 +17,8 @@ use Rattle.subscriber.specs.Places.{AreBelow, Given, first_number, messages_of, 
 use Rattle.subscriber.specs.declared.images.session.Session.{Session}
 use Rattle.subscriber.specs.declared.images.Images.{Images}
 use Rattle.subscriber.specs.declared.images.Loss.{Loss}
-use Rattle.subscriber.specs.Standing.{StandsHere}
+use Rattle.subscriber.specs.Standing.{Stands, StandsHere, is_whole}
+use Rattle.subscriber.specs.declared.images.session.Stand.{Stand}
 
 -- some messages, whole and one after the other, and it has counted them
 pub record Writes (form : Form) (count : ℕ) (before : Option (List ℕ)) (more : ℕ) (after : Option (List ℕ)) : Type 0 where
@@ -89,14 +91,25 @@ abbrev pub missing_through : List Life → ℕ
 missing_through [] = 0
 missing_through (l ∷ older) = missing_with (missing_through older) l.loss
 
--- behind none of them anything is missing
-abbrev pub AreUnlost : List Life → Type 0
-AreUnlost [] = ⊤
-AreUnlost (l ∷ older) = (l.loss ≡ None) × AreUnlost older
+-- all of an image's stream is written up to its end, and that wasn't announced as broken off
+pub record HasWritten (plan : SubscribePlan) (l : Life) (t : Subscribing) : Type 0 where
+  pub end : Option StreamEnd
+  pub told : IsGreatestEnd l.opening.session plan.end.stream (heard_in l.acts) end
+  pub stand : Stand
+  pub stands : Stands t end stand
+  pub whole : IsTrue (is_whole stand)
 
--- where nothing is missing in all, nothing is behind any
-abbrev pub LosesNothing : Type 0
-LosesNothing = (plan : SubscribePlan) (place : ℕ) (lives : List Life) → AreLives plan place lives → missing_through lives ≡ 0 → AreUnlost lives
+-- nothing of an image's stream is lost that was closed so: its stream was never heard, or all of it is written up to its end
+pub record IsUnlost (plan : SubscribePlan) (l : Life) : Type 0 where
+  pub none : l.loss ≡ None
+  pub last : Subscribing
+  pub is : IsLife plan l last
+  pub ended : (IsHeard l.opening plan.end.stream (heard_in l.acts) → ⊥) ⊎ HasWritten plan l last
+
+-- of none of them
+abbrev pub AreUnlost : SubscribePlan → List Life → Type 0
+AreUnlost plan [] = ⊤
+AreUnlost plan (l ∷ older) = IsUnlost plan l × AreUnlost plan older
 
 -- ---- one place
 
@@ -112,13 +125,17 @@ pub record LivesAt (plan : SubscribePlan) (places place : ℕ) (images : Images)
   pub lives : AreLives plan place older
   pub shared : AreShared places (newest ∷ older)
   pub gave : given ≡ given_through (newest ∷ older)
+  -- where no stream was cut off, nothing is lost of the older ones
+  pub uncut : images.cut ≡ None → AreUnlost plan older
 
--- and the greatest end that it knows of its session's stream is that of the datagrams that it was handed since the image was opened
+-- and the greatest end that it knows of its session's stream is that of the datagrams that it was handed since the image was opened, and by
+-- them it knows whether that stream was heard
 pub record FollowsAt (plan : SubscribePlan) (places place : ℕ) (images : Images) (f : Follower) (given : List (List ℕ)) : Type 0 where
   pub life : LivesAt plan places place images f.subscriber given
-  pub session : f.session ≡ life.newest.opening.session
+  pub opening : f.opening ≡ life.newest.opening
   pub stream : f.stream ≡ plan.end.stream
-  pub notes : NotesEnds f.session f.stream (heard_in life.newest.acts) None f.end
+  pub notes : NotesEnds f.opening.session f.stream (heard_in life.newest.acts) None f.end
+  pub hears : IsTrue f.heard ↔ IsHeard f.opening f.stream (heard_in life.newest.acts)
 
 -- of one place: what it wrote in all is what the polls of its images gave
 pub record WritesLives (plan : SubscribePlan) (place : ℕ) (before : Option (List ℕ)) (count : ℕ) (after : Option (List ℕ)) : Type 0 where

@@ -8,7 +8,7 @@ use Rattle.receiver.specs.Lives.{Act, Lives}
 use Rattle.subscriber.specs.Images.{next}
 use Rattle.subscriber.specs.Meetings.{id_of}
 use Rattle.peer.specs.Ties.{Listening, asking}
-use Rattle.subscriber.specs.Offers.{SubscriberDevice}
+use Rattle.subscriber.specs.Offers.{SubscriberDevice, peer_of}
 use Rattle.subscriber.specs.Standing.{RebuiltTo, lacks}
 use Rattle.subscriber.specs.Watches.{IsHearing, IsWithinTurn, Seen, Timing, judging, IsBehind, noting}
 use Rattle.subscriber.specs.declared.images.session.Session.{Session}
@@ -79,7 +79,7 @@ pub record IsAskedFor (j : Session) : Type 0 where
 
 abbrev pub Asks : SubscribePlan → Option Header → Session → Listening → Listening → Type 0
 Asks plan None j old new = new ≡ old
-Asks plan (Some h) j old new = new ≡ asking old j.duty.device.inner.inner.inner.peer (asking_at (header_of h) (id_of plan (next j.images.number)))
+Asks plan (Some h) j old new = new ≡ asking old (peer_of j.duty.device) (asking_at (header_of h) (id_of plan (next j.images.number)))
 
 pub record AsksAnew (plan : SubscribePlan) (j : Session) (old new : Listening) : Type 0 where
   pub asks : IsAskedFor j → Asks plan j.duty.device.notes.last j old new

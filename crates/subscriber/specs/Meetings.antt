@@ -6,6 +6,7 @@ use Rattle.theory.specs.Setup.{OpensAt}
 use Rattle.theory.specs.Wire.{Wire, Header, DATA, PAD, HEARTBEAT, NAK, SM, SETUP, Setup, spelling}
 use Rattle.frames.specs.Fronts.{FrontSpells}
 use Rattle.peer.specs.Farewells.{TellsEnd}
+use Rattle.peer.specs.declared.farewell.StreamEnd.{StreamEnd}
 use Rattle.receiver.specs.Receiving.{Receiver, TakesDatagram, listening}
 use Rattle.receiver.specs.Subscribing.{RepresentsSubscriber, Subscribing}
 use Rattle.receiver.specs.declared.receiver_core.Outcome.{Outcome}
@@ -43,7 +44,7 @@ bytes_of (negsuc n) = 0
 
 -- a SETUP tells no end of its stream
 abbrev pub IsOngoing : Setup → Type 0
-IsOngoing f = (end : ℕ) → TellsEnd f.session f.stream (SETUP f) end → ⊥
+IsOngoing f = (end : StreamEnd) → TellsEnd f.session f.stream (SETUP f) end → ⊥
 
 -- a session that the plan takes, its stream, and terms that aren't too long; and the stream goes on
 pub record Admits (plan : SubscribePlan) (f : Setup) : Type 0 where

@@ -14,6 +14,10 @@ use Rattle.subscriber.specs.declared.images.session_device.StatusNews.TheVariant
 abbrev pub SubscriberDevice : Type 0
 SubscriberDevice = Following (Losing (Patient ToPeer))
 
+-- whom it sends to
+abbrev pub peer_of : SubscriberDevice → SocketAddr
+peer_of d = d.inner.inner.inner.peer
+
 -- the peer's SETUP was taken
 abbrev pub setup_taken : SubscriberDevice → SubscriberDevice
 setup_taken d = record d { notes = record (d.notes) { setup = None } }

@@ -1,5 +1,5 @@
 -- The places at which a subscriber follows sessions, and what the images at each gave.
-use Rattle.std.specs.Prelude.{◌≡◌, ◌<◌, ◌+◌, ◌*◌, ◌^◌, ⊤, ℕ, nat_eq, if◌then◌else◌, max, min, map, List, [], ◌∷◌}
+use Rattle.std.specs.Prelude.{◌<◌, ◌*◌, ◌^◌, ⊤, ℕ, nat_eq, if◌then◌else◌, max, min, map, List, [], ◌∷◌}
 use Rattle.options.specs.declared.ends.plans.SubscribePlan.{SubscribePlan}
 
 -- how many there are at the most: as many as the plan says, from 1 to 16

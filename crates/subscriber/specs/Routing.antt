@@ -7,7 +7,7 @@ use Rattle.peer.specs.Ties.{Came, sent_by}
 use Rattle.subscriber.specs.FirstFrames.{NamesNoOther, TellsFirst, header_first, named_first, setup_first}
 use Rattle.subscriber.specs.Hearings.{Routed, with_routed}
 use Rattle.subscriber.specs.Losing.{with_device}
-use Rattle.subscriber.specs.Offers.{SubscriberDevice}
+use Rattle.subscriber.specs.Offers.{SubscriberDevice, peer_of}
 use Rattle.subscriber.specs.Receivings.{Receiving, bringing, calling, keeping}
 use Rattle.subscriber.specs.Watches.{Timing, after_call, with_stranger}
 use Rattle.subscriber.specs.declared.images.session.Session.{Session}
@@ -15,7 +15,7 @@ use Rattle.subscriber.specs.declared.listening.first_frame.FirstFrame.{FirstFram
 
 -- a datagram is a session's: its peer sent it, and the frame in front names no other session
 pub record IsOf (d : SubscriberDevice) (from : SocketAddr) (first : FirstFrame) : Type 0 where
-  pub sender : from ≡ d.inner.inner.inner.peer
+  pub sender : from ≡ peer_of d
   pub own : NamesNoOther (named_first first) d.session
 
 -- the sessions, the socket, and what was seen

@@ -1,6 +1,6 @@
 -- What becomes of a subscriber's sessions in a turn and at its end, each by itself.
-use Rattle.std.specs.Prelude.{◌≡◌, ◌↔◌, ◌≤◌, ◌+◌, ℕ, Bool, false, not, min, max, IsTrue, List, ◌∷◌, length, Option, if◌then◌else◌, ◌++◌, map}
-use Rattle.std.specs.List.{AllByRecursion, AllZip, filter}
+use Rattle.std.specs.Prelude.{◌≡◌, ◌↔◌, ◌≤◌, ◌+◌, ℕ, Bool, false, not, min, max, IsTrue, List, ◌∷◌, length, Option, if◌then◌else◌, ◌++◌}
+use Rattle.std.specs.List.{AllZip, filter}
 use Rattle.options.specs.declared.ends.plans.SubscribePlan.{SubscribePlan}
 use Rattle.subscriber.specs.Answering.{BidsFarewell, StaysAnswered}
 use Rattle.subscriber.specs.Breaking.{BreaksPlaces}
@@ -39,6 +39,7 @@ news_told j = with_device j (news_taken j.duty.device)
 -- its turn was lived through: what it lacks was noted, whether its image is lost was judged, and where it stands it has noted; where it has
 -- all of its stream it has told that
 pub record HasLooked (old new : Session) : Type 0 where
+  pub session : new.follower.opening.session ≡ old.follower.opening.session
   pub before : Timing
   pub behind : Timing
   pub judges : JudgesTurn before old new behind

@@ -1,17 +1,21 @@
 -- What a subscriber with an image tells of its counters.
-use Rattle.std.specs.Prelude.{◌≡◌, ◌+◌, ◌-◌, ◌^◌, ℕ, ℤ, min, length, List, [], ◌∷◌, Option, None, Some}
+use Rattle.std.specs.Prelude.{◌≡◌, ◌+◌, ◌-◌, ◌^◌, ℕ, ℤ, min, length, List, [], ◌∷◌, Option, None, Some, option_map}
 use Rattle.std.specs.Io.KnownBytes.{Appends}
 use Rattle.receiver.specs.Polling.{TellsPositions}
 use Rattle.receiver.specs.Receiving.{Receiver}
 use Rattle.receiver.specs.Subscribing.{RepresentsSubscriber}
 use Rattle.receiver.specs.declared.positions.Positions.{Positions}
 use Rattle.frames.specs.declared.fault_counts.FaultCounts.{FaultCounts}
-use Rattle.subscriber.specs.Texts.{IsClean, counters_line, refused_line, unfinished_line}
+use Rattle.peer.specs.declared.farewell.StreamEnd.{StreamEnd}
+use Rattle.subscriber.specs.Cuts.{cut_of}
+use Rattle.subscriber.specs.Texts.{IsClean, counters_line, not_whole_line, refused_line, unfinished_line}
+use Rattle.subscriber.specs.declared.images.CutOff.{CutOff}
 use Rattle.subscriber.specs.Watches.{Timing}
 use Rattle.subscriber.specs.declared.images.session.Session.{Session}
 use Rattle.subscriber.specs.declared.reporting.Counts.{Counts}
 use Rattle.subscriber.specs.declared.reporting.Followed.{Followed}
 use Rattle.subscriber.specs.declared.reporting.Totals.{Totals}
+use Rattle.subscriber.specs.Offers.{peer_of}
 use Rattle.subscriber.specs.Standing.{HasAll, StandsHere}
 use Rattle.subscriber.specs.declared.reporting.Unfinished.{Unfinished}
 
@@ -57,11 +61,6 @@ abbrev pub naks_of : List Session → ℕ
 naks_of [] = 0
 naks_of (j ∷ others) = min (naks_of others + j.duty.device.naks) (2 ^ 64 - 1)
 
--- how many bytes are missing between the images of all
-abbrev pub missing_of : List Session → ℕ
-missing_of [] = 0
-missing_of (j ∷ others) = min (missing_of others + j.images.missing) (2 ^ 64 - 1)
-
 -- these, the first of which is this one
 abbrev pub AreFollowed : List Session → Followed → Type 0
 AreFollowed [] f = ⊥
@@ -87,10 +86,10 @@ TellsRefusedOf strangers (j ∷ others) before after = (between : Option (List �
 
 -- the session that its image is of, by its peer, where it stands, and the greatest end that was told
 pub record IsUnfinished (j : Session) (left : Unfinished) : Type 0 where
-  pub from : left.from ≡ j.duty.device.inner.inner.inner.peer
+  pub from : left.from ≡ peer_of j.duty.device
   pub session : left.session ≡ j.opening.session
   pub position : StandsHere j.follower.subscriber left.position
-  pub end : left.end ≡ j.follower.end
+  pub end : left.end ≡ option_map (λ (end : StreamEnd). end.position) j.follower.end
 
 -- that is told of each that lacks something of its stream
 abbrev pub TellsUnfinished : ℕ → Session → Option (List ℕ) → Option (List ℕ) → Type 0
@@ -100,3 +99,17 @@ TellsUnfinished seconds j before after =
 abbrev pub TellsUnfinishedOf : ℕ → List Session → Option (List ℕ) → Option (List ℕ) → Type 0
 TellsUnfinishedOf seconds [] before after = after ≡ before
 TellsUnfinishedOf seconds (j ∷ others) before after = (between : Option (List ℕ)) × TellsUnfinished seconds j before between × TellsUnfinishedOf seconds others between after
+
+-- the stream that is cut off at a place is told, with the bytes that are missing between the images there
+abbrev pub TellsCut : Option CutOff → ℕ → Option (List ℕ) → Option (List ℕ) → Type 0
+TellsCut None missing before after = after ≡ before
+TellsCut (Some cut) missing before after = Appends before after (not_whole_line cut missing)
+
+abbrev pub TellsCutOf : List Session → Option (List ℕ) → Option (List ℕ) → Type 0
+TellsCutOf [] before after = after ≡ before
+TellsCutOf (j ∷ others) before after = (between : Option (List ℕ)) × TellsCut (cut_of j) j.images.missing before between × TellsCutOf others between after
+
+-- and before that where each stands that lacks something
+abbrev pub TellsShortOf : ℕ → List Session → Option (List ℕ) → Option (List ℕ) → Type 0
+TellsShortOf seconds sessions before after =
+    (between : Option (List ℕ)) × TellsUnfinishedOf seconds sessions before between × TellsCutOf sessions between after

@@ -1,6 +1,7 @@
 -- What a subscriber tells on its error output.
 use Rattle.std.specs.Prelude.{◌≡◌, ℕ, ℤ, Bool, true, false, List, [], ◌∷◌, ◌++◌, Option, None, Some, nat_eq, if◌then◌else◌, codes, decimal}
 use Rattle.std.specs.Fmt.{signed_decimal}
+use Rattle.std.specs.Io.KnownBytes.{Appends}
 use Rattle.std.specs.Net.Text.{socket_text}
 use Rattle.std.specs.declared.net.SocketAddr.{SocketAddr}
 use Rattle.frames.specs.FaultCounts.{counts_text, uncounted}
@@ -8,7 +9,11 @@ use Rattle.frames.specs.declared.fault_counts.FaultCounts.{FaultCounts}
 use Rattle.receiver.specs.declared.positions.Positions.{Positions}
 use Rattle.peer.specs.Texts.{joined}
 use Rattle.subscriber.specs.Watches.{Timing}
+use Rattle.subscriber.specs.declared.images.CutOff.{CutOff}
 use Rattle.subscriber.specs.declared.images.Loss.{Loss}
+use Rattle.subscriber.specs.declared.listening.untaken.UntakenSetup.{UntakenSetup}
+use Rattle.subscriber.specs.declared.listening.untaken.Unwanted.{Unwanted}
+use Rattle.subscriber.specs.declared.listening.untaken.Unwanted.TheVariants as whys
 use Rattle.text.specs.Paces.{pace_text}
 use Rattle.subscriber.specs.declared.reporting.Counted.{Counted}
 use Rattle.subscriber.specs.declared.reporting.Counts.{Counts}
@@ -34,6 +39,23 @@ told_end_text (Some end) = joined (codes ", and the end that was told is " ∷ d
 -- where its session stands
 abbrev pub unfinished_text : Unfinished → List ℕ
 unfinished_text left = joined (codes "session " ∷ signed_decimal left.session ∷ codes " stands at position " ∷ decimal left.position ∷ told_end_text left.end ∷ [])
+
+-- where a stream was cut off
+abbrev pub cut_text : CutOff → List ℕ
+cut_text cut = joined (codes "session " ∷ signed_decimal cut.session ∷ codes " was cut off at position " ∷ decimal cut.position ∷ [])
+
+-- ---- a SETUP that isn't taken
+
+-- why
+abbrev pub unwanted_text : Unwanted → List ℕ
+unwanted_text (whys.Stream wanted) = joined (codes "stream " ∷ signed_decimal wanted ∷ codes " is wanted" ∷ [])
+unwanted_text (whys.Session wanted) = joined (codes "session " ∷ signed_decimal wanted ∷ codes " is wanted" ∷ [])
+unwanted_text (whys.Terms length greatest) = joined (codes "its terms of " ∷ decimal length ∷ codes " bytes are longer than " ∷ decimal greatest ∷ [])
+
+abbrev pub untaken_text : UntakenSetup → List ℕ
+untaken_text u = joined (
+    codes "session " ∷ signed_decimal u.session ∷ codes " of stream " ∷ signed_decimal u.stream ∷ codes " at " ∷ socket_text u.from
+    ∷ codes ": " ∷ unwanted_text u.why ∷ [])
 
 -- ---- counters
 
@@ -72,10 +94,12 @@ line_text (lines.Missing id loss) = joined (codes "missing: " ∷ session_text i
 line_text (lines.Closed id at refused) = joined (codes "closed: " ∷ session_text id ∷ codes " at position " ∷ decimal at ∷ codes ", refused" ∷ counts_text refused.counts ∷ [])
 line_text (lines.Another id from) = joined (codes "another sender at " ∷ socket_text from ∷ codes " for " ∷ session_text id ∷ codes ", not heard" ∷ [])
 line_text (lines.Unheard id from own) = joined (codes "not heard: " ∷ session_text id ∷ codes " at " ∷ socket_text from ∷ codes "; " ∷ session_text own ∷ codes " is followed" ∷ [])
+line_text (lines.NotTaken untaken) = joined (codes "not taken: " ∷ untaken_text untaken ∷ [])
 line_text (lines.Ended id at) = joined (codes "ended: " ∷ session_text id ∷ codes " at position " ∷ decimal at ∷ [])
 line_text (lines.Nobody seconds) = joined (codes "gave up: nobody published for " ∷ decimal seconds ∷ codes " s" ∷ [])
 line_text (lines.GaveUp seconds left) = joined (codes "gave up: nothing was heard from " ∷ socket_text left.from ∷ codes " for " ∷ decimal seconds ∷ codes " s; " ∷ unfinished_text left ∷ [])
-line_text (lines.NotWhole bytes) = joined (codes "not whole: an image was lost, " ∷ decimal bytes ∷ codes " bytes are known to be missing" ∷ [])
+line_text (lines.BrokenOff id at) = joined (codes "broken off: " ∷ session_text id ∷ codes " at position " ∷ decimal at ∷ [])
+line_text (lines.NotWhole cut bytes) = joined (codes "not whole: " ∷ cut_text cut ∷ codes ", " ∷ decimal bytes ∷ codes " bytes are known to be missing" ∷ [])
 line_text (lines.Counters id c) = joined (session_text id ∷ codes " " ∷ counted_text c ∷ [])
 line_text (lines.Waiting c) = joined (codes "session none " ∷ counted_text c ∷ [])
 line_text (lines.Done totals) = totals_text totals
@@ -107,8 +131,18 @@ another_line session from = line_of (lines.Another (id_of session) from)
 abbrev pub unheard_line : ℤ → SocketAddr → ℤ → List ℕ
 unheard_line session from own = line_of (lines.Unheard (id_of session) from (id_of own))
 
-abbrev pub ended_line : ℤ → ℕ → List ℕ
-ended_line session position = line_of (lines.Ended (id_of session) position)
+abbrev pub not_taken_line : UntakenSetup → List ℕ
+not_taken_line u = line_of (lines.NotTaken u)
+
+-- that is told of one, if there is one
+abbrev pub TellsUntaken : Option UntakenSetup → Option (List ℕ) → Option (List ℕ) → Type 0
+TellsUntaken None before after = after ≡ before
+TellsUntaken (Some u) before after = Appends before after (not_taken_line u)
+
+-- all is written up to the told end, at which the stream may be broken off
+abbrev pub ended_line : Bool → ℤ → ℕ → List ℕ
+ended_line false session position = line_of (lines.Ended (id_of session) position)
+ended_line true session position = line_of (lines.BrokenOff (id_of session) position)
 
 -- why it gave up
 abbrev pub nobody_line : ℕ → List ℕ
@@ -117,8 +151,8 @@ nobody_line seconds = line_of (lines.Nobody seconds)
 abbrev pub unfinished_line : ℕ → Unfinished → List ℕ
 unfinished_line seconds left = line_of (lines.GaveUp seconds left)
 
-abbrev pub not_whole_line : ℕ → List ℕ
-not_whole_line bytes = line_of (lines.NotWhole bytes)
+abbrev pub not_whole_line : CutOff → ℕ → List ℕ
+not_whole_line cut bytes = line_of (lines.NotWhole cut bytes)
 
 -- with an image of this session
 abbrev pub counters_line : ℤ → Positions → Counts → List ℕ

@@ -15,11 +15,13 @@ use Rattle.subscriber.specs.Followers.{IsFresh}
 use Rattle.subscriber.specs.Hearings.{turned_to}
 use Rattle.subscriber.specs.Meetings.{HasMet, OpensNothing}
 use Rattle.subscriber.specs.Calls.{IsMeeting}
-use Rattle.subscriber.specs.Offers.{setup_taken, tied_anew}
+use Rattle.subscriber.specs.Offers.{peer_of, setup_taken, tied_anew}
 use Rattle.subscriber.specs.Losing.{with_device, IsLeft}
+use Rattle.subscriber.specs.Cuts.{cut_behind}
 use Rattle.subscriber.specs.Images.{IsUnnamed, loss_between, next, next_images}
+use Rattle.subscriber.specs.declared.images.session.Stand.{Stand}
 use Rattle.subscriber.specs.Watches.{IsBehind, IsSilent, attending, hearing, keeping}
-use Rattle.subscriber.specs.Standing.{RebuiltTo, StandsHere}
+use Rattle.subscriber.specs.Standing.{RebuiltTo, Stands, StandsHere}
 use Rattle.subscriber.specs.Texts.{missing_line}
 use Rattle.subscriber.specs.declared.images.Loss.{Loss}
 use Rattle.subscriber.specs.declared.images.session.Session.{Session}
@@ -35,7 +37,7 @@ pub record GoesOn (was : ImageParams) (rebuilt : ℕ) (o : ImageParams) : Type 0
 -- a SETUP of the image's session, which another sent than its peer
 pub record IsAnother (m : SetupOffer) (j : Session) : Type 0 where
   pub session : m.opening.session ≡ j.opening.session
-  pub sender : m.from ≢ j.duty.device.inner.inner.inner.peer
+  pub sender : m.from ≢ peer_of j.duty.device
 
 -- a SETUP of another session, which is told as not heard
 pub record IsUnheard (m : SetupOffer) (j : Session) : Type 0 where
@@ -51,7 +53,7 @@ pub record Warns (m : SetupOffer) (old new : Session) : Type 0 where
 
 -- the next publisher's: of another session, or another sent it than the peer
 abbrev pub IsNext : SetupOffer → Session → Type 0
-IsNext m j = (m.opening.session ≢ j.opening.session) ⊎ (m.from ≢ j.duty.device.inner.inner.inner.peer)
+IsNext m j = (m.opening.session ≢ j.opening.session) ⊎ (m.from ≢ peer_of j.duty.device)
 
 -- the image's own, from its peer, above what is rebuilt
 pub record IsAhead (m : SetupOffer) (rebuilt : ℕ) (j : Session) : Type 0 where
@@ -89,11 +91,14 @@ pub record CameAt (now : ℕ) (old : Session) (came : ℕ) : Type 0 where
 abbrev pub IsTiedTo : SocketAddr → Session → Session → Type 0
 IsTiedTo from old new = new ≡ with_device old (tied_anew old.duty.device from)
 
--- a SETUP has opened a new image at the moment, whose peer is the one that sent it, and before which this is missing
+-- a SETUP has opened a new image at the moment, whose peer is the one that sent it, and before which this is missing; where the image
+-- before it stood when it was closed says whether a stream is cut off
 pub record IsRenewed (plan : SubscribePlan) (share : ℕ) (m : SetupOffer) (loss : Option Loss) (old new : Session) : Type 0 where
-  pub images : new.images ≡ next_images old.images loss
+  pub stand : Stand
+  pub stands : Stands old.follower.subscriber old.follower.end stand
+  pub images : new.images ≡ next_images old.images loss (cut_behind old stand loss)
   pub met : HasMet plan (next old.images.number) share (setup_of m.setup) old.watch.moment new.follower.subscriber
-  pub fresh : IsFresh new.follower m.opening.session plan.end.stream
+  pub fresh : IsFresh new.follower m.opening plan.end.stream
   pub opening : new.opening ≡ m.opening
   pub device : new.duty ≡ record (old.duty) { device = turned_to (tied_anew old.duty.device m.from) m.opening.session }
   pub watch : new.watch ≡ keeping (hearing old.watch)
@@ -144,10 +149,12 @@ abbrev pub Considers : SubscribePlan → ℕ → SocketAddr → Setup → Sessio
 Considers plan share from f old new =
     (OpensNothing plan (setup_of f) × (new ≡ old)) ⊎ ((m : SetupOffer) × IsMeeting plan from f m × Turns plan share m old new)
 
--- of its peer's own, the last one that came since, if one did
+-- of its peer's own, the last one that came since, if one did; nothing is made of one that names another session
 abbrev pub ConsidersOwn : SubscribePlan → ℕ → Option Setup → Session → Session → Type 0
 ConsidersOwn plan share None old new = new ≡ old
-ConsidersOwn plan share (Some f) old new = Considers plan share old.duty.device.inner.inner.inner.peer f old new
+ConsidersOwn plan share (Some f) old new =
+    ((f.session ≡ old.follower.opening.session) × Considers plan share (peer_of old.duty.device) f old new)
+    ⊎ ((¬ (f.session ≡ old.follower.opening.session)) × (new ≡ old))
 
 -- that is taken and considered, and so the turn is attended
 abbrev pub AttendsOwn : SubscribePlan → ℕ → Session → Session → Type 0

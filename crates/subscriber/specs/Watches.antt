@@ -1,8 +1,11 @@
 -- What a subscriber has seen of the time, in all and of each session, and what comes of it.
-use Rattle.std.specs.Prelude.{◌≡◌, Result, Ok, Err, ◌+◌, ◌-◌, ◌%◌, ◌^◌, ◌≤◌, ◌<◌, ℕ, nat_lt, Bool, true, false, IsTrue, min, if◌then◌else◌}
+use Rattle.std.specs.Prelude.{◌≡◌, ◌⊎◌, ⊤, Option, None, Some, Result, Ok, Err, ◌+◌, ◌-◌, ◌%◌, ◌^◌, ◌≤◌, ◌<◌, ℕ, nat_lt, Bool, true, false, IsTrue, min, if◌then◌else◌}
 use Rattle.endpoint.specs.Devices.{counted}
 use Rattle.endpoint.specs.declared.datagrams.DeviceFailed.{DeviceFailed}
 use Rattle.options.specs.declared.ends.plans.SubscribePlan.{SubscribePlan}
+use Rattle.subscriber.specs.declared.listening.untaken.Notice.{Notice}
+use Rattle.subscriber.specs.declared.listening.untaken.Notice.TheVariants.{Nothing, Noted, Told}
+use Rattle.subscriber.specs.declared.listening.untaken.UntakenSetup.{UntakenSetup}
 
 -- moments are nanoseconds from its begin: what a subscriber has seen, whatever its sessions
 pub record Timing : Type 0 where
@@ -22,10 +25,12 @@ pub record Timing : Type 0 where
   pub calls : ℕ
   -- how many calls that read its socket failed
   pub lost : ℕ
+  -- what was noted of SETUPs that the plan doesn't take, before an image
+  pub notice : Notice
 
 -- it has seen its begin
 abbrev pub begun : Timing
-begun = record { moment = 0; heard = 0; worked = 0; told = 0; written = 0; strangers = 0; calls = 0; lost = 0 }
+begun = record { moment = 0; heard = 0; worked = 0; told = 0; written = 0; strangers = 0; calls = 0; lost = 0; notice = Nothing }
 
 -- a second or more in which it didn't look at the clock is no silence of others, and no failing of its socket: it heard nobody
 -- then and called nothing, and couldn't have. So what was earlier counts as later by that time, where it looked at this moment last
@@ -61,9 +66,37 @@ after_call (Err failed) s = losing s
 abbrev pub with_stranger : Timing → Timing
 with_stranger s = record s { strangers = counted s.strangers }
 
+-- the first SETUP that the plan doesn't take is noted, and when it came
+abbrev pub noticed : Notice → UntakenSetup → ℕ → Notice
+noticed Nothing u now = Noted u now
+noticed (Noted first since) u now = Noted first since
+noticed Told u now = Told
+
+-- one is a stranger's
+abbrev pub with_untaken : UntakenSetup → Timing → Timing
+with_untaken u s = record (with_stranger s) { notice = noticed s.notice u s.moment }
+
 -- without an image it has waited for as long as the plan says
 abbrev pub HasWaited : SubscribePlan → Timing → Type 0
 HasWaited plan s = plan.quiet ≤ s.moment - s.heard
+
+-- a SETUP that the plan doesn't take, which came at this moment, is to be told: a second behind it, or where it has waited as long as the plan
+-- says
+abbrev pub IsNoticeDue : SubscribePlan → ℕ → Timing → Type 0
+IsNoticeDue plan since s = (1000000000 ≤ s.moment - since) ⊎ HasWaited plan s
+
+-- that is given out, once
+abbrev pub GivesNotice : SubscribePlan → Notice → Timing → Option UntakenSetup → Timing → Type 0
+GivesNotice plan Nothing s found t = (found ≡ None) × (t ≡ s)
+GivesNotice plan (Noted u since) s found t =
+    (IsNoticeDue plan since s × (found ≡ Some u) × (t ≡ record s { notice = Told })) ⊎ ((¬ IsNoticeDue plan since s) × (found ≡ None) × (t ≡ s))
+GivesNotice plan Told s found t = (found ≡ None) × (t ≡ s)
+
+-- none is left that wasn't told
+abbrev pub IsAllTold : Notice → Type 0
+IsAllTold Nothing = ⊤
+IsAllTold (Noted u since) = ⊥
+IsAllTold Told = ⊤
 
 -- no call of its socket has worked for so long that it's given up
 abbrev pub IsBroken : Timing → Type 0

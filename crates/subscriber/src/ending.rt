@@ -7,7 +7,7 @@ pub enum Ending {
     Whole,
     /// It was to end with the stream, and was quiet before it heard of the end or had all up to it.
     Short,
-    /// An image of it was lost, so that something may be missing in what is written; it ended as it would have else.
+    /// A stream that it had heard was cut off, or broken off by its publisher; it ended as it would have else.
     Lost,
 }
 

@@ -1,8 +1,8 @@
 //! The images of a subscriber, one after the other.
 
 ghost use Rattle.std.specs.Prelude.{◌≡◌, ◌<◌, ◌↔◌, ◌++◌, [], ◌∷◌, IsTrue, Some, length};
-ghost use Rattle.subscriber.specs.Images.{IsUnnamed, first_image, loss_between, next_images};
-ghost use Rattle.subscriber.specs.Texts.{loss_text};
+ghost use Rattle.subscriber.specs.Images.{IsUnnamed, first_cut, first_image, loss_between, next, next_images};
+ghost use Rattle.subscriber.specs.Texts.{cut_text, loss_text};
 
 pub(crate) mod delivery;
 pub(crate) mod follower;
@@ -13,6 +13,26 @@ pub(crate) mod sessions;
 
 use std::fmt;
 use std::marker::Model;
+
+/// Where a stream was cut off: something of it that lies behind isn't written.
+#[derive(Clone, Copy, Debug, PartialEq, Eq)]
+pub struct CutOff {
+    pub session: i32,
+    /// Up to where it was written, in bytes of the stream.
+    pub position: u64,
+}
+
+impl fmt::Display for CutOff {
+    ghost output = { λ cut. Some (cut_text cut) };
+
+    fn fmt<W: fmt::Write>(&self, f: &mut fmt::Formatter<W>) -> fmt::Result {
+        write!(
+            f,
+            "session {} was cut off at position {}",
+            self.session, self.position
+        )
+    }
+}
 
 /// What is missing between an image that was lost and the next one, in bytes of the stream.
 #[derive(Clone, Copy, Debug, PartialEq, Eq)]
@@ -38,6 +58,18 @@ pub struct Images {
     pub number: u64,
     /// How many bytes of the stream lost images lacked, in all. At the greatest `u64` it stays.
     pub missing: u64,
+    /// The first stream at its place that was cut off, if one was. It is never forgotten.
+    pub cut: Option<CutOff>,
+}
+
+/// The first stream at a place that was cut off: the one that was before, or else this one, if it is.
+pub(crate) fn first_cut(before: Option<CutOff>, cut: bool, own: CutOff) -> Option<CutOff>
+    ensures { result ≡ first_cut before cut own }
+{
+    match before {
+        Some(before) => Some(before),
+        None => cut.then_some(own),
+    }
 }
 
 /// What is missing between these positions; nothing, where the second isn't above the first.
@@ -74,20 +106,29 @@ impl Images {
         Images {
             number: place as u64 * FIRST_NUMBERS,
             missing: 0,
+            cut: None,
         }
     }
 
-    /// The next one, before which this is missing.
-    pub fn next(&self, loss: Option<Loss>) -> Images
-        ensures { result ≡ next_images self.now loss }
+    /// The number of the next one.
+    pub(crate) fn next_number(&self) -> u64
+        ensures { result ≡ next self.now.number }
+    {
+        self.number.wrapping_add(1)
+    }
+
+    /// The next one, before which this is missing, where so a stream was cut off or none was.
+    pub fn next(&self, loss: Option<Loss>, cut: Option<CutOff>) -> Images
+        ensures { result ≡ next_images self.now loss cut }
     {
         let bytes = match loss {
             None => 0,
             Some(loss) => loss.to.saturating_sub(loss.from),
         };
         Images {
-            number: self.number.wrapping_add(1),
+            number: self.next_number(),
             missing: self.missing.saturating_add(bytes),
+            cut,
         }
     }
 }

@@ -5,7 +5,8 @@
 //! - `listening`: the socket, at the one place where it is read (`Reception`); what a datagram is before there is an image
 //!   (`Call`), which SETUP opens one (`SetupOffer`), and with which window.
 //! - `images`: a session that is followed (`Session`), its device, which takes what was routed to it and sends (`SessionDevice`),
-//!   the greatest end that was told (`Follower`), and the cycle that polls, writes and hears (`delivery`); all of them (`Sessions`).
+//!   the greatest end that was told and whether its stream was heard (`Follower`), and the cycle that polls, writes and hears
+//!   (`delivery`); which stream was cut off at its place (`CutOff`); all of them (`Sessions`).
 //! - `subscription`: what a subscriber does in each turn (`follow`), and what it makes of SETUPs (`offers`).
 //! - `repeating`: a second thread that sends the last status message of each place again, byte for byte and to the same peer, where
 //!   300 ms have gone by without a newer one, and nothing else ever (`repeats_the_last`). So a publisher goes on hearing a
@@ -16,7 +17,8 @@
 //!
 //! Where `subscribe` ends without a fault, a writer that tells what it holds has grown by whole messages, at most as many as
 //! were wanted: those that the polls of its images gave, of each session in order (`WritesPlaces`; with one place that is
-//! `WritesLives`: `one_place_writes`). How it ends, `HasEnded` says. Behind a fault a part of the last message may be written; all of
+//! `WritesLives`: `one_place_writes`). How it ends, `HasEnded` says: whole only where nothing is lost of any stream that was heard
+//! (`AreUnlost`). Behind a fault a part of the last message may be written; all of
 //! which a status message may have told is written whole (`BreaksPlaces`). Which datagrams came isn't said, since a device tells
 //! nothing of them; nor that anything comes, when an output fails, or that a flush carries bytes on. That the second thread gets its
 //! turns in time, `tools/channels` shows.

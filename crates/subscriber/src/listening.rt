@@ -1,6 +1,6 @@
 //! A subscriber without an image.
 
-ghost use Rattle.std.specs.Prelude.{◌≡◌, ◌<◌, IfErr, IfNone, IfOk, IfSome, OnOk, option_map};
+ghost use Rattle.std.specs.Prelude.{◌≡◌, ◌<◌, Option, IfErr, IfNone, IfOk, IfSome, OnOk, option_map};
 ghost use Rattle.std.specs.Io.KnownBytes.{Appends};
 ghost use Rattle.theory.specs.Control.{asking_at};
 ghost use Rattle.theory.specs.Wire.{IsHeader, SM};
@@ -9,15 +9,18 @@ ghost use Rattle.peer.specs.Patience.{patient};
 ghost use Rattle.peer.specs.Peers.{sending_to};
 ghost use Rattle.subscriber.specs.Hearings.{following};
 ghost use Rattle.frames.specs.Frames.{header_of, setup_of, status_of};
-ghost use Rattle.subscriber.specs.Calls.{Heeds, IsCall, IsFrameCall, IsJoined, IsJoinedBy};
+ghost use Rattle.subscriber.specs.Calls.{Heeds, IsCall, IsFrameCall, IsJoined, IsJoinedBy, IsSetupCall};
+ghost use Rattle.subscriber.specs.Faults.{IsListenFault};
 ghost use Rattle.subscriber.specs.Leavings.{IsOpenFault};
-ghost use Rattle.subscriber.specs.Meetings.{Opens, id_of};
-ghost use Rattle.subscriber.specs.Texts.{waiting_counts, waiting_line};
-ghost use Rattle.subscriber.specs.Watches.{HasWaited, TellsWhereDue};
+ghost use Rattle.subscriber.specs.Meetings.{Opens, OpensNothing, id_of};
+ghost use Rattle.subscriber.specs.Texts.{TellsUntaken, waiting_counts, waiting_line};
+ghost use Rattle.subscriber.specs.Watches.{GivesNotice, HasWaited, IsAllTold, TellsWhereDue};
+ghost use Rattle.subscriber.specs.declared.listening.untaken.UntakenSetup.{UntakenSetup};
 
 pub(crate) mod first_frame;
 pub(crate) mod reception;
 pub(crate) mod setup_offer;
+pub(crate) mod untaken;
 
 use crate::fault::SubscribeFault;
 use crate::images::follower::Follower;
@@ -28,11 +31,12 @@ use crate::images::{Images, Seat, Unheard};
 use crate::listening::first_frame::first_frame;
 use crate::listening::reception::Reception;
 use crate::listening::setup_offer::{SetupOffer, id_of, meeting_of, opened, takes_session};
+use crate::listening::untaken::{UntakenSetup, untaken_of};
 use crate::reporting::{Counted, Counts, Line, NOWHERE, tell as tell_line};
 use crate::watch::Watch;
 use agents::{Duty, IdleStrategy, REPLY};
 use endpoint::DeviceError;
-use frames::{FaultCounts, Header, Status};
+use frames::{FaultCounts, Header, Setup, Status};
 use loss_injector::Lossy;
 use options::SubscribePlan;
 use peer::PatientDevice;
@@ -49,6 +53,8 @@ use std::time::Clock;
 pub(crate) enum Call {
     /// A SETUP that opens an image.
     Opens(SetupOffer),
+    /// A SETUP that the plan doesn't take.
+    Untaken(UntakenSetup),
     /// A frame of a stream that the plan takes, by its header: a SETUP is asked for.
     Asks(Header),
     /// Anything else.
@@ -68,6 +74,17 @@ fn frame_call(plan: &SubscribePlan, header: Option<Header>) -> Call
     }
 }
 
+/// What a SETUP is that opens no image, and that this one sent.
+fn untaken_call(plan: &SubscribePlan, from: SocketAddr, setup: &Setup) -> Call
+    requires { OpensNothing plan.now (setup_of setup.now) }
+    ensures { IsSetupCall plan.now from setup.now result }
+{
+    match untaken_of(plan, from, setup) {
+        None => Call::Stranger,
+        Some(untaken) => Call::Untaken(untaken),
+    }
+}
+
 /// What a datagram is that this one sent.
 fn call_of(plan: &SubscribePlan, from: SocketAddr, datagram: &[u8]) -> Call
     ensures { IsCall plan.now from datagram.now result }
@@ -76,7 +93,7 @@ fn call_of(plan: &SubscribePlan, from: SocketAddr, datagram: &[u8]) -> Call
     match first.setup() {
         None => frame_call(plan, first.header()),
         Some(setup) => match meeting_of(plan, from, &setup) {
-            None => Call::Stranger,
+            None => untaken_call(plan, from, &setup),
             Some(meeting) => Call::Opens(meeting),
         },
     }
@@ -101,6 +118,10 @@ fn heed(plan: &SubscribePlan, reception: &mut Reception, watch: &mut Watch) -> O
         Call::Opens(meeting) => {
             watch.hear();
             Some(meeting)
+        }
+        Call::Untaken(untaken) => {
+            watch.note_untaken(untaken);
+            None
         }
         Call::Asks(header) => {
             watch.call();
@@ -158,9 +179,10 @@ pub(crate) fn join(
         images,
         follower: Follower {
             subscriber,
-            session: meeting.opening.session,
+            opening: meeting.opening,
             stream: plan.end.stream,
             end: None,
+            heard: false,
         },
         duty,
         watch: SessionWatch::new(now),
@@ -198,6 +220,18 @@ fn tell<E: Write>(plan: &SubscribePlan, errors: &mut E, watch: &mut Watch) -> io
     }
 }
 
+/// Tells once which SETUP came that the plan doesn't take, the first one, and why: a second behind it, or where what it waits for
+/// hasn't come for as long as the plan says.
+fn tell_untaken<E: Write>(plan: &SubscribePlan, errors: &mut E, watch: &mut Watch) -> io::Result<()>
+    ensures same { watch.new ≡ record watch.old { notice = watch.new.notice } }
+    ensures tells { (found : Option UntakenSetup) × GivesNotice plan.now watch.old.notice watch.old found watch.new × OnOk result (TellsUntaken found (E.contents errors.old) (E.contents errors.new)) }
+{
+    match watch.take_untaken(plan) {
+        None => Ok(()),
+        Some(untaken) => tell_line(errors, Line::NotTaken(untaken)),
+    }
+}
+
 /// Listens until a SETUP opens an image for the plan. There is none where no datagram came that the plan takes for as long as
 /// it says. The fault is that memory or a handle of the socket was refused, the clock can't be read, or every call of the socket
 /// failed for 5 seconds.
@@ -211,6 +245,9 @@ pub fn listen<R: Wait + Clock, E: Write>(
 ) -> Result<Option<Session>, SubscribeFault>
     ensures joined { IfOk result (λ found. IfSome found (IsJoined plan.now 0 1 watch.new.moment)) }
     ensures quiet { IfOk result (λ found. IfNone found (HasWaited plan.now watch.new)) }
+    // Where a SETUP came that the plan doesn't take, that was told.
+    ensures told { IfOk result (λ found. IfNone found (IsAllTold watch.new.notice)) }
+    ensures caused { IfErr result (λ fault. IsListenFault plan.now fault reception.new.socket) }
     // For each datagram that calls for a SETUP its sender was asked.
     ensures asks { reception.old.socket.asks ≡ watch.old.calls → OnOk result (reception.new.socket.asks ≡ watch.new.calls) }
 {
@@ -230,6 +267,7 @@ pub fn listen<R: Wait + Clock, E: Write>(
             )?));
         }
         let _ = tell(plan, errors, watch);
+        let _ = tell_untaken(plan, errors, watch);
         watch.check_works()?;
         if watch.is_quiet(plan) {
             return Ok(None);

@@ -6,7 +6,8 @@ ghost use Rattle.subscriber.specs.Texts.{IsClean, counted_text, followed_text, l
 
 pub(crate) mod sessions;
 
-use crate::images::Loss;
+use crate::images::{CutOff, Loss};
+use crate::listening::untaken::UntakenSetup;
 use frames::FaultCounts;
 use receiver::Positions;
 use std::io::Write;
@@ -197,14 +198,18 @@ pub(crate) enum Line {
     Another(SessionId, SocketAddr),
     /// A SETUP came of another session than the one that is followed, which stands last.
     Unheard(SessionId, SocketAddr, SessionId),
+    /// A SETUP came that the plan doesn't take, before any image.
+    NotTaken(UntakenSetup),
     /// All of the session's stream up to its told end is written.
     Ended(SessionId, u64),
+    /// The same, where its publisher has told that the stream is broken off there.
+    BrokenOff(SessionId, u64),
     /// A subscriber that was to end with the stream had no image for so many seconds.
     Nobody(u64),
     /// A subscriber that was to end with the stream heard nothing of it for so many seconds.
     GaveUp(u64, Unfinished),
-    /// A subscriber that has lost an image ends, and so many bytes lie between its images.
-    NotWhole(u64),
+    /// A subscriber ends of which a stream was cut off, and so many bytes are missing between the images at that one's place.
+    NotWhole(CutOff, u64),
     /// The counters of a subscriber with an image of this session.
     Counters(SessionId, Counted),
     /// The counters of a subscriber without an image.
@@ -231,16 +236,18 @@ impl fmt::Display for Line {
             ),
             Line::Another(id, from) => write!(f, "another sender at {from} for {id}, not heard"),
             Line::Unheard(id, at, own) => write!(f, "not heard: {id} at {at}; {own} is followed"),
+            Line::NotTaken(untaken) => write!(f, "not taken: {untaken}"),
             Line::Ended(id, at) => write!(f, "ended: {id} at position {at}"),
+            Line::BrokenOff(id, at) => write!(f, "broken off: {id} at position {at}"),
             Line::Nobody(seconds) => write!(f, "gave up: nobody published for {seconds} s"),
             Line::GaveUp(seconds, left) => write!(
                 f,
                 "gave up: nothing was heard from {} for {seconds} s; {left}",
                 left.from
             ),
-            Line::NotWhole(bytes) => write!(
+            Line::NotWhole(cut, bytes) => write!(
                 f,
-                "not whole: an image was lost, {bytes} bytes are known to be missing"
+                "not whole: {cut}, {bytes} bytes are known to be missing"
             ),
             Line::Counters(id, counted) => write!(f, "{id} {counted}"),
             Line::Waiting(counted) => write!(f, "session none {counted}"),

@@ -6,20 +6,22 @@ ghost use Rattle.std.specs.List.{AllByRecursion, AllZip};
 ghost use Rattle.endpoint.specs.declared.device_error.DeviceError.TheVariants.{Device};
 ghost use Rattle.peer.specs.StatusSockets.{unused};
 ghost use Rattle.peer.specs.declared.fault.BindError.{BindError};
+ghost use Rattle.subscriber.specs.Apart.{AreApart};
 ghost use Rattle.subscriber.specs.Answering.{IsTicked, StaysAnswered};
 ghost use Rattle.subscriber.specs.Attending.{AnswersTurn};
 ghost use Rattle.subscriber.specs.Breaking.{BreaksActs, BreaksPlaces};
 ghost use Rattle.subscriber.specs.Endings.{AreDone, AreQuiet, EndsWithSessions, HasEnded, HasEnoughOfAll, HasStood, IsDone, IsEndingOfAll, have_lost};
+ghost use Rattle.subscriber.specs.Faults.{IsCycleFault, IsFollowFault, IsOnesFault, IsRunFault, IsSubscribeFault, IsTurnFault};
 ghost use Rattle.subscriber.specs.Leavings.{IsOpenFault, IsQuietEnding, NotesHeard, enough_ending, of_bind};
 ghost use Rattle.subscriber.specs.Living.{FollowsAll, LivesOn, Writes, WritesPlaces};
 ghost use Rattle.subscriber.specs.Losing.{AsksEach, JudgesTurn};
 ghost use Rattle.subscriber.specs.Places.{most_places};
 ghost use Rattle.subscriber.specs.Sessions.{BreaksOffFrom, FollowsOn, HasLeft, HasLooked, AreSettled, IsBegun, IsSettledSo, IsSized, LeavesAll, news_told};
 ghost use Rattle.subscriber.specs.Standing.{HasAll, Stands};
-ghost use Rattle.subscriber.specs.Telling.{TellsCounters, TellsUnfinishedOf, missing_of};
-ghost use Rattle.subscriber.specs.Texts.{nobody_line, not_whole_line};
+ghost use Rattle.subscriber.specs.Telling.{TellsCounters};
+ghost use Rattle.subscriber.specs.Texts.{nobody_line};
 ghost use Rattle.subscriber.specs.Watches.{AttendsEach, IsWithinTurn, JudgesEach, TellsWhereDue, beginning};
-ghost use Rattle.subscriber.specs.declared.ending.Ending.TheVariants.{Lost, Short, Whole};
+ghost use Rattle.subscriber.specs.declared.ending.Ending.TheVariants.{Short};
 ghost use Rattle.subscriber.specs.declared.fault.SubscribeFault.TheVariants.{Failed};
 
 pub(crate) mod callers;
@@ -34,9 +36,7 @@ use crate::listening::listen;
 use crate::listening::reception::Reception;
 use crate::repeating::repeater::StatusRepeater;
 use crate::repeating::{Repeating, Slots};
-use crate::reporting::sessions::{
-    missing_of, tell_counters_of, tell_refused_of, tell_unfinished_of, totals_of,
-};
+use crate::reporting::sessions::{tell_counters_of, tell_ending_of, tell_refused_of, totals_of};
 use crate::reporting::{Line, SessionId, tell, tell_refused, tell_totals};
 use crate::watch::{SECOND, Watch};
 use agents::{IdleStrategy, REPLY};
@@ -194,6 +194,7 @@ impl Subscription<'_> {
         ensures size { session.new.duty.mtu ≡ REPLY }
         // No fault of the socket ends it.
         ensures patient { IfErr result (λ fault. fault ≢ Failed Device) }
+        ensures caused { IfErr result (λ fault. IsCycleFault self.now.plan.end.form fault session.new.follower.subscriber (W.contents output.new)) }
         ensures heard { OnOk result (NotesHeard session.old.duty.device.notes.frames session.new.duty.device.notes.frames session.old.watch session.new.watch) }
         ensures writes { IfOk result (λ r. (r.0 ≤ self.now.plan.messages) × Writes self.now.plan.end.form written (W.contents output.old) r.0 (W.contents output.new)) }
         ensures lives { IfOk result (λ r. LivesOn self.now.plan.end.form written session.old.follower (W.contents output.old) r.0 session.new.follower (W.contents output.new)) }
@@ -248,6 +249,7 @@ impl Subscription<'_> {
         ensures few { IfOk result (λ r. r.0 ≤ self.now.plan.messages) }
         ensures lives { IfOk result (λ r. LivesOn self.now.plan.end.form written session.old.follower (W.contents output.old) r.0 session.new.follower (W.contents output.new)) }
         ensures moment { watch.new.moment ≡ watch.old.moment }
+        ensures caused { IfErr result (λ fault. IsTurnFault self.now.plan.end.form fault session.new.follower.subscriber (W.contents output.new) watch.new) }
         // At a fault all that was told is written.
         ensures broken { OnErr result (BreaksActs self.now.plan.end.form session.old.follower.subscriber (W.contents output.old) session.new.follower.subscriber (W.contents output.new)) }
     {
@@ -280,6 +282,7 @@ impl Subscription<'_> {
         // Each session's messages are its own, and are written in the order in which they were given.
         ensures lives { IfOk result (λ r. FollowsOn self.now.plan written sessions.old (W.contents output.old) r.0 sessions.new (W.contents output.new)) }
         ensures moment { watch.new.moment ≡ watch.old.moment }
+        ensures caused { IfErr result (λ fault. IsOnesFault self.now.plan.end.form fault sessions.new (W.contents output.new) watch.new) }
         // At a fault all that was told is written.
         ensures broken { OnErr result (BreaksOffFrom self.now.plan written sessions.old (W.contents output.old) (W.contents output.new)) }
     {
@@ -402,13 +405,15 @@ impl Subscription<'_> {
     ) -> Result<(), SubscribeFault>
         requires few { length sessions.old.list.items ≤ most_places self.now.plan }
         requires some { 0 < length sessions.old.list.items }
+        requires apart { AreApart sessions.old.list.items }
         ensures refused { IfErr result IsOpenFault }
+        ensures apart { OnOk result (AreApart sessions.new.list.items) }
         ensures answers { OnOk result (AnswersTurn self.now.plan now sessions.old.list.items sessions.old.reception sessions.new.list.items sessions.new.reception) }
         ensures few { OnOk result (length sessions.new.list.items ≤ most_places self.now.plan) }
     {
         self.ask_each(sessions);
         self.attend(sessions, now, errors)?;
-        self.ask_caller(sessions);
+        self.ask_caller(sessions, errors);
         self.tell_news(rt, sessions.list.as_mut_slice());
         Ok(())
     }
@@ -425,11 +430,14 @@ impl Subscription<'_> {
         requires begins { AllByRecursion IsBegun sessions.old.list.items }
         requires some { 0 < length sessions.old.list.items }
         requires places { length sessions.old.list.items ≤ most_places self.now.plan }
+        requires apart { AreApart sessions.old.list.items }
         requires begun { FollowsAll self.now.plan (W.contents output.old) 0 sessions.old.list.items (W.contents output.old) }
         ensures size { IfOk result (λ _. AllByRecursion IsSized sessions.new.list.items) }
         ensures few { IfOk result (λ r. r.0 ≤ self.now.plan.messages) }
         ensures some { IfOk result (λ _. 0 < length sessions.new.list.items) }
         ensures places { IfOk result (λ _. length sessions.new.list.items ≤ most_places self.now.plan) }
+        // No two places have the same session.
+        ensures apart { IfOk result (λ _. AreApart sessions.new.list.items) }
         ensures ended { IfOk result (λ r. IsEndingOfAll self.now.plan r.0 sessions.new.list.items (Some r.1)) }
         ensures stood { IfOk result (λ _. AllByRecursion HasStood sessions.new.list.items) }
         // In each turn, but in the last one, what came of SETUPs was attended.
@@ -438,6 +446,7 @@ impl Subscription<'_> {
         ensures judged { IfOk result (λ _. AllByRecursion (λ j. JudgesEach j.watch) sessions.new.list.items) }
         // What their images gave, each in its turn.
         ensures lives { IfOk result (λ r. FollowsAll self.now.plan (W.contents output.old) r.0 sessions.new.list.items (W.contents output.new)) }
+        ensures caused { IfErr result (λ fault. IsFollowFault self.now.plan.end.form fault sessions.new.list.items (W.contents output.new)) }
         ensures broken { OnErr result (BreaksPlaces self.now.plan (W.contents output.old) (W.contents output.new)) }
     {
         let mut written: u64 = 0;
@@ -477,24 +486,6 @@ impl Subscription<'_> {
         bid_farewell(rt, sessions, watch)
     }
 
-    /// Tells why one with an image ends short, or what it lost, where it does.
-    fn tell_short<E: Write>(
-        &self,
-        sessions: &[Session],
-        ending: Ending,
-        errors: &mut E,
-    ) -> io::Result<()>
-        ensures short { ending ≡ Short → OnOk result (TellsUnfinishedOf (self.now.plan.quiet / 1000000000) sessions.now (E.contents errors.old) (E.contents errors.new)) }
-        ensures lost { ending ≡ Lost → OnOk result (Appends (E.contents errors.old) (E.contents errors.new) (not_whole_line (missing_of sessions.now))) }
-        ensures whole { ending ≡ Whole → OnOk result (E.contents errors.new ≡ E.contents errors.old) }
-    {
-        match ending {
-            Ending::Whole => Ok(()),
-            Ending::Short => tell_unfinished_of(sessions, errors, self.plan.quiet / SECOND),
-            Ending::Lost => tell(errors, Line::NotWhole(missing_of(sessions))),
-        }
-    }
-
     /// Tells why one without an image ends short, where it does. It is how it ends.
     fn tell_nobody_there<E: Write>(&self, errors: &mut E) -> io::Result<()>
         ensures short { IsTrue self.now.plan.once → OnOk result (Appends (E.contents errors.old) (E.contents errors.new) (nobody_line (self.now.plan.quiet / 1000000000))) }
@@ -518,11 +509,13 @@ impl Subscription<'_> {
         requires begins { AllByRecursion IsBegun sessions.old.list.items }
         requires some { 0 < length sessions.old.list.items }
         requires places { length sessions.old.list.items ≤ most_places self.now.plan }
+        requires apart { AreApart sessions.old.list.items }
         requires begun { FollowsAll self.now.plan (W.contents output.old) 0 sessions.old.list.items (W.contents output.old) }
         ensures few { IfOk result (λ s. s.messages ≤ self.now.plan.messages) }
         ensures short { IfOk result (λ s. s.ending ≡ Short → IsTrue self.now.plan.once) }
         ensures lives { IfOk result (λ s. WritesPlaces self.now.plan (W.contents output.old) s.messages (W.contents output.new)) }
         ensures ended { IfOk result (λ s. EndsWithSessions self.now.plan (W.contents output.old) s (W.contents output.new)) }
+        ensures caused { IfErr result (λ fault. IsFollowFault self.now.plan.end.form fault sessions.new.list.items (W.contents output.new)) }
         ensures broken { OnErr result (BreaksPlaces self.now.plan (W.contents output.old) (W.contents output.new)) }
     {
         let opened = watch.moment();
@@ -532,8 +525,8 @@ impl Subscription<'_> {
         let _ = tell_refused_of(list, errors, watch.strangers());
         let (messages, ending) = followed?;
         let _ = self.tell_last(list, errors, watch, messages);
-        let _ = self.tell_short(list, ending, errors);
         let _ = tell_totals(errors, totals_of(list, watch, messages, opened));
+        let _ = tell_ending_of(list, ending, errors, self.plan.quiet / SECOND);
         let _ = self.leave(rt, list, watch);
         Ok(Subscribed { messages, ending })
     }
@@ -552,6 +545,7 @@ impl Subscription<'_> {
         ensures few { IfOk result (λ s. s.messages ≤ self.now.plan.messages) }
         ensures short { IfOk result (λ s. s.ending ≡ Short → IsTrue self.now.plan.once) }
         ensures ended { IfOk result (λ s. HasEnded self.now.plan (W.contents output.old) s (W.contents output.new)) }
+        ensures caused { IfErr result IsRunFault }
     {
         match listen(rt, self.alloc, &self.plan, &mut reception, errors, watch)? {
             None => {
@@ -578,7 +572,8 @@ impl Subscription<'_> {
 /// It ends whole behind as many messages as are wanted. One that is to end with the stream ends whole where the publisher told
 /// the stream's end and all before that is written and flushed, and short where it was quiet before: no DATA frame, padding or
 /// heartbeat of its session came from its peer for as long as the plan says, or before it had an image no datagram that the
-/// plan takes. One that isn't ends whole where it was quiet. Where an image was lost, it ends as one that has lost something.
+/// plan takes. One that isn't ends whole where it was quiet. Where a stream was cut off, or broken off by its publisher, it ends as
+/// one that has lost something (`Ending::Lost`).
 ///
 /// `errors` gets what `Line` has. Behind a fault the output may end within a message, of which no status message has told.
 #[tactic(auto, using(crate::proofs::Placed::before_image, crate::proofs::Placed::none_breaks))]
@@ -600,8 +595,11 @@ pub fn subscribe<R: Threads + Wait + Clock + Net + Copy + Send + 'static, W: Wri
     ensures few { IfOk result (λ s. s.messages ≤ plan.now.messages) }
     // Only one that was to end with the stream ends short.
     ensures short { IfOk result (λ s. s.ending ≡ Short → IsTrue plan.now.once) }
-    // It was quiet before any image, and wrote nothing, or it ended where its images stood then; whole, only where none was lost.
+    // It was quiet before any image, and wrote nothing, or it ended where its images stood then; whole, only where no stream was
+    // cut off.
     ensures ended { IfOk result (λ s. HasEnded plan.now (W.contents output.old) s (W.contents output.new)) }
+    // That the address is another's, or isn't there, or that there is no thread, is found out at the begin, with nothing written.
+    ensures caused { IfErr result (λ fault. IsSubscribeFault binding.now.address fault (W.contents output.old) (W.contents output.new)) }
 {
     let Ok(began) = Instant::now(rt) else {
         return Err(SubscribeFault::Failed(DeviceError::Device));

@@ -2,8 +2,9 @@
 
 ghost use Rattle.std.specs.Prelude.{◌≡◌, ◌≤◌, ◌-◌, ◌↔◌, is_some, IfErr, IfSome, IsSome, IsTrue, OnOk};
 ghost use Rattle.endpoint.specs.declared.device_error.DeviceError.TheVariants.{Device};
-ghost use Rattle.subscriber.specs.Watches.{HasWaited, IsBroken, IsDue, awaking, begun, called, later_by, losing, seeing, told_if, with_stranger, working};
+ghost use Rattle.subscriber.specs.Watches.{GivesNotice, HasWaited, IsBroken, IsDue, IsNoticeDue, awaking, begun, called, later_by, losing, seeing, told_if, with_stranger, with_untaken, working};
 
+use crate::listening::untaken::{Notice, UntakenSetup};
 use agents::nanoseconds;
 use endpoint::DeviceError;
 use options::SubscribePlan;
@@ -30,6 +31,7 @@ pub struct Watch {
     strangers: u64,
     calls: u64,
     lost: u64,
+    notice: Notice,
 }
 
 impl Model for Watch {
@@ -37,7 +39,7 @@ impl Model for Watch {
 
     ghost Value = { Timing };
 
-    ghost view = { λ w. record { moment = w.moment; heard = w.heard; worked = w.worked; told = w.told; written = w.written; strangers = w.strangers; calls = w.calls; lost = w.lost } };
+    ghost view = { λ w. record { moment = w.moment; heard = w.heard; worked = w.worked; told = w.told; written = w.written; strangers = w.strangers; calls = w.calls; lost = w.lost; notice = w.notice } };
 }
 
 /// What an earlier moment counts as now, where the clock was looked at last at `moment`.
@@ -65,6 +67,7 @@ impl Watch {
             strangers: 0,
             calls: 0,
             lost: 0,
+            notice: Notice::Nothing,
         }
     }
 
@@ -139,6 +142,38 @@ impl Watch {
         ensures { self.new ≡ with_stranger self.old }
     {
         self.strangers = self.strangers.saturating_add(1);
+    }
+
+    /// A SETUP that the plan doesn't take came at the moment, before an image. It is a stranger's; the first one is noted.
+    pub(crate) fn note_untaken(&mut self, untaken: UntakenSetup)
+        ensures { self.new ≡ with_untaken untaken self.old }
+    {
+        self.count_stranger();
+        if let Notice::Nothing = self.notice {
+            self.notice = Notice::Noted(untaken, self.moment);
+        }
+    }
+
+    /// Whether a SETUP that the plan doesn't take, which came at this moment, is to be told: a second behind it, or where what it
+    /// waits for hasn't come for as long as the plan says.
+    fn is_notice_due(&self, plan: &SubscribePlan, since: u64) -> bool
+        ensures { IsTrue result ↔ IsNoticeDue plan.now since self.now }
+    {
+        self.moment.saturating_sub(since) >= SECOND || self.is_quiet(plan)
+    }
+
+    /// The first SETUP that the plan doesn't take, where it is to be told and wasn't yet. It counts as told then.
+    pub(crate) fn take_untaken(&mut self, plan: &SubscribePlan) -> Option<UntakenSetup>
+        ensures { GivesNotice plan.now self.old.notice self.old result self.new }
+    {
+        let Notice::Noted(untaken, since) = self.notice else {
+            return None;
+        };
+        if !self.is_notice_due(plan, since) {
+            return None;
+        }
+        self.notice = Notice::Told;
+        Some(untaken)
     }
 
     /// Whether what it waits for hasn't come for as long as the plan says.

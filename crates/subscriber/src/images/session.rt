@@ -2,14 +2,16 @@
 
 ghost use Rattle.std.specs.Prelude.{◌≡◌, ◌≢◌, ◌≤◌, ◌-◌, ◌↔◌, ℕ, IfErr, IfOk, IsTrue, OnErr, OnOk};
 ghost use Rattle.std.specs.Io.KnownBytes.{Appends};
-ghost use Rattle.endpoint.specs.declared.device_error.DeviceError.TheVariants.{Device};
+ghost use Rattle.endpoint.specs.declared.device_error.DeviceError.TheVariants.{Device, Memory};
+ghost use Rattle.subscriber.specs.declared.fault.SubscribeFault.TheVariants.{Failed};
 ghost use Rattle.receiver.specs.Receiving.{Receiver};
 ghost use Rattle.receiver.specs.Subscribing.{RepresentsSubscriber};
 ghost use Rattle.subscriber.specs.Answering.{AnswersEnd, NotesSilence, TellsPlace};
-ghost use Rattle.subscriber.specs.Images.{has_lost};
+ghost use Rattle.subscriber.specs.Cuts.{cut_behind, cut_of, has_lost, is_uncut};
 ghost use Rattle.subscriber.specs.Leavings.{ListensOn, LivesUnpolled, NotesHeard, NotesWork};
+ghost use Rattle.subscriber.specs.Offers.{peer_of};
 ghost use Rattle.subscriber.specs.Losing.{LacksWhereLost, NotesKept, NotesLoss};
-ghost use Rattle.subscriber.specs.Standing.{HasAll, IsRebuiltTo, Stands, StandsAt, StandsHere, lacks, lies_above};
+ghost use Rattle.subscriber.specs.Standing.{HasAll, IsRebuiltTo, Stands, StandsAt, StandsHere, has_all_up_to, is_broken_end, is_broken_off, is_whole, lacks, lies_above};
 ghost use Rattle.subscriber.specs.Telling.{AreCounts, IsUnfinished, TellsLine, TellsNow};
 ghost use Rattle.subscriber.specs.Texts.{another_line, ended_line, lost_line, silence_line, unheard_line};
 ghost use Rattle.subscriber.specs.Choosing.{IsOver, is_unheard};
@@ -21,12 +23,13 @@ use crate::fault::SubscribeFault;
 use crate::images::follower::Follower;
 use crate::images::session_device::SubscriberDevice;
 use crate::images::session_watch::SessionWatch;
-use crate::images::{Images, Unheard};
+use crate::images::{CutOff, Images, Loss, Unheard, first_cut};
 use crate::listening::setup_offer::{ImageParams, SetupOffer};
 use crate::reporting::{Counted, Counts, Line, SessionId, Unfinished, tell};
 use crate::watch::{SECOND, Watch};
 use agents::{Duty, REPLY};
 use endpoint::DeviceError;
+use peer::StreamEnd;
 use receiver::STATUS_INTERVAL;
 use std::io;
 use std::io::Write;
@@ -40,18 +43,43 @@ pub struct Stand {
     /// How far its image is rebuilt without a gap.
     pub rebuilt: u64,
     /// The greatest end that was told.
-    pub end: Option<u64>,
+    pub end: Option<StreamEnd>,
 }
 
 impl Stand {
     /// Whether it has all of the stream: an end was told that isn't below what is rebuilt, and its consumer has come so far.
     pub(crate) fn has_all(&self) -> bool
-        ensures { IsTrue result ↔ HasAll self.now }
+        ensures all { IsTrue result ↔ HasAll self.now }
+        ensures value { result ≡ has_all_up_to self.now.end self.now.rebuilt self.now.place }
     {
         match self.end {
             None => false,
-            Some(end) => self.rebuilt <= end && end <= self.place,
+            Some(end) => self.rebuilt <= end.position && end.position <= self.place,
         }
+    }
+
+    /// Whether the stream is broken off at the end that was told.
+    fn is_broken(&self) -> bool
+        ensures { result ≡ is_broken_end self.now.end }
+    {
+        match self.end {
+            None => false,
+            Some(end) => end.broken,
+        }
+    }
+
+    /// Whether it has all of a stream that is broken off at its end.
+    pub(crate) fn is_broken_off(&self) -> bool
+        ensures { result ≡ is_broken_off self.now }
+    {
+        self.has_all() && self.is_broken()
+    }
+
+    /// Whether it has all of a stream that isn't broken off.
+    pub(crate) fn is_whole(&self) -> bool
+        ensures { result ≡ is_whole self.now }
+    {
+        self.has_all() && !self.is_broken()
     }
 }
 
@@ -84,7 +112,7 @@ pub struct Session {
 }
 
 /// Whether a position lies above what is rebuilt.
-fn lies_above(position: i64, rebuilt: u64) -> bool
+pub(crate) fn lies_above(position: i64, rebuilt: u64) -> bool
     ensures { result ≡ lies_above position rebuilt }
 {
     match u64::try_from(position) {
@@ -131,11 +159,47 @@ impl Session {
         }
     }
 
-    /// Whether an image of its run was lost.
+    /// Whether a stream at its place is cut off.
     pub fn has_lost(&self) -> bool
-        ensures { result ≡ has_lost self.now.lost self.now.images }
+        ensures { result ≡ has_lost self.now }
     {
-        self.lost || self.images.missing > 0
+        self.cut_off().is_some()
+    }
+
+    /// The first stream at its place that is cut off, where its image stands: one of before, or its own, where that was told as
+    /// lost, or is there up to an end at which it is broken off.
+    pub fn cut_off(&self) -> Option<CutOff>
+        ensures { result ≡ cut_of self.now }
+    {
+        let own = CutOff {
+            session: self.opening.session,
+            position: self.stood.place,
+        };
+        first_cut(
+            self.images.cut,
+            self.lost || self.stood.is_broken_off(),
+            own,
+        )
+    }
+
+    /// Whether its image, which stands so, may be closed with nothing of its stream cut off: it wasn't told as lost, nothing is missing
+    /// behind it, and its stream was never heard, or is whole.
+    fn is_uncut(&self, stand: &Stand, loss: Option<Loss>) -> bool
+        ensures { result ≡ is_uncut self.now stand.now loss }
+    {
+        !self.lost && loss.is_none() && (!self.follower.heard || stand.is_whole())
+    }
+
+    /// The first stream at its place that is cut off once its image is closed, behind which this is missing.
+    pub(crate) fn cut_behind(&self, loss: Option<Loss>) -> Option<CutOff>
+        ensures { (x : Stand) × Stands self.now.follower.subscriber self.now.follower.end x × (result ≡ cut_behind self.now x loss) }
+    {
+        let stand = self.stand();
+        let own = CutOff {
+            session: self.opening.session,
+            position: stand.place,
+        };
+        first_cut(self.images.cut, !self.is_uncut(&stand, loss), own)
     }
 
     /// Whether its stream has ended, and no frame of it has come for a second.
@@ -155,7 +219,7 @@ impl Session {
 
     /// Its peer.
     pub(crate) fn peer(&self) -> SocketAddr
-        ensures { result ≡ self.now.duty.device.inner.inner.inner.peer }
+        ensures { result ≡ peer_of self.now.duty.device }
     {
         self.duty.device().peer()
     }
@@ -273,6 +337,7 @@ impl Session {
         ensures unpolled { LivesUnpolled self.old.follower.subscriber self.new.follower.subscriber }
         ensures listens { OnOk result (ListensOn self.old.follower self.new.follower) }
         ensures told { OnOk result (TellsPlace moment self.old.follower.subscriber self.new.follower.subscriber) }
+        ensures refused { IfErr result (λ fault. fault ≡ Failed Memory) }
     {
         let ahead = moment.saturating_add(STATUS_INTERVAL);
         Ok(self.duty.cycle(&mut self.follower, ahead)?)
@@ -282,7 +347,7 @@ impl Session {
     fn note_all<E: Write>(&mut self, stand: &Stand, errors: &mut E) -> io::Result<()>
         ensures noted { IsTrue self.new.ended ↔ HasAll stand.now }
         ensures same { self.new ≡ record self.old { ended = self.new.ended } }
-        ensures told { IsTrue self.new.ended → (¬ IsTrue self.old.ended) → OnOk result (Appends (E.contents errors.old) (E.contents errors.new) (ended_line self.old.opening.session stand.now.place)) }
+        ensures told { IsTrue self.new.ended → (¬ IsTrue self.old.ended) → OnOk result (Appends (E.contents errors.old) (E.contents errors.new) (ended_line (is_broken_end stand.now.end) self.old.opening.session stand.now.place)) }
         ensures quiet { (IsTrue self.new.ended → IsTrue self.old.ended) → OnOk result (E.contents errors.new ≡ E.contents errors.old) }
     {
         let before = self.ended;
@@ -290,8 +355,7 @@ impl Session {
         if before || !self.ended {
             return Ok(());
         }
-        let id = SessionId(self.opening.session);
-        tell(errors, Line::Ended(id, stand.place))
+        tell_end(errors, stand.is_broken(), self.opening.session, stand.place)
     }
 
     /// Where all of the stream is newly written up to its told end, that is told, and to the publisher, too, at once.
@@ -303,6 +367,7 @@ impl Session {
         ensures unpolled { LivesUnpolled self.old.follower.subscriber self.new.follower.subscriber }
         ensures listens { OnOk result (ListensOn self.old.follower self.new.follower) }
         ensures answers { IfOk result (AnswersEnd self.old.watch.moment self.old self.new) }
+        ensures refused { IfErr result (λ fault. fault ≡ Failed Memory) }
         ensures heard { OnOk result (NotesHeard self.old.duty.device.notes.frames self.new.duty.device.notes.frames self.old.watch self.new.watch) }
         ensures turn { IsWithinTurn self.old.watch self.new.watch }
     {
@@ -383,7 +448,7 @@ impl Session {
             from: self.peer(),
             session: self.opening.session,
             position: self.place(),
-            end: self.follower.end,
+            end: self.follower.end.map(|end| end.position),
         }
     }
 
@@ -421,6 +486,18 @@ impl Session {
         ensures { CameAt now self.now result }
     {
         if self.is_unheard() { self.came } else { now }
+    }
+}
+
+/// Tells that all of a session's stream is written up to its end, at which it may be broken off.
+fn tell_end<E: Write>(errors: &mut E, broken: bool, session: i32, place: u64) -> io::Result<()>
+    ensures { OnOk result (Appends (E.contents errors.old) (E.contents errors.new) (ended_line broken session place)) }
+{
+    let id = SessionId(session);
+    if broken {
+        tell(errors, Line::BrokenOff(id, place))
+    } else {
+        tell(errors, Line::Ended(id, place))
     }
 }
 

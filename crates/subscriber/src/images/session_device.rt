@@ -5,7 +5,7 @@ ghost use Rattle.endpoint.specs.Calls.{Receives, Sends};
 ghost use Rattle.endpoint.specs.Devices.{HasGrown, NeverFall, counted};
 ghost use Rattle.subscriber.specs.FirstFrames.{NamesNoOther, TellsFirst, named_first};
 ghost use Rattle.subscriber.specs.Hearings.{Takes, after_sending, device_of, following, noted_after, notes_after, turned_to, with_routed};
-ghost use Rattle.subscriber.specs.Offers.{news_of, news_taken, tied_anew};
+ghost use Rattle.subscriber.specs.Offers.{news_of, news_taken, peer_of, tied_anew};
 ghost use Rattle.subscriber.specs.Routing.{IsOf};
 
 use crate::listening::first_frame::{FirstFrame, HeardFrame};
@@ -268,7 +268,7 @@ pub type SubscriberDevice = SessionDevice<Lossy<PatientDevice<PeerDevice>>>;
 impl SubscriberDevice {
     /// Its peer.
     pub(crate) fn peer(&self) -> SocketAddr
-        ensures { result ≡ self.now.inner.inner.inner.peer }
+        ensures { result ≡ peer_of self.now }
     {
         self.inner.inner().inner().peer()
     }
@@ -303,7 +303,7 @@ impl SubscriberDevice {
 
     /// Takes what is new of its status messages since this was called last.
     pub fn take_news(&mut self) -> Option<StatusNews>
-        ensures taken { result ≡ news_of self.old.inner.inner.inner.peer self.old.noted }
+        ensures taken { result ≡ news_of (peer_of self.old) self.old.noted }
         ensures left { self.new ≡ news_taken self.old }
     {
         let news = match self.noted {

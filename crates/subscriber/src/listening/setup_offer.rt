@@ -141,14 +141,14 @@ pub fn takes_session(plan: &SubscribePlan, session: i32) -> bool
 }
 
 /// A number of bytes, 0 for a negative one.
-fn bytes_of(number: i32) -> u32
+pub(crate) fn bytes_of(number: i32) -> u32
     ensures { result ≡ bytes_of number }
 {
     u32::try_from(number).unwrap_or(0)
 }
 
 /// Whether a SETUP is of a stream that goes on: it tells no end.
-fn is_ongoing(setup: &Setup) -> bool
+pub(crate) fn is_ongoing(setup: &Setup) -> bool
     ensures { IsTrue result ↔ IsOngoing (setup_of setup.now) }
 {
     match end_told(&Frame::Setup(*setup), setup.session, setup.stream) {
@@ -220,7 +220,7 @@ pub fn alone_gets_all()
 {}
 
 /// The window of an image that a SETUP opens as one of so many.
-fn window_in(share: u64, setup: &Setup) -> u32
+pub(crate) fn window_in(share: u64, setup: &Setup) -> u32
     ensures { result ≡ window_in share (setup_of setup.now) }
 {
     window_of(share, bytes_of(setup.term_length), bytes_of(setup.mtu))

@@ -1,8 +1,10 @@
 //! What is told of each session.
 
 ghost use Rattle.std.specs.Prelude.{◌≡◌, ◌<◌, OnOk, length};
-ghost use Rattle.subscriber.specs.Telling.{AreBytesOf, AreTotals, TellsCountersOf, TellsRefusedOf, TellsUnfinishedOf, missing_of, naks_of};
+ghost use Rattle.subscriber.specs.Telling.{AreBytesOf, AreTotals, TellsCountersOf, TellsCutOf, TellsRefusedOf, TellsShortOf, TellsUnfinishedOf, naks_of};
+ghost use Rattle.subscriber.specs.declared.ending.Ending.TheVariants.{Lost, Short, Whole};
 
+use crate::ending::Ending;
 use crate::images::session::Session;
 use crate::reporting::{Followed, Line, Totals, tell, tell_refused};
 use crate::watch::Watch;
@@ -28,7 +30,7 @@ pub(crate) fn tell_counters_of<E: Write>(
 }
 
 /// Tells of each that lacks something of its stream where it stands, behind so many seconds without anything of any.
-pub(crate) fn tell_unfinished_of<E: Write>(
+fn tell_unfinished_of<E: Write>(
     sessions: &[Session],
     errors: &mut E,
     seconds: u64,
@@ -59,13 +61,43 @@ pub(crate) fn tell_refused_of<E: Write>(
     tell_refused_of(others, errors, 0)
 }
 
-/// How many bytes lie between the images of all, as far as that is known. At the greatest `u64` it stays.
-pub(crate) fn missing_of(sessions: &[Session]) -> u64
-    ensures { result ≡ missing_of sessions.now }
+/// Tells which stream is cut off at each place, where one is.
+fn tell_cut_of<E: Write>(sessions: &[Session], errors: &mut E) -> io::Result<()>
+    ensures { OnOk result (TellsCutOf sessions.now (E.contents errors.old) (E.contents errors.new)) }
 {
-    match sessions {
-        [] => 0,
-        [first, others @ ..] => missing_of(others).saturating_add(first.images.missing),
+    let [first, others @ ..] = sessions else {
+        return Ok(());
+    };
+    if let Some(cut) = first.cut_off() {
+        tell(errors, Line::NotWhole(cut, first.images.missing))?;
+    }
+    tell_cut_of(others, errors)
+}
+
+/// Tells where each stands that lacks something of its stream, behind so many seconds without anything of any, and then which
+/// stream is cut off at each place.
+fn tell_short_of<E: Write>(sessions: &[Session], errors: &mut E, seconds: u64) -> io::Result<()>
+    ensures { OnOk result (TellsShortOf seconds sessions.now (E.contents errors.old) (E.contents errors.new)) }
+{
+    tell_unfinished_of(sessions, errors, seconds)?;
+    tell_cut_of(sessions, errors)
+}
+
+/// Tells why a subscriber with images isn't whole, behind so many seconds without anything of any.
+pub(crate) fn tell_ending_of<E: Write>(
+    sessions: &[Session],
+    ending: Ending,
+    errors: &mut E,
+    seconds: u64,
+) -> io::Result<()>
+    ensures short { ending ≡ Short → OnOk result (TellsShortOf seconds sessions.now (E.contents errors.old) (E.contents errors.new)) }
+    ensures lost { ending ≡ Lost → OnOk result (TellsCutOf sessions.now (E.contents errors.old) (E.contents errors.new)) }
+    ensures whole { ending ≡ Whole → OnOk result (E.contents errors.new ≡ E.contents errors.old) }
+{
+    match ending {
+        Ending::Whole => Ok(()),
+        Ending::Short => tell_short_of(sessions, errors, seconds),
+        Ending::Lost => tell_cut_of(sessions, errors),
     }
 }
 

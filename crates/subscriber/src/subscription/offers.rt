@@ -1,16 +1,17 @@
 //! What a subscriber makes of SETUPs.
 
-ghost use Rattle.std.specs.Prelude.{◌≡◌, ◌<◌, ◌≤◌, ◌↔◌, IfErr, IfNone, IfSome, IsTrue, OnErr, OnOk, length};
+ghost use Rattle.std.specs.Prelude.{◌≡◌, ◌<◌, ◌≤◌, ◌↔◌, IfErr, IfNone, IfSome, IsTrue, OnErr, OnOk, Some, length};
 ghost use Rattle.std.specs.List.{AllZip};
 ghost use Rattle.std.specs.Io.KnownBytes.{Appends};
 ghost use Rattle.endpoint.specs.declared.device_error.DeviceError.TheVariants.{Memory};
+ghost use Rattle.subscriber.specs.Apart.{AreApart};
 ghost use Rattle.subscriber.specs.Choosing.{AttendsAll, IsChosen, IsEnded, IsFirst, IsItsOwn, IsNone, IsOldest, IsOver, IsPlaced, IsSilentNow, Joins, unheard_count};
 ghost use Rattle.subscriber.specs.Leavings.{IsOpenFault};
 ghost use Rattle.subscriber.specs.Losing.{AsksAnew, AsksEach};
 ghost use Rattle.subscriber.specs.Places.{most_places};
 ghost use Rattle.subscriber.specs.Receivings.{offer_given};
 ghost use Rattle.subscriber.specs.Sessions.{share_of};
-ghost use Rattle.subscriber.specs.Turning.{AttendsOwn, Considers, IsRenewed, Replaces, TellsLoss, Turns};
+ghost use Rattle.subscriber.specs.Turning.{AttendsOwn, Considers, ConsidersOwn, IsRenewed, Replaces, TellsLoss, Turns};
 ghost use Rattle.subscriber.specs.declared.fault.SubscribeFault.TheVariants.{Failed};
 
 use crate::fault::SubscribeFault;
@@ -43,10 +44,10 @@ fn tell_loss<E: Write>(errors: &mut E, session: i32, loss: Option<Loss>) -> io::
     }
 }
 
-/// Which place a SETUP goes to.
+/// Which place a session gets.
 #[derive(Clone, Copy, Debug, PartialEq, Eq)]
 pub enum Chosen {
-    /// That of its session.
+    /// Its own.
     Own(usize),
     /// That of another session, whose image is closed for it.
     Given(usize),
@@ -55,12 +56,14 @@ pub enum Chosen {
     Nowhere,
 }
 
-/// The place of a SETUP's own session.
-fn own_place(sessions: &[Session], meeting: &SetupOffer) -> Option<usize>
-    ensures found { IfSome result (IsFirst (IsItsOwn meeting.now) sessions.now) }
-    ensures none { IfNone result (IsNone (IsItsOwn meeting.now) sessions.now) }
+/// The place of a session that is followed.
+fn own_place(sessions: &[Session], session: i32) -> Option<usize>
+    ensures found { IfSome result (IsFirst (IsItsOwn session) sessions.now) }
+    ensures none { IfNone result (IsNone (IsItsOwn session) sessions.now) }
 {
-    sessions.iter().position(|session| session.opening.session == meeting.opening.session)
+    sessions
+        .iter()
+        .position(|followed| followed.follower.opening.session == session)
 }
 
 /// The first place of a session whose stream ended more than a second ago.
@@ -137,8 +140,8 @@ impl Subscription<'_> {
         let Some(frame) = session.duty.device().notes().last else {
             return;
         };
-        let next = session.images.next(None);
-        let status = asking(&frame.header(), id_of(&self.plan, next.number));
+        let next = session.images.next_number();
+        let status = asking(&frame.header(), id_of(&self.plan, next));
         reception.ask(session.peer(), status);
     }
 
@@ -167,16 +170,17 @@ impl Subscription<'_> {
         ensures kept { OnErr result (session.new.follower.subscriber ≡ session.old.follower.subscriber) }
         ensures size { session.new.duty.mtu ≡ session.old.duty.mtu }
     {
-        let images = session.images.next(loss);
+        let images = session.images.next(loss, session.cut_behind(loss));
         let now = session.watch.moment();
         let setup = &meeting.setup;
         let subscriber = opened(self.alloc, &self.plan, images.number, share, setup, now)?;
         session.came = session.next_came(now);
         session.follower = Follower {
             subscriber,
-            session: meeting.opening.session,
+            opening: meeting.opening,
             stream: self.plan.end.stream,
             end: None,
+            heard: false,
         };
         session.images = images;
         session.opening = meeting.opening;
@@ -261,6 +265,25 @@ impl Subscription<'_> {
         }
     }
 
+    /// What is made of a SETUP of its peer's: nothing, where it names another session.
+    fn consider_own<E: Write>(
+        &self,
+        session: &mut Session,
+        share: u64,
+        setup: Setup,
+        errors: &mut E,
+    ) -> Result<(), SubscribeFault>
+        ensures refused { IfErr result (λ fault. fault ≡ Failed Memory) }
+        ensures considers { OnOk result (ConsidersOwn self.now.plan share (Some setup) session.old session.new) }
+        ensures kept { OnErr result (session.new.follower.subscriber ≡ session.old.follower.subscriber) }
+        ensures size { session.new.duty.mtu ≡ session.old.duty.mtu }
+    {
+        if setup.session != session.follower.opening.session {
+            return Ok(());
+        }
+        self.consider(session, share, (session.peer(), setup), errors)
+    }
+
     /// What is made of its peer's own SETUP, the last that came since the turn before, if one did.
     fn attend_own<E: Write>(
         &self,
@@ -274,8 +297,7 @@ impl Subscription<'_> {
         ensures size { session.new.duty.mtu ≡ session.old.duty.mtu }
     {
         if let Some(setup) = session.duty.device_mut().take_setup() {
-            let offer = (session.peer(), setup);
-            self.consider(session, share, offer, errors)?;
+            self.consider_own(session, share, setup, errors)?;
         }
         session.watch.attend();
         Ok(())
@@ -299,13 +321,13 @@ impl Subscription<'_> {
         Ok(())
     }
 
-    /// Which place a SETUP goes to that would open an image. A session has its own. Else, where eight are held by sessions that
-    /// weren't heard yet, it goes to the oldest of those; or else to one whose stream ended more than a second ago, to a further
-    /// one while there is one, to one whose stream has ended, or to one that is silent; else nowhere.
-    fn choose(&self, sessions: &[Session], meeting: &SetupOffer) -> Chosen
-        ensures { IsChosen self.now.plan meeting.now sessions.now result }
+    /// Which place a session gets. One that is followed has its own. Else, where eight are held by sessions that weren't heard
+    /// yet, it gets the oldest of those; or else one whose stream ended more than a second ago, a further one while there is one,
+    /// one whose stream has ended, or one that is silent; else none.
+    pub(crate) fn choose(&self, sessions: &[Session], session: i32) -> Chosen
+        ensures { IsChosen self.now.plan session sessions.now result }
     {
-        if let Some(place) = own_place(sessions, meeting) {
+        if let Some(place) = own_place(sessions, session) {
             return Chosen::Own(place);
         }
         if unheard_count(sessions) >= MOST_UNHEARD {
@@ -370,12 +392,15 @@ impl Subscription<'_> {
     ) -> Result<(), SubscribeFault>
         requires few { length sessions.old.list.items ≤ most_places self.now.plan }
         requires some { 0 < length sessions.old.list.items }
+        requires apart { AreApart sessions.old.list.items }
         ensures refused { IfErr result IsOpenFault }
+        // No two places have the same session.
+        ensures apart { OnOk result (AreApart sessions.new.list.items) }
         ensures placed { OnOk result (IsPlaced self.now.plan meeting.now now sessions.old.list.items sessions.new.list.items) }
         ensures few { OnOk result (length sessions.new.list.items ≤ most_places self.now.plan) }
         ensures same { sessions.new.reception ≡ sessions.old.reception }
     {
-        match self.choose(sessions.list.as_slice(), meeting) {
+        match self.choose(sessions.list.as_slice(), meeting.opening.session) {
             Chosen::Further => self.open_further(sessions, meeting, now, errors),
             Chosen::Own(place) => {
                 let share = share_at(sessions.list.as_slice(), place);
@@ -401,7 +426,10 @@ impl Subscription<'_> {
     ) -> Result<(), SubscribeFault>
         requires few { length sessions.old.list.items ≤ most_places self.now.plan }
         requires some { 0 < length sessions.old.list.items }
+        requires apart { AreApart sessions.old.list.items }
         ensures refused { IfErr result IsOpenFault }
+        // No two places have the same session.
+        ensures apart { OnOk result (AreApart sessions.new.list.items) }
         ensures attends { OnOk result (AttendsAll self.now.plan now sessions.old.reception.offer sessions.old.list.items sessions.new.list.items) }
         ensures left { OnOk result (sessions.new.reception ≡ offer_given sessions.old.reception) }
         ensures few { OnOk result (length sessions.new.list.items ≤ most_places self.now.plan) }

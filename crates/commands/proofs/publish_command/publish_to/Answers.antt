@@ -1,5 +1,5 @@
 use Rattle.std.proofs.Common.{◌<◌, List, length, subst, sym}
-use Rattle.publisher.specs.Ended.{PublishesAll}
+use Rattle.commands.specs.Done.{PublishesAlong}
 use Rattle.channel.specs.declared.channel.Transport.{Transport}
 use Rattle.commands.proofs.Routes.{some_ways}
 use Rattle.commands.proofs.publish_command.publish_to.Goals as goal
@@ -12,5 +12,5 @@ pub returns-in-Ok-clause-whole : goal.returns-in-Ok-clause-whole
 returns-in-Ok-clause-whole g c = λ is. record {
   ways = c.in-Ok.ways.items;
   lead = c.in-Ok.ensures.made;
-  published = subst (λ (xs : List Transport). PublishesAll c.args.plan.now (length xs) (g.R.Read.remaining c.args.input)) c.deref.ensures.value (c.publish_planned.ensures.whole is);
+  published = subst (λ (xs : List Transport). PublishesAlong c.args.plan.now xs (g.R.Read.remaining c.args.input)) c.deref.ensures.value (c.publish_planned.ensures.whole is);
 }

@@ -12,5 +12,5 @@ loop-route-preserved g c =
     let number : length c.as_slice-number.result.now ≡ i = ap length c.as_slice-number.ensures.value ∙ c.loop-route.invariant.many in
     record {
       many = (let a = length-append destinations (destination ∷ []) in let m = c.loop-route.invariant.many in let l = ap length pushed in omega (arith, a, m, l));
-      each = more_along plan routes destinations c.push.new.self.items i destination c.loop-route.invariant.many c.loop-route.invariant.each (one_along plan routes i (length c.as_slice-number.result.now) c.place_of-place.result none c.in_ok-device.device destination c.loop-route-test.true number c.place_of-place.ensures c.destination_over-destination.ensures) pushed;
+      each = more_along plan routes destinations c.push.new.self.items i destination c.loop-route.invariant.many c.loop-route.invariant.each (one_along plan routes i (length c.as_slice-number.result.now) c.place_of-place.result none c.in_ok-device.device destination c.loop-route-test.true number c.place_of-place.ensures c.in_ok-device.ensures.waits c.destination_over-destination.ensures) pushed;
     }

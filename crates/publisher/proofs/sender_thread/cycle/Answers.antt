@@ -30,9 +30,9 @@ returns-clause-cycles g c =
       between = between;
       lived = subst (λ ws. LivesAlong ws between) begins c.in_ok-cycle.ensures.lives;
       seen =
-          ap (λ d. d.device.ways) (written_over c.device_mut-2.result.now c.keep-kept.new.passes.duty.device (seen_along c.args.context.now.plan.now.linger c.args.now) c.see_all.new.destinations c.keep-kept.new.passes.duty.mtu c.device_mut-2.ensures.value
-          (c.see_all.ensures ∙ ap (map (seen_along c.args.context.now.plan.now.linger c.args.now)) (c.each_mut-destinations.ensures.value ∙ ap (λ f. f.ways) c.device_mut-2.ensures.value)))
-          ∙ ap (λ p. map (seen_along c.args.context.now.plan.now.linger c.args.now) p.duty.device.ways) c.keep-kept.ensures.others;
+          ap (λ d. d.device.ways) (written_over c.device_mut-2.result.now c.keep-kept.new.passes.duty.device (seen_along c.args.end c.args.context.now.plan.now.linger c.args.now) c.see_all.new.destinations c.keep-kept.new.passes.duty.mtu c.device_mut-2.ensures.value
+          (c.see_all.ensures ∙ ap (map (seen_along c.args.end c.args.context.now.plan.now.linger c.args.now)) (c.each_mut-destinations.ensures.value ∙ ap (λ f. f.ways) c.device_mut-2.ensures.value)))
+          ∙ ap (λ p. map (seen_along c.args.end c.args.context.now.plan.now.linger c.args.now) p.duty.device.ways) c.keep-kept.ensures.others;
     }
 
 pub returns-clause-passes : goal.returns-clause-passes

@@ -13,6 +13,6 @@ loop-destination-preserved g c =
     let ly : i < length ys = omega (arith, same, c.loop-destination-test.true) in
     let w = c.destination-item.result in
     record {
-      done = written (seen_along c.args.linger c.args.now) xs ys i c.see-news.new.self w lx ly c.loop-destination.invariant.done c.loop-destination.invariant.rest c.see-news.ensures.seen;
+      done = written (seen_along c.args.end c.args.linger c.args.now) xs ys i c.see-news.new.self w lx ly c.loop-destination.invariant.done c.loop-destination.invariant.rest c.see-news.ensures.seen;
       rest = written_rest xs ys i c.see-news.new.self w lx ly c.loop-destination.invariant.rest;
     }

@@ -11,5 +11,5 @@ invariant-loop g l = record {
   lives : StreamLived (length l.fn.sender.passes.duty.device.ways) l.fn.sender.agent.core l.sender.agent.core;
   peer : l.sender.peer ≡ l.fn.sender.peer;
   passes : ArePasses l.context.state.now.log l.context.conductor.now l.sender.passes;
-  turns : (count : ℕ) × TurnsMany l.context.plan.now count l.fn.sender l.begun l.sender;
+  turns : (count : ℕ) × TurnsMany l.context.plan.now count l.fn.sender (record { begun = l.begun; reading = l.reading; ended = l.progress.ended }) l.sender;
 }

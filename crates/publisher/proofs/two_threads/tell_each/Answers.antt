@@ -14,7 +14,7 @@ loop-destination-preserved g c =
     let ly : i < length ys = omega (arith, same, c.loop-destination-test.true) in
     let w = c.destination-item.result in
     record {
-      told = shown noted (λ w. told_times 1 c.args.tail (noted w)) xs ys i c.tell.new.destination w lx ly c.loop-destination.invariant.told c.loop-destination.invariant.rest c.tell.ensures;
+      told = shown noted (λ w. told_times 1 c.args.end (noted w)) xs ys i c.tell.new.destination w lx ly c.loop-destination.invariant.told c.loop-destination.invariant.rest c.tell.ensures;
       rest = written_rest xs ys i c.tell.new.destination w lx ly c.loop-destination.invariant.rest;
     }
 
@@ -22,4 +22,4 @@ pub returns : goal.returns
 returns g c =
     let i = c.loop-destination.destination-index in let same = c.loop-destination.auto.destinations in let end = c.loop-destination-test.false in
     let all : length c.loop-destination.destinations ≤ i = omega (arith, same, end) in
-    ap (map noted) (sym (take_all i c.loop-destination.destinations all)) ∙ c.loop-destination.invariant.told ∙ ap (map (λ w. told_times 1 c.args.tail (noted w))) (take_all i c.args.destinations.now end)
+    ap (map noted) (sym (take_all i c.loop-destination.destinations all)) ∙ c.loop-destination.invariant.told ∙ ap (map (λ w. told_times 1 c.args.end (noted w))) (take_all i c.args.destinations.now end)

@@ -20,5 +20,5 @@ returns-clause-done g c =
     let p = subscribers_cycle _ _ _ _ _ _ _ c.in_ok-busy.ensures.cycle in
     record {
       writes = record { middle = c.write_polled.new.subscriber; delivers = c.in_ok-messages.ensures.delivers; cycle = p.0 };
-      notes = record { notes = p.1.notes; session = p.1.session; stream = p.1.stream };
+      notes = record { notes = p.1.notes; hears = p.1.hears; opening = p.1.opening; stream = p.1.stream };
     }

@@ -1,4 +1,4 @@
-use Rattle.std.proofs.Common.{◌≡◌, min}
+use Rattle.std.proofs.Common.{◌≡◌}
 use Rattle.subscriber.proofs.Writing.{Written}
 use Rattle.subscriber.proofs.images.delivery.write_polled.Given as goal
 

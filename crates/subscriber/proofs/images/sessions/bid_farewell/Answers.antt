@@ -1,4 +1,4 @@
-use Rattle.std.proofs.Common.{◌≤◌, ◌+◌, ℕ, arith, refl, subst}
+use Rattle.std.proofs.Common.{◌≤◌, ◌+◌, ℕ, arith, subst}
 use Rattle.std.specs.List.{AllZip}
 use Rattle.subscriber.proofs.Farewells.{ToldAt, all_bid, all_left_on, all_left_still}
 use Rattle.subscriber.proofs.images.sessions.bid_farewell.Goals as goal

@@ -2,6 +2,7 @@ use Rattle.std.proofs.Common.{◌+◌, ℕ, refl, subst, sym}
 use Rattle.receiver.specs.Lives.{ActsSo, Ticks}
 use Rattle.std.proofs.lemmas.Result.{err_from_is_err_and}
 use Rattle.subscriber.proofs.Breaking.{cycle_broken}
+use Rattle.subscriber.proofs.Faults.{cycle_fault}
 use Rattle.subscriber.proofs.Lived.{cycle_lives_on}
 use Rattle.subscriber.proofs.Patience.{patient}
 use Rattle.subscriber.specs.Living.{LivesOn}
@@ -30,3 +31,8 @@ returns-clause-ticked g c =
       subst (λ (j : Session). ActsSo w.cycle.middle (Ticks c.args.session.now.watch.moment) j.follower.subscriber) (sym c.note_heard.ensures.same)
           (subst (λ (n : ℕ). ActsSo w.cycle.middle (Ticks n) c.cycle.new.follower.subscriber) c.moment.ensures w.cycle.ticked.becomes),
     )
+
+pub returns-in_err-done-clause-caused : goal.returns-in_err-done-clause-caused
+returns-in_err-done-clause-caused g c =
+    let p = err_from_is_err_and c.from_residual.result c.from_residual.ensures.1 in
+    rw (p.1, p.2) (cycle_fault _ _ _ _ _ _ _ _ _ _ _ _ refl refl c.in_err-done.ensures.fault)

@@ -1,20 +1,23 @@
-use Rattle.std.proofs.Common.{◌≡◌, ◌∙◌, ◌<◌, ◌≤◌, ℕ, List, ◌++◌, take, drop, map, length, ap, arith, subst, sym}
+use Rattle.std.proofs.Common.{arith, ◌≡◌, ◌∙◌, ◌<◌, ◌≤◌, ℕ, List, length, ap, subst, sym}
 use Rattle.std.proofs.lemmas.List.{length-map}
 use Rattle.std.proofs.lemmas.Result.{err_from_is_err_and}
 use Rattle.std.specs.List.{AllByRecursion, AllZip}
+use Rattle.subscriber.proofs.Apart.{looked_apart}
+use Rattle.subscriber.proofs.Called.{IsNoted, all_noted_kept, all_noted_sized, called_noted, noted_followed}
 use Rattle.subscriber.proofs.Chosen.{attended_everything}
 use Rattle.subscriber.proofs.Each.{zip_length}
+use Rattle.subscriber.proofs.Faults.{turn_whole}
 use Rattle.subscriber.proofs.Kept.{IsLookedAt, all_looked_kept, attended_kept, attended_sized, looked_ahead, looked_judged, looked_stood, told_kept, told_sized}
 use Rattle.subscriber.proofs.Placed.{follows_breaks, told_all}
 use Rattle.subscriber.proofs.Rounds.{attended_some, read_followed, read_length, read_sized}
 use Rattle.subscriber.proofs.Seated.{written_whole}
+use Rattle.subscriber.specs.Apart.{AreApart}
 use Rattle.subscriber.specs.Endings.{HasStood}
 use Rattle.subscriber.specs.Living.{FollowsAll}
 use Rattle.subscriber.specs.Places.{most_places}
 use Rattle.subscriber.specs.Sessions.{HasLooked, IsRouted, IsSized, news_told}
 use Rattle.subscriber.specs.Watches.{AttendsEach, JudgesEach}
 use Rattle.subscriber.specs.declared.images.session.Session.{Session}
-use Rattle.subscriber.proofs.Kept.{IsKept}
 use Rattle.subscriber.proofs.subscription.Subscription.follow.Goals as goal
 
 pub returns-in_err-see-clause-broken : goal.returns-in_err-see-clause-broken
@@ -106,6 +109,22 @@ answer_turn-requires-clause-few g c =
     let same = read_length _ c.loop.sessions.list.items _ _ c.begin_turn.ensures.each c.read.ensures.kept in
     subst (λ (zs : List Session). length zs ≤ most_places plan) (sym whole) (subst (λ (n : ℕ). n ≤ most_places plan) (sym (zipped ∙ ap length value ∙ same)) c.loop.invariant.places)
 
+pub answer_turn-requires-clause-apart : goal.answer_turn-requires-clause-apart
+answer_turn-requires-clause-apart g c =
+    let value = c.as_mut_slice-list.ensures.value in
+    let read : AllZip IsRouted c.begin_turn.new.self.list.items c.as_mut_slice-list.result.now = subst (AllZip IsRouted c.begin_turn.new.self.list.items) (sym value) c.read.ensures.kept in
+    let zipped = zip_length HasLooked c.as_mut_slice-list.result.now c.look_at_each.new.sessions c.in_ok-all.ensures.looked in
+    let whole = written_whole c.read.new.self.list.items c.look_at_each.new.sessions c.read.new.self.list.len c.read.new.self.list.ok.0 (zipped ∙ ap length value) in
+    subst AreApart (sym whole) (looked_apart _ c.loop.sessions.list.items _ _ c.look_at_each.new.sessions c.begin_turn.ensures.each read c.in_ok-all.ensures.looked c.loop.invariant.apart)
+
+pub returns-in-Some-ending_of-clause-apart : goal.returns-in-Some-ending_of-clause-apart
+returns-in-Some-ending_of-clause-apart g c =
+    let value = c.as_mut_slice-list.ensures.value in
+    let read : AllZip IsRouted c.begin_turn.new.self.list.items c.as_mut_slice-list.result.now = subst (AllZip IsRouted c.begin_turn.new.self.list.items) (sym value) c.read.ensures.kept in
+    let zipped = zip_length HasLooked c.as_mut_slice-list.result.now c.look_at_each.new.sessions c.in_ok-all.ensures.looked in
+    let whole = written_whole c.read.new.self.list.items c.look_at_each.new.sessions c.read.new.self.list.len c.read.new.self.list.ok.0 (zipped ∙ ap length value) in
+    subst AreApart (sym whole) (looked_apart _ c.loop.sessions.list.items _ _ c.look_at_each.new.sessions c.begin_turn.ensures.each read c.in_ok-all.ensures.looked c.loop.invariant.apart)
+
 pub answer_turn-requires-clause-some : goal.answer_turn-requires-clause-some
 answer_turn-requires-clause-some g c =
     let value = c.as_mut_slice-list.ensures.value in
@@ -145,12 +164,24 @@ loop-preserved g c =
     let held = attended_everything plan (g.W.Write.contents c.args.output.now) (g.W.Write.contents c.look_at_each.new.output) c.in_ok-all.all _ _ _ turn.placed turn.attends lived in
     let some = attended_some plan _ _ _ turn.placed turn.attends
     (subst (λ (zs : List Session). 0 < length zs) (sym whole) (subst (λ (n : ℕ). 0 < n) (sym (zipped ∙ same)) c.loop.invariant.some)) in
-    let size = ap length turn.told ∙ length-map turn.placed news_told in
+    let noted = called_noted plan _ turn.placed _ turn.called _ turn.calls in
+    let size = ap length turn.told ∙ length-map turn.called news_told ∙ zip_length IsNoted turn.placed turn.called noted in
     record {
-      size = told_sized _ _ sized turn.told;
+      size = told_sized _ _ (all_noted_sized turn.placed turn.called noted sized) turn.told;
       some = subst (λ (n : ℕ). 0 < n) (sym size) some;
+      apart = c.in_ok-answer_turn.ensures.apart;
       places = c.in_ok-answer_turn.ensures.few;
       few = c.in_ok-all.ensures.few;
-      kept = told_kept _ _ kept turn.told;
-      lives = told_all plan _ _ _ _ _ turn.told held;
+      kept = told_kept _ _ (all_noted_kept turn.placed turn.called noted kept) turn.told;
+      lives = told_all plan _ _ _ _ _ turn.told (noted_followed plan _ _ _ turn.placed turn.called noted held);
     }
+
+pub returns-in_err-all-clause-caused : goal.returns-in_err-all-clause-caused
+returns-in_err-all-clause-caused g c =
+    let value = c.as_mut_slice-list.ensures.value in
+    let kept = c.look_at_each.auto.sessions in
+    let here = ap length value in
+    let long : length c.look_at_each.new.sessions ≡ length c.read.new.self.list.items = omega (arith, kept, here) in
+    let whole = written_whole c.read.new.self.list.items c.look_at_each.new.sessions c.read.new.self.list.len c.read.new.self.list.ok.0 long in
+    let p = err_from_is_err_and c.from_residual-in_err-all.result c.from_residual-in_err-all.ensures.1 in
+    rw (p.1, p.2) (turn_whole c.args.self.now.plan.end.form _ c.look_at_each.new.sessions _ (g.W.Write.contents c.look_at_each.new.output) c.look_at_each.new.watch whole c.in_err-all.ensures.caused)

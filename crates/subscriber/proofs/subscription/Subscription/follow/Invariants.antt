@@ -1,5 +1,6 @@
 use Rattle.std.proofs.Common.{◌<◌, ◌≤◌, length}
 use Rattle.std.specs.List.{AllByRecursion}
+use Rattle.subscriber.specs.Apart.{AreApart}
 use Rattle.subscriber.specs.Living.{FollowsAll}
 use Rattle.subscriber.specs.Places.{most_places}
 use Rattle.subscriber.specs.Sessions.{IsSized}
@@ -10,6 +11,7 @@ abbrev pub invariant-loop : goal.invariant-loop
 invariant-loop g l = record {
   size : AllByRecursion IsSized l.sessions.list.items;
   some : 0 < length l.sessions.list.items;
+  apart : AreApart l.sessions.list.items;
   places : length l.sessions.list.items ≤ most_places l.self.plan;
   few : l.written ≤ l.self.plan.messages;
   kept : AllByRecursion IsKept l.sessions.list.items;

@@ -1,4 +1,4 @@
-use Rattle.std.proofs.Common.{◌≡◌, IsTrue, refl}
+use Rattle.std.proofs.Common.{refl}
 use Rattle.subscriber.proofs.Farewells.{all_left_still}
 use Rattle.subscriber.proofs.subscription.Subscription.leave.Goals as goal
 

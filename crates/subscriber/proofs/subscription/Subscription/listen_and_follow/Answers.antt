@@ -1,13 +1,14 @@
-use Rattle.std.proofs.Common.{◌≡◌, ◌∙◌, ◌<◌, ◌≤◌, List, [], ◌∷◌, length, ap, arith, inr, subst, sym}
+use Rattle.std.proofs.Common.{◌∙◌, List, length, ap, arith, inr, subst, sym}
 use Rattle.std.specs.Prelude.{IfSome}
 use Rattle.std.specs.List.{AllByRecursion}
-use Rattle.std.proofs.lemmas.Result.{IfOk-weaker}
+use Rattle.std.proofs.lemmas.Result.{IfOk-weaker, err_from_is_err_and}
+use Rattle.subscriber.specs.Apart.{AreApart}
 use Rattle.subscriber.specs.Calls.{IsJoined}
 use Rattle.subscriber.specs.Living.{FollowsAll}
-use Rattle.subscriber.specs.Places.{most_places}
 use Rattle.subscriber.specs.Sessions.{IsBegun}
 use Rattle.subscriber.specs.Watches.{Seen, beginning}
 use Rattle.subscriber.specs.declared.images.session.Session.{Session}
+use Rattle.subscriber.proofs.Faults.{listened_run}
 use Rattle.subscriber.proofs.Placed.{before_image, joined_all, none_written}
 use Rattle.subscriber.proofs.subscription.Subscription.listen_and_follow.Goals as goal
 
@@ -22,6 +23,9 @@ follow_all-requires-clause-some g c = let size = ap length c.in_ok-sessions-in-S
 
 pub follow_all-requires-clause-places : goal.follow_all-requires-clause-places
 follow_all-requires-clause-places g c = let size = ap length c.in_ok-sessions-in-Some.ensures.0 in omega (arith, size)
+
+pub follow_all-requires-clause-apart : goal.follow_all-requires-clause-apart
+follow_all-requires-clause-apart g c = subst AreApart (sym c.in_ok-sessions-in-Some.ensures.0) (tt, tt)
 
 pub follow_all-requires-clause-begun : goal.follow_all-requires-clause-begun
 follow_all-requires-clause-begun g c =
@@ -40,3 +44,8 @@ returns-in-None-clause-lives g c = none_written c.args.self.now.plan (g.W.Write.
 
 pub returns-in_err-sessions-in-Some-clause-broken : goal.returns-in_err-sessions-in-Some-clause-broken
 returns-in_err-sessions-in-Some-clause-broken g c = before_image _ _ c.from_residual-in_err-sessions-in-Some.result
+
+pub returns-in_err-listen-clause-caused : goal.returns-in_err-listen-clause-caused
+returns-in_err-listen-clause-caused g c =
+    let p = err_from_is_err_and c.from_residual.result c.from_residual.ensures.1 in
+    rw (p.1, p.2) (listened_run c.args.self.now.plan _ c.listen.new.reception.socket c.in_err-listen.ensures.caused)

@@ -1,5 +1,6 @@
 use Rattle.std.proofs.Common.{◌∙◌, ℕ, IsTrue, ap, subst, sym}
 use Rattle.std.proofs.lemmas.Result.{err_from_is_err_and}
+use Rattle.subscriber.specs.declared.listening.setup_offer.ImageParams.{ImageParams}
 use Rattle.subscriber.specs.declared.images.session.Session.{Session}
 use Rattle.receiver.specs.Lives.{Lives}
 use Rattle.subscriber.specs.Answering.{IsTicked}
@@ -9,6 +10,7 @@ use Rattle.subscriber.specs.Losing.{JudgesTurn}
 use Rattle.subscriber.specs.Standing.{Stands}
 use Rattle.subscriber.specs.Watches.{IsWithinTurn}
 use Rattle.subscriber.proofs.Answered.{ends_answered, same_answered, ticked_at, within_on}
+use Rattle.subscriber.proofs.Faults.{memory_turn}
 use Rattle.subscriber.proofs.Looked.{acts_broken, heard_noted, listened_on, noted_same, same_else, unpolled_broken}
 use Rattle.subscriber.proofs.subscription.Subscription.look.Goals as goal
 
@@ -47,6 +49,8 @@ returns-clause-looked g c =
       kept_else = ap (λ (j : Session). record j { stood = c.in_ok-stand.stand }) c.tell_loss.ensures.same;
     } in
     record {
+      session = ap (λ (j : Session). j.follower.opening.session) lost ∙ ap (λ (j : Session). j.follower.opening.session) told ∙ ap (λ (o : ImageParams). o.session) c.in_ok-stand.ensures.listens.notes.opening
+          ∙ ap (λ (j : Session). j.follower.opening.session) noted ∙ ap (λ (o : ImageParams). o.session) c.in_ok-all.ensures.lives.notes.opening;
       before = c.args.watch.now;
       behind = c.check_works.new.watch;
       judges = judged;
@@ -77,3 +81,8 @@ returns-in_err-stand-clause-broken g c =
     let p = err_from_is_err_and c.from_residual-in_err-stand.result c.from_residual-in_err-stand.ensures.1 in
     rw p.1 (unpolled_broken _ _ _ _ _ _ _ _ c.in_ok-all.ensures.lives.acts
     (subst (λ (j : Session). LivesUnpolled j.follower.subscriber c.answer_end.new.self.follower.subscriber) c.note_kept.ensures.same c.answer_end.ensures.unpolled))
+
+pub returns-in_err-stand-clause-caused : goal.returns-in_err-stand-clause-caused
+returns-in_err-stand-clause-caused g c =
+    let p = err_from_is_err_and c.from_residual-in_err-stand.result c.from_residual-in_err-stand.ensures.1 in
+    rw (p.1, p.2) (memory_turn _ _ _ _ _ c.in_err-stand.ensures.refused)

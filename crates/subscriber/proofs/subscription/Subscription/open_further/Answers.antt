@@ -1,4 +1,4 @@
-use Rattle.std.proofs.Common.{◌∙◌, ◌<◌, ◌≤◌, length, List, ap, arith}
+use Rattle.std.proofs.Common.{◌∙◌, List, ap, arith}
 use Rattle.subscriber.specs.Sessions.{open_count}
 use Rattle.subscriber.specs.declared.images.session.Session.{Session}
 use Rattle.subscriber.proofs.Chosen.{open_few}

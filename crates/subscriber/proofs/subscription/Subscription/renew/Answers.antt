@@ -1,10 +1,13 @@
-use Rattle.std.proofs.Common.{ℕ, rules, subst}
+use Rattle.std.proofs.Common.{ℕ, ◌∙◌, ap, rules, subst}
+use Rattle.subscriber.specs.Images.{next_images}
 use Rattle.subscriber.specs.Turning.{CameAt}
 use Rattle.subscriber.proofs.subscription.Subscription.renew.Goals as goal
 
 pub returns-clause-renewed : goal.returns-clause-renewed
 returns-clause-renewed c = record {
-  images = search rules;
+  stand = c.cut_behind.ensures.0;
+  stands = c.cut_behind.ensures.1;
+  images = c.next-images.ensures ∙ ap (λ cut. next_images c.args.session.now.images c.args.loss cut) c.cut_behind.ensures.2;
   met = search rules;
   fresh = search rules;
   opening = search rules;

@@ -1,5 +1,5 @@
-use Rattle.std.proofs.Common.{arith, sym}
-use Rattle.subscriber.proofs.Choices.{OldestSoFar, oldest_at, oldest_passed, oldest_taken}
+use Rattle.std.proofs.Common.{arith}
+use Rattle.subscriber.proofs.Choices.{oldest_at, oldest_passed, oldest_taken}
 use Rattle.subscriber.proofs.subscription.offers.oldest_unheard.Goals as goal
 use Rattle.subscriber.proofs.subscription.offers.oldest_unheard.Goals.{then-is_unheard+then-is_by, else-is_unheard, else-is_unheard-via-then-is_unheard+else-is_by, else-is_unheard-via-else-is_unheard}
 

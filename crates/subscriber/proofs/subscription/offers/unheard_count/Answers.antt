@@ -1,6 +1,6 @@
-use Rattle.std.proofs.Common.{◌∙◌, rules}
+use Rattle.std.proofs.Common.{rules}
 use Rattle.std.proofs.lemmas.Iterator.{YieldsList-from_slice}
-use Rattle.std.proofs.lemmas.Iterator.Consumers.{YieldsList-at, YieldsList-from_filter, count_from_yields_List}
+use Rattle.std.proofs.lemmas.Iterator.Consumers.{YieldsList-from_filter, count_from_yields_List}
 use borrow.Author.Tests.{tests}
 use Rattle.subscriber.specs.Choosing.{is_unheard}
 use Rattle.subscriber.proofs.subscription.offers.unheard_count.Goals as goal

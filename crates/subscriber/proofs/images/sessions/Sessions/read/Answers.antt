@@ -1,4 +1,4 @@
-use Rattle.std.proofs.Common.{◌≡◌, ◌∙◌, ◌++◌, ℕ, List, drop, length, refl, subst, sym, take}
+use Rattle.std.proofs.Common.{◌∙◌, ℕ, List, refl, subst, sym}
 use Rattle.std.specs.List.{AllZip}
 use Rattle.subscriber.specs.Routing.{ReadsMany, ReadsOne}
 use Rattle.subscriber.specs.Sessions.{IsRouted}
