@@ -1,6 +1,6 @@
 -- What the tests keep of a sender.
 use Rattle.std.specs.Prelude.{◌≡◌, pos}
-use Rattle.log_passes.specs.Handles.{LogValue}
+use Rattle.shared_log.specs.Steps.Handles.{LogValue}
 use Rattle.sender.specs.Sending.{Sending, SendsFrom}
 use Rattle.shared_log.specs.Readers.{IsReaderOf}
 use Rattle.shared_log.specs.Sourced.{source_of}

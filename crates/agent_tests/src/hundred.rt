@@ -1,7 +1,7 @@
 //! A sender and a receiver between which one call fails: each of the first hundred in turn.
 
 ghost use Rattle.std.specs.Prelude.{◌≡◌, IfOk};
-ghost use Rattle.log_passes.specs.Handles.{IsOf};
+ghost use Rattle.shared_log.specs.Steps.Handles.{IsOf};
 ghost use Rattle.shared_log.specs.Parts.{IsNewReader};
 ghost use Rattle.agent_tests.specs.Senders.{IsFirstLog, IsSender};
 

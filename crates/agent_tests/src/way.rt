@@ -4,7 +4,7 @@ ghost use Rattle.std.specs.Prelude.{◌≡◌, ◌≤◌, ◌<◌, None, IfOk, l
 ghost use Rattle.theory.specs.Position.{max_message};
 ghost use Rattle.receiver.specs.Receiving.{Receiver};
 ghost use Rattle.receiver.specs.Subscribing.{RepresentsSubscriber};
-ghost use Rattle.log_passes.specs.Handles.{IsOf};
+ghost use Rattle.shared_log.specs.Steps.Handles.{IsOf};
 ghost use Rattle.shared_log.specs.Parts.{IsNewReader};
 ghost use Rattle.agent_tests.specs.Senders.{IsFirstLog, IsSender};
 

@@ -3,7 +3,7 @@ use Rattle.std.proofs.Common.{◌≡◌, ℕ, suc, List, [], ◌∷◌, subst, s
 use Rattle.std.specs.Prelude.{slice_index_or}
 use Rattle.std.specs.List.{AllByRecursion}
 use Rattle.publication.specs.declared.pass.Pass.{Pass}
-use Rattle.log_passes.specs.Handles.{LogValue, PublisherValue}
+use Rattle.shared_log.specs.Steps.Handles.{LogValue, PublisherValue}
 use Rattle.shared_log.specs.Handles.{AreNew}
 use Rattle.shared_log.specs.Books.{IsDone}
 

@@ -1,7 +1,7 @@
 -- What becomes of a keeper and a taker in a cycle.
 use Rattle.std.specs.Prelude.{◌≡◌, ℕ, Bool, true, false, ◌||◌, nat_lt, [], ◌∷◌, ◌++◌}
 use Rattle.theory.specs.Refusal.{limit_in}
-use Rattle.log_passes.specs.Handles.{LogValue}
+use Rattle.shared_log.specs.Steps.Handles.{LogValue}
 use Rattle.shared_log.specs.Keepers.{CleansAndLimits, KeeperValue, KeepsAs, TookSteps, closed_word, connected_word, with_limit}
 use Rattle.conductor.specs.Parties.{TakerSeen}
 use Rattle.conductor.specs.Rule.{AreThere}

@@ -1,6 +1,6 @@
 -- The sender of a log that threads share.
 use Rattle.std.specs.Prelude.{◌≡◌, false}
-use Rattle.log_passes.specs.Handles.{LogValue}
+use Rattle.shared_log.specs.Steps.Handles.{LogValue}
 use Rattle.sender.specs.Sending.{SendsFrom, begun}
 use Rattle.shared_log.specs.Readers.{IsReaderOf, ReaderValue}
 use Rattle.shared_log.specs.Sourced.{source_of}

@@ -2,7 +2,7 @@
 use Rattle.std.specs.Prelude.{◌≡◌, ℕ, length}
 use Rattle.theory.specs.Bytes.{Identity}
 use Rattle.shared_log.specs.Handles.{AreNew}
-use Rattle.log_passes.specs.Handles.{IsLogOf}
+use Rattle.shared_log.specs.Steps.Handles.{IsLogOf}
 use Rattle.shared_log.specs.Parts.{IsNewKeeper, IsNewReader}
 use Rattle.agents.specs.declared.passes.LogPasses.{LogPasses}
 

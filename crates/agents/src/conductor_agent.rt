@@ -1,7 +1,7 @@
 //! The cycle.
 
 ghost use Rattle.std.specs.Prelude.{◌≡◌};
-ghost use Rattle.log_passes.specs.Handles.{IsOf};
+ghost use Rattle.shared_log.specs.Steps.Handles.{IsOf};
 ghost use Rattle.shared_log.specs.Keepers.{KeepsAs, TookSteps, with_limit};
 ghost use Rattle.agents.specs.Conducting.{Conducts, ObeysNext, commanded};
 

@@ -1,6 +1,5 @@
 -- A list of bytes as words of eight, little-endian.
-use Rattle.std.specs.Prelude.{◌≡◌, ℕ, ◌+◌, ◌*◌, List, ◌++◌, length, take, drop}
-use Rattle.std.proofs.Common.{arith, length-append, length-drop, length-take}
+use Rattle.std.specs.Prelude.{ℕ, ◌+◌, ◌*◌, List, ◌++◌, length, take, drop}
 use Rattle.std.specs.Int.{w64, to_le_bytes, from_le_bytes}
 
 abbrev pub word_at : List ℕ → ℕ → ℕ
@@ -13,6 +12,3 @@ with_word bytes i word = take (8 * i) bytes ++ to_le_bytes w64 word ++ drop (8 *
 -- the list with other bytes over its front; its length stays
 abbrev pub with_front : List ℕ → List ℕ → List ℕ
 with_front bytes front = take (length bytes) (front ++ drop (length front) bytes)
-
-pub length-with_front : (bytes front : List ℕ) → length (with_front bytes front) ≡ length bytes
-length-with_front bytes front = omega (arith, length-take (length bytes) (front ++ drop (length front) bytes), length-append front (drop (length front) bytes), length-drop (length front) bytes)

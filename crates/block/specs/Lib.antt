@@ -1,4 +1,2 @@
 pub mod Bytes
-pub mod Held
 pub mod Lending
-pub mod Raw

@@ -2,14 +2,13 @@ ghost use Rattle.std.specs.Prelude.{◌≡◌, ◌+◌, ◌*◌, ◌/◌, ◌%�
 ghost use Rattle.std.specs.Borrow.{sem};
 ghost use Rattle.block.specs.Bytes.{word_at, with_word};
 
-use crate::memory::Memory;
 use std::alloc::{AllocError, Global};
 use std::marker::Model;
 
 /// A run of bytes of a fixed length, a multiple of eight.
+#[derive(Drop)]
 pub struct Block {
-    memory: Memory,
-    heap: Global,
+    contents: Vec<u8>,
 }
 
 impl Model for Block {
@@ -17,16 +16,9 @@ impl Model for Block {
 
     ghost Value = { List ℕ };
 
-    ghost view = { λ b. b.memory.bytes };
+    ghost view = { λ b. b.contents.items };
 
-    ghost invariant = { λ b. length b.memory.bytes % 8 ≡ 0 };
-}
-
-impl Drop for Block {
-    fn drop(self) {
-        let Block { memory, heap } = self;
-        memory.free(&heap);
-    }
+    ghost invariant = { λ b. length b.contents.items % 8 ≡ 0 };
 }
 
 impl Block {
@@ -37,14 +29,8 @@ impl Block {
         requires { length % 8 ≡ 0 }
         ensures { IfOk result (λ b. b ≡ replicate length 0) }
     {
-        if length > isize::MAX as usize {
-            return Err(AllocError);
-        }
-        let memory = Memory::zeroed(&alloc, length)?;
-        Ok(Block {
-            memory,
-            heap: alloc,
-        })
+        let contents = vec![in alloc; 0; length]?;
+        Ok(Block { contents })
     }
 
     /// The number of bytes.
@@ -53,29 +39,31 @@ impl Block {
         ensures whole { length self.now % 8 ≡ 0 }
         ensures small { result < 2 ^ 63 }
     {
-        self.memory.bytes().len()
+        self.contents.len()
     }
 
     /// Whether it has no byte.
     pub fn is_empty(&self) -> bool
         ensures { IsTrue result ↔ (self.now ≡ []) }
     {
-        self.memory.bytes().is_empty()
+        self.contents.is_empty()
     }
 
     /// The bytes.
+    #[inline(always)]
     pub fn bytes(&self) -> &[u8]
         ensures { result.now ≡ self.now }
     {
-        self.memory.bytes()
+        self.contents.as_slice()
     }
 
     /// The bytes, to be written.
+    #[inline(always)]
     pub fn bytes_mut(&mut self) -> &mut [u8]
         ensures* writes_back { sem 𝓛 (LendsBytes self.entry result) }
         ensures value { result.now ≡ self.old }
     {
-        self.memory.bytes_mut()
+        self.contents.as_mut_slice()
     }
 
     /// The word of the eight bytes from `8 * index` on.
@@ -83,7 +71,7 @@ impl Block {
         requires { index < length self.now / 8 }
         ensures { result ≡ word_at self.now index }
     {
-        let bytes = self.memory.bytes();
+        let bytes = self.bytes();
         let at = 8 * index;
         u64::from_le_bytes([
             bytes[at],
@@ -103,7 +91,7 @@ impl Block {
         ensures stored { self.new ≡ with_word self.old index word }
         ensures same_length { length self.new ≡ length self.old }
     {
-        let bytes = self.memory.bytes_mut();
+        let bytes = self.contents.as_mut_slice();
         let at = 8 * index;
         bytes[at..at + 8].copy_from_slice(&word.to_le_bytes());
     }

@@ -7,7 +7,7 @@ use Rattle.theory.specs.Placed.{Among, Placed}
 use Rattle.theory.specs.Wire.{IsFrame, SM, Spells, Status, Wire, spelling}
 use Rattle.theory.proofs.Rows.{the_geometry}
 use Rattle.theory.proofs.Spelled.{one_spelling}
-use Rattle.frame_words.specs.Words.{frame_words}
+use Rattle.position.specs.Words.{frame_words}
 use Rattle.conductor.specs.Parties.{ClientSeen, TakerSeen}
 use Rattle.shared_log.specs.Keepers.{KeeperValue}
 use Rattle.shared_log.specs.Sourced.{placed}

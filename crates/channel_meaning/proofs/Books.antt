@@ -15,7 +15,7 @@ use Rattle.publication.specs.declared.pass.ClaimRange.{ClaimRange}
 use Rattle.publication.specs.declared.pass.FrameWords.{FrameWords}
 use Rattle.publication.specs.declared.pass.Pass.{Pass}
 use Rattle.publication.specs.Orders.{AreInOrder, claim_end}
-use Rattle.log_passes.specs.Handles.{LogValue, PublisherValue}
+use Rattle.shared_log.specs.Steps.Handles.{LogValue, PublisherValue}
 use Rattle.log_rule.specs.Claims.Rule.{IsClaimEntry, weight}
 use Rattle.log_rule.specs.Claims.Rule as rules
 use Rattle.log_rule.specs.Claims.Sums.{total}

@@ -7,12 +7,12 @@ use Rattle.theory.specs.Placed.{AllAmong, Among, Data, Frame, Pad, Placed, frame
 use Rattle.theory.specs.Position.{aligned}
 use Rattle.theory.specs.Wire.{IsFrame}
 use Rattle.theory.proofs.Lists.{all_behind, all_front}
-use Rattle.frame_words.specs.Contents.{frame_of}
-use Rattle.frame_words.specs.Words.{frame_words}
-use Rattle.frame_words.proofs.Contents.{bytes_small, data_said, flags_low, pad_said}
+use Rattle.position.specs.Contents.{frame_of}
+use Rattle.position.specs.Words.{frame_words}
+use Rattle.position.proofs.Contents.{bytes_small, data_said, flags_low, pad_said}
 use Rattle.publication.specs.declared.pass.FrameWords.{FrameWords}
 use Rattle.publication.specs.Frames.{frames_at}
-use Rattle.log_passes.specs.Handles.{PublisherValue}
+use Rattle.shared_log.specs.Steps.Handles.{PublisherValue}
 use Rattle.log_rule.proofs.Claimed.Memories.{maps_append}
 use Rattle.shared_log.specs.Books.{IsCommittedBy, committed_of}
 use Rattle.shared_log.specs.Sourced.{placed}

@@ -9,7 +9,7 @@ use Rattle.theory.specs.Entry.{committed}
 use Rattle.theory.specs.Placed.{AllAmong, Among, Data, Placed}
 use Rattle.theory.specs.Wire.{SM, SpellsDatagram, Status, spelling}
 use Rattle.theory.proofs.Rows.{abc, identity, the_geometry}
-use Rattle.frame_words.specs.Words.{frame_words}
+use Rattle.position.specs.Words.{frame_words}
 use Rattle.publication.specs.declared.pass.FrameWords.{FrameWords}
 use Rattle.log_rule.specs.Claims.Sure.{no_controls}
 use Rattle.log_rule.specs.Table.{reader_alone}

@@ -9,9 +9,9 @@ use Rattle.theory.specs.Entry.{Entry}
 use Rattle.theory.specs.Tiling.{share_of}
 use Rattle.theory.proofs.Rows.{abc, identity, the_geometry}
 use Rattle.theory.proofs.UnitRows.{legal}
-use Rattle.frame_words.specs.Words.{frame_words}
+use Rattle.position.specs.Words.{frame_words}
 use Rattle.publication.specs.Steps.{Extent, works}
-use Rattle.log_passes.specs.Handles.{LogId, IsOf, LogValue, PublisherValue}
+use Rattle.shared_log.specs.Steps.Handles.{LogId, IsOf, LogValue, PublisherValue}
 use Rattle.log_rule.specs.Claims.Plays.{newcomer}
 use Rattle.log_rule.specs.Claims.Rule.{IsClaimEntry, entries_of}
 use Rattle.log_rule.specs.Claims.Sure.{no_controls}

@@ -1,7 +1,7 @@
 -- What holds of a publisher in its box holds of it by a borrow.
 use Rattle.std.proofs.Common.{◌≡◌, ℕ, subst, sym, ap, ◌∙◌}
 use Rattle.std.specs.Prelude.{vec_capacity, vec_len}
-use Rattle.log_passes.specs.Handles.{PublisherValue}
+use Rattle.shared_log.specs.Steps.Handles.{PublisherValue}
 use Rattle.claims.specs.declared.equipped.Equipped.{Equipped}
 use Rattle.claims.specs.Holdings.{ArmedValue, ClaimValue, HasOpen, MayAdd}
 

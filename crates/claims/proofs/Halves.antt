@@ -17,8 +17,8 @@ use Rattle.publication.proofs.Justifying.{few, justified}
 use Rattle.publication.proofs.Offering.{claimed_nothing, opened_one}
 use Rattle.publication.proofs.Refusing.{claimed, keeps, looked_keeps, refused_at_end, refused_looking, refused_tripping}
 use Rattle.publication.proofs.Steppings.{frames_kept, padded_behind}
-use Rattle.log_passes.specs.Handles.{IsOf, LogValue, PublisherValue, Took}
-use Rattle.log_passes.specs.Leading.{took_more}
+use Rattle.shared_log.specs.Steps.Handles.{IsOf, LogValue, PublisherValue, Took}
+use Rattle.shared_log.specs.Steps.Leading.{took_more}
 use Rattle.claims.specs.Holdings.{ArmedValue, ClaimValue}
 use Rattle.claims.specs.Claimings.{AcceptsMessage, AddsRange, ArmsFor, DeniesMessage, EndsClaim, GoesOn, IsCall, OpensClaim, TripsTerm}
 use Rattle.claims.proofs.Rests.{granted_nothing, granted_same, offered_same, refused_still, same_on, still, still_padding}

@@ -20,7 +20,7 @@ use Rattle.publication.specs.Claims.{Claimed, Fills, HasBlank, Justified, Leaves
 use Rattle.publication.specs.Looks.{Granted, LookedAt, Tripping}
 use Rattle.publication.specs.Offers.{Offered}
 use Rattle.log_rule.specs.Claims.Admits.{Same}
-use Rattle.log_passes.specs.Handles.{PublisherValue}
+use Rattle.shared_log.specs.Steps.Handles.{PublisherValue}
 use Rattle.claims.specs.Holdings.{HasOpen, IsClaimant, MayAdd}
 
 -- nothing was opened or ended

@@ -11,7 +11,7 @@ use Rattle.publication.specs.Claims.{Justified, message_stores, padding_stores}
 use Rattle.publication.specs.Looks.{Granted, LookedAt, Tripping}
 use Rattle.publication.specs.Offers.{Offered, Opened}
 use Rattle.log_rule.specs.Claims.Admits.{Same}
-use Rattle.log_passes.specs.Handles.{IsOf, LogValue, PublisherValue, Took}
+use Rattle.shared_log.specs.Steps.Handles.{IsOf, LogValue, PublisherValue, Took}
 use Rattle.claims.specs.Holdings.{ArmedValue, ClaimValue}
 
 -- a call that is whole: all its word steps, seven at the most, and so many frames stored; its number and its parts stay

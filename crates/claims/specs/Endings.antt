@@ -1,6 +1,6 @@
 -- All passes of a log whose publishers claim.
 use Rattle.std.specs.Prelude.{◌≡◌, ◌+◌, List, [], All}
-use Rattle.log_passes.specs.Handles.{IsOf, LogValue, PublisherValue, parts_in}
+use Rattle.shared_log.specs.Steps.Handles.{IsOf, LogValue, PublisherValue, parts_in}
 use Rattle.log_rule.specs.Claims.Sums.{total}
 use Rattle.shared_log.specs.Books.{IsDone}
 use Rattle.shared_log.specs.Keepers.{KeeperValue}

@@ -2,7 +2,7 @@
 use Rattle.std.specs.Prelude.{◌≡◌, ℕ, ◌+◌, ◌≤◌, List, [], ◌∷◌, length}
 use Rattle.theory.specs.Position.{aligned, max_payload, max_position}
 use Rattle.publication.specs.Steps.{blank, geometry_of}
-use Rattle.log_passes.specs.Handles.{PublisherValue}
+use Rattle.shared_log.specs.Steps.Handles.{PublisherValue}
 
 -- a publisher that has looked, for the term of this count and a message of this many bytes
 pub record ArmedValue : Type 0 where

@@ -5,7 +5,7 @@ ghost use Rattle.theory.specs.Position.{max_payload};
 ghost use Rattle.publication.specs.Claims.{Takes, TurnsFrom};
 ghost use Rattle.publication.specs.Looks.{EndsTerm};
 ghost use Rattle.publication.specs.Steps.{geometry_of};
-ghost use Rattle.log_passes.specs.Handles.{IsOf, PublisherValue};
+ghost use Rattle.shared_log.specs.Steps.Handles.{IsOf, PublisherValue};
 ghost use Rattle.claims.specs.Claimings.{AddsRange, ArmsFor, DeniesMessage, GoesOn, OpensClaim, TripsTerm};
 
 use crate::claim::Claim;

@@ -3,7 +3,7 @@
 ghost use Rattle.std.specs.Prelude.{◌≡◌, ◌+◌, ◌∷◌, [], vec_capacity, vec_len};
 ghost use Rattle.std.specs.Borrow.{sem};
 ghost use Rattle.theory.specs.Placed.{Data, Pad};
-ghost use Rattle.log_passes.specs.Handles.{IsOf};
+ghost use Rattle.shared_log.specs.Steps.Handles.{IsOf};
 ghost use Rattle.claims.specs.Claimings.{EndsClaim};
 ghost use Rattle.claims.specs.Holdings.{HasOpen, end_of, size_of};
 

@@ -3,7 +3,7 @@
 ghost use Rattle.std.specs.Prelude.{◌≡◌, ◌≤◌, IfErr, IfOk, length, vec_capacity};
 ghost use Rattle.theory.specs.Position.{max_message};
 ghost use Rattle.publication.specs.Steps.{geometry_of};
-ghost use Rattle.log_passes.specs.Handles.{IsOf};
+ghost use Rattle.shared_log.specs.Steps.Handles.{IsOf};
 ghost use Rattle.claims.specs.Claimings.{AcceptsMessage, DeniesMessage};
 ghost use Rattle.claims.specs.Holdings.{IsResting};
 
@@ -21,7 +21,7 @@ pub struct Claimant {
 }
 
 impl Model for Claimant {
-    ghost use Rattle.log_passes.specs.Handles.{PublisherValue};
+    ghost use Rattle.shared_log.specs.Steps.Handles.{PublisherValue};
     ghost use Rattle.claims.specs.Holdings.{IsClaimant};
     ghost use Rattle.std.specs.Prelude.{vec_capacity};
 

@@ -2,7 +2,7 @@
 
 ghost use Rattle.std.specs.Prelude.{◌≡◌, ◌≤◌, All, [], length, vec_capacity};
 ghost use Rattle.shared_log.specs.Books.{IsDone, ShowsBook};
-ghost use Rattle.log_passes.specs.Handles.{IsOf};
+ghost use Rattle.shared_log.specs.Steps.Handles.{IsOf};
 ghost use Rattle.claims.specs.Endings.{AreAllClaimants};
 
 use crate::claimant::Claimant;

@@ -5,7 +5,7 @@ ghost use Rattle.std.specs.List.{AllByRecursion};
 ghost use Rattle.publication.specs.Steps.{geometry_of};
 ghost use Rattle.position.specs.Openings.{IsConsumerCount, IsStart};
 ghost use Rattle.shared_log.specs.Faults.{OfOpening};
-ghost use Rattle.log_passes.specs.Handles.{IsLogOf, IsOf};
+ghost use Rattle.shared_log.specs.Steps.Handles.{IsLogOf, IsOf};
 ghost use Rattle.shared_log.specs.Parts.{AreDealt};
 ghost use Rattle.claims.specs.Holdings.{IsResting};
 

@@ -1,6 +1,6 @@
 -- A reader of a log that was just opened has read nothing.
 use Rattle.std.proofs.Common.{◌≡◌, ℕ, []}
-use Rattle.log_passes.specs.Handles.{LogValue}
+use Rattle.shared_log.specs.Steps.Handles.{LogValue}
 use Rattle.shared_log.specs.Parts.{IsNewReader}
 use Rattle.shared_log.specs.Readers.{ReaderValue, known_at, known_of}
 

@@ -2,7 +2,7 @@
 use Rattle.std.specs.Prelude.{◌≡◌, []}
 use Rattle.std.specs.List.{AllByRecursion}
 use Rattle.shared_log.specs.Books.{IsDone}
-use Rattle.log_passes.specs.Handles.{LogValue}
+use Rattle.shared_log.specs.Steps.Handles.{LogValue}
 use Rattle.shared_log.specs.Readers.{IsReaderOf}
 use Rattle.claims_tests.specs.Passes.{IsPart}
 use Rattle.claims_tests.specs.declared.other_passes.OtherPasses.{OtherPasses}

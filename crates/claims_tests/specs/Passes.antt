@@ -1,6 +1,6 @@
 -- Passes that close a log together.
 use Rattle.std.specs.Prelude.{◌≡◌, ℕ, []}
-use Rattle.log_passes.specs.Handles.{IsOf, LogValue, PublisherValue}
+use Rattle.shared_log.specs.Steps.Handles.{IsOf, LogValue, PublisherValue}
 use Rattle.shared_log.specs.Books.{IsDone}
 use Rattle.shared_log.specs.Keepers.{KeeperValue}
 

@@ -4,7 +4,6 @@ ghost use Rattle.std.specs.Prelude.{◌≡◌, ◌⊎◌, Err, IfErr, IfOk, OnOk
 ghost use Rattle.std.specs.Io.KnownBytes.{Appends, Keeps};
 ghost use Rattle.options.specs.Run.Plans.{IsFirstFault};
 ghost use Rattle.options.specs.declared.run.fault.PlanFault.{PlanFault};
-ghost use Rattle.run.specs.Outcomes.{ending_of};
 ghost use Rattle.commands.specs.Running.{ExplainsRun, IsLeftBy, outcome_text, polled_text};
 
 use crate::fault::Fault;

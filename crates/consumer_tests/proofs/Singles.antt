@@ -1,6 +1,6 @@
 -- A reader of a log that was just opened is one consumer, and nothing else; one that has joined has read nothing.
 use Rattle.std.proofs.Common.{◌≡◌, ℕ, ◌<◌, [], arith}
-use Rattle.log_passes.specs.Handles.{LogValue}
+use Rattle.shared_log.specs.Steps.Handles.{LogValue}
 use Rattle.shared_log.specs.Parts.{IsNewReader}
 use Rattle.shared_log.specs.Joining.{IsJoined, Joins}
 use Rattle.shared_log.specs.Keepers.{KeeperValue}

@@ -1,6 +1,6 @@
 -- All passes of a log that they close together.
 use Rattle.std.specs.List.{AllByRecursion}
-use Rattle.log_passes.specs.Handles.{LogValue}
+use Rattle.shared_log.specs.Steps.Handles.{LogValue}
 use Rattle.stream_tests.specs.Consumers.{IsSingle}
 use Rattle.claims_tests.specs.Passes.{IsKeeping, IsPart}
 use Rattle.consumer_tests.specs.declared.passes.Passes.{Passes}

@@ -2,7 +2,7 @@
 
 ghost use Rattle.std.specs.Prelude.{◌≡◌, ◌≤◌, [], IfOk, length};
 ghost use Rattle.std.specs.List.{AllByRecursion};
-ghost use Rattle.log_passes.specs.Handles.{IsOf, parts_in};
+ghost use Rattle.shared_log.specs.Steps.Handles.{IsOf, parts_in};
 ghost use Rattle.log_rule.specs.Claims.Sums.{total};
 ghost use Rattle.shared_log.specs.Handles.{AreNew};
 ghost use Rattle.shared_log.specs.Readers.{known_of};

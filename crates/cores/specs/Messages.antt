@@ -2,7 +2,7 @@
 use Rattle.std.specs.Prelude.{◌≡◌, ℕ, ◌<◌, ◌≤◌, true, false, List, ◌++◌, drop, length, Option, None, Some}
 use Rattle.std.specs.Arc.{arc_value}
 use Rattle.assembler.specs.declared.fault.AssemblyError.{AssemblyError}
-use Rattle.log_passes.specs.Handles.{LogValue}
+use Rattle.shared_log.specs.Steps.Handles.{LogValue}
 use Rattle.log_messages.specs.Reading as reads
 use Rattle.log_messages.specs.Reading.{Reading}
 use Rattle.claims.specs.declared.passes.reading.ReaderPass.{ReaderPass}

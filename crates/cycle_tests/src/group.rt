@@ -1,6 +1,6 @@
 //! A sender with a way to each receiver of a group.
 
-ghost use Rattle.log_passes.specs.Handles.{IsOf};
+ghost use Rattle.shared_log.specs.Steps.Handles.{IsOf};
 ghost use Rattle.shared_log.specs.Parts.{IsNewReader};
 ghost use Rattle.agent_tests.specs.Senders.{IsFirstLog, IsSender};
 

@@ -5,7 +5,6 @@ pub mod Again
 pub mod Found
 pub mod Written
 pub mod Laws
-pub mod Fronts
 pub mod Known
 pub mod Faults
 pub mod Together

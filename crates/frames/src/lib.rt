@@ -6,10 +6,8 @@
 //! `write_frame` writes the one spelling and leaves the rest of the buffer. `Frame::size` is
 //! what a frame takes, `FrameError` has the faults with their texts, `FaultCounts` how often each came.
 //!
-//! Of bytes that are known to begin with a DATA frame or a padding, `front_of` gives which of the two it is, its
-//! flags and its length, and `payload_of` its payload, with no test; of bytes that begin with any frame,
-//! `known_frame` gives it and its size, a DATA frame without a test. A spelling is of one frame, and a datagram of
-//! one list of frames (`one_spelling`, `one_reading`).
+//! Of bytes that are known to begin with some frame, `known_frame` gives it and its size, a DATA frame without a test.
+//! A spelling is of one frame, and a datagram of one list of frames (`one_spelling`, `one_reading`).
 //!
 //! An outbox holds up to 32 datagrams of at most its MTU, each of one frame or of several, in the order in which they go out;
 //! each is the spellings of the frames that were put into it (`Outbox`). It takes its memory when it is made, and no later
@@ -30,7 +28,7 @@ pub use datagram::{check_datagram, one_reading, one_spelling};
 pub use fault::FrameError;
 pub use fault_counts::FaultCounts;
 pub use frame::{Frame, Header, Nak, Setup, Status};
-pub use front::{Front, front_of, known_frame, payload_of};
+pub use front::known_frame;
 pub use outbox::Outbox;
-pub use reading::read_frame;
+pub use reading::{NAK_LENGTH, SETUP_LENGTH, STATUS_LENGTH, read_frame};
 pub use writing::write_frame;

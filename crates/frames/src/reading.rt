@@ -19,11 +19,15 @@ const FRONT: usize = 8;
 /// The header of a DATA frame, a padding and a heartbeat.
 pub(crate) const HEADER: usize = 32;
 
-const NAK: usize = 28;
+/// The bytes of a negative acknowledgement.
+pub const NAK_LENGTH: usize = 28;
 
-const STATUS: usize = 36;
+/// The bytes of a status message.
+pub const STATUS_LENGTH: usize = 36;
 
-const SETUP: usize = 40;
+/// The bytes of a SETUP.
+pub const SETUP_LENGTH: usize = 40;
+
 /// The bytes of the greatest term.
 const GREATEST_TERM: u32 = 16_777_216;
 /// The greatest frame length of a DATA frame.
@@ -179,7 +183,7 @@ fn read_nak(bytes: &[u8]) -> Result<(Frame<'_>, usize), FrameError>
     requires { 8 ≤ length bytes.now }
     ensures { ReturnsReading result (list.nak_at bytes.now) }
 {
-    if bytes.len() < NAK {
+    if bytes.len() < NAK_LENGTH {
         return Err(FrameError::Short);
     }
     if u32_at(bytes, 0) != 28 {
@@ -188,7 +192,7 @@ fn read_nak(bytes: &[u8]) -> Result<(Frame<'_>, usize), FrameError>
     if bytes[5] != 0 {
         return Err(FrameError::Flags);
     }
-    Ok((Frame::Nak(nak_at(bytes)), NAK))
+    Ok((Frame::Nak(nak_at(bytes)), NAK_LENGTH))
 }
 
 #[tactic(auto, unfolding(crate::specs::Reading::status_at))]
@@ -196,7 +200,7 @@ fn read_status(bytes: &[u8]) -> Result<(Frame<'_>, usize), FrameError>
     requires { 8 ≤ length bytes.now }
     ensures { ReturnsReading result (list.status_at bytes.now) }
 {
-    if bytes.len() < STATUS {
+    if bytes.len() < STATUS_LENGTH {
         return Err(FrameError::Short);
     }
     if u32_at(bytes, 0) != 36 {
@@ -209,9 +213,9 @@ fn read_status(bytes: &[u8]) -> Result<(Frame<'_>, usize), FrameError>
                 asks: false,
                 status,
             },
-            STATUS,
+            STATUS_LENGTH,
         )),
-        0x80 => Ok((Frame::Status { asks: true, status }, STATUS)),
+        0x80 => Ok((Frame::Status { asks: true, status }, STATUS_LENGTH)),
         _ => Err(FrameError::Flags),
     }
 }
@@ -221,7 +225,7 @@ fn read_setup(bytes: &[u8]) -> Result<(Frame<'_>, usize), FrameError>
     requires { 8 ≤ length bytes.now }
     ensures { ReturnsReading result (list.setup_at bytes.now) }
 {
-    if bytes.len() < SETUP {
+    if bytes.len() < SETUP_LENGTH {
         return Err(FrameError::Short);
     }
     if u32_at(bytes, 0) != 40 {
@@ -230,7 +234,7 @@ fn read_setup(bytes: &[u8]) -> Result<(Frame<'_>, usize), FrameError>
     if bytes[5] != 0 {
         return Err(FrameError::Flags);
     }
-    Ok((Frame::Setup(setup_at(bytes)), SETUP))
+    Ok((Frame::Setup(setup_at(bytes)), SETUP_LENGTH))
 }
 
 #[tactic(auto, unfolding(crate::specs::Reading::header_at))]

@@ -13,7 +13,7 @@ use Rattle.position.specs.declared.head.FrameHead.{FrameHead}
 use Rattle.position.specs.declared.head.FrameKind.{FrameKind}
 use Rattle.position.specs.declared.head.FrameKind.TheVariants as kinds
 use Rattle.position.specs.Heads.{head_of}
-use Rattle.frame_words.specs.Contents.{head_by}
+use Rattle.position.specs.Contents.{head_by}
 use Rattle.image_rule.specs.declared.view.Frame.{Frame}
 use Rattle.image_rule.specs.declared.view.Site.{Site}
 use Rattle.image_rule.specs.declared.view.View.{View}

@@ -6,7 +6,7 @@ use Rattle.std.proofs.lemmas.Bool.{cases_lt}
 use Rattle.theory.specs.Position.{aligned}
 use Rattle.position.specs.declared.head.FrameHead.{FrameHead}
 use Rattle.position.specs.Heads.{head_of}
-use Rattle.frame_words.specs.Contents.{head_by}
+use Rattle.position.specs.Contents.{head_by}
 use Rattle.region.specs.declared.access.ReadAccess.{ReadAccess}
 use Rattle.region.specs.Identity.{Round}
 use Rattle.region.specs.Pooled.{AreAll, stands}

@@ -9,7 +9,7 @@ use Rattle.theory.specs.Placed.{Placed}
 use Rattle.theory.specs.Units.{HasUnit}
 use Rattle.position.specs.declared.head.FrameHead.{FrameHead}
 use Rattle.position.specs.Heads.{head_of}
-use Rattle.frame_words.specs.Contents.{head_by}
+use Rattle.position.specs.Contents.{head_by}
 use Rattle.image_rule.specs.declared.view.Frame.{Frame}
 use Rattle.image_rule.specs.declared.view.Held.{Held}
 use Rattle.image_rule.specs.declared.view.Key.{Key}

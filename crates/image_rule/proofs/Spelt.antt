@@ -11,8 +11,8 @@ use Rattle.theory.specs.Position.{aligned}
 use Rattle.theory.specs.Wire.{Header, front, header_bytes, zeros_after}
 use Rattle.position.specs.Heads.{head_of}
 use Rattle.position.specs.declared.head.FrameKind.TheVariants as kinds
-use Rattle.frame_words.specs.Contents.{frame_by, head_by}
-use Rattle.frame_words.proofs.Contents.{flags_low}
+use Rattle.position.specs.Contents.{frame_by, head_by}
+use Rattle.position.proofs.Contents.{flags_low}
 use Rattle.image_rule.specs.declared.view.Frame.{Frame}
 use Rattle.image_rule.specs.Frames.{IsContent, IsSpelt, Says, frame_said}
 

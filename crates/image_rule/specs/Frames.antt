@@ -8,7 +8,7 @@ use Rattle.theory.specs.Placed.{Data, Pad, Placed, frame_length, payload_of}
 use Rattle.theory.specs.Position.{aligned}
 use Rattle.theory.specs.Wire.{IsDataFlags}
 use Rattle.position.specs.Heads.{head_of}
-use Rattle.frame_words.specs.Contents.{frame_by, head_by}
+use Rattle.position.specs.Contents.{frame_by, head_by}
 use Rattle.image_rule.specs.declared.view.Frame.{Frame}
 use Rattle.region.specs.declared.access.ReadAccess.{ReadAccess}
 use Rattle.region.specs.declared.access.RegionKey.{RegionKey}

@@ -1,6 +1,6 @@
 -- The reader of a log that opens.
 use Rattle.std.proofs.Common.{arith}
-use Rattle.log_passes.specs.Handles.{LogValue}
+use Rattle.shared_log.specs.Steps.Handles.{LogValue}
 use Rattle.shared_log.specs.Readers.{IsReaderOf, ReaderValue}
 use Rattle.shared_log.specs.Parts.{IsNewReader}
 use Rattle.run_parties.specs.RunLogs.{IsRunLog}

@@ -3,7 +3,7 @@ use Rattle.std.specs.Prelude.{◌≡◌, length}
 use Rattle.std.specs.List.{AllByRecursion}
 use Rattle.atomic_table.specs.Seated.{TableId}
 use Rattle.shared_log.specs.Books.{IsDone}
-use Rattle.log_passes.specs.Handles.{LogValue}
+use Rattle.shared_log.specs.Steps.Handles.{LogValue}
 use Rattle.shared_log.specs.Parts.{IsNewReader}
 use Rattle.run_parties.specs.Passes.{IsKept}
 use Rattle.run_parties.specs.RunLogs.{IsRunLog}

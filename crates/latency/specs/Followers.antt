@@ -1,6 +1,6 @@
 -- What follows the publishers of a log.
 use Rattle.std.specs.Prelude.{◌≤◌, length}
-use Rattle.log_passes.specs.Handles.{IsOf, LogValue}
+use Rattle.shared_log.specs.Steps.Handles.{IsOf, LogValue}
 use Rattle.shared_log.specs.Readers.{IsReaderOf}
 use Rattle.latency.specs.declared.log_follower.Follower.{Follower}
 

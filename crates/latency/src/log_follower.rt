@@ -2,7 +2,7 @@
 
 ghost use Rattle.std.specs.Prelude.{◌≡◌, ◌≤◌, IfOk, OnOk, vec_len};
 ghost use Rattle.shared_log.specs.Parts.{IsNewReader};
-ghost use Rattle.log_passes.specs.Handles.{IsOf, LogValue};
+ghost use Rattle.shared_log.specs.Steps.Handles.{IsOf, LogValue};
 ghost use Rattle.run_parties.specs.Passes.{IsKept};
 ghost use Rattle.run_parties.specs.RunLogs.{IsRunLog};
 ghost use Rattle.latency.specs.Followers.{IsFollower};

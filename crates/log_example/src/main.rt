@@ -1,7 +1,7 @@
 //! One thread offers messages to a log, and another reads them.
 #![tactic(auto)]
 
-ghost use Rattle.log_passes.specs.Handles.{IsOf};
+ghost use Rattle.shared_log.specs.Steps.Handles.{IsOf};
 ghost use Rattle.shared_log.specs.Readers.{IsReaderOf};
 
 use log_messages::LogMessages;

@@ -3,10 +3,10 @@ use Rattle.std.proofs.Common.{◌≡◌, ℕ, zero, suc, ◌+◌, ◌-◌, ◌*�
 use Rattle.std.proofs.lemmas.List.{drop-replicate, get_or-drop}
 use Rattle.std.specs.Int.{w64, from_le_bytes}
 use Rattle.std.specs.Prelude.{slice_index}
-use Rattle.frame_words.specs.Contents.{bytes_in}
-use Rattle.frame_words.specs.Words.{words_in}
-use Rattle.frame_words.proofs.Contents.{IsSmall, bytes_small}
-use Rattle.frame_words.proofs.Wordings.{words_length, words_spell}
+use Rattle.position.specs.Contents.{bytes_in}
+use Rattle.position.specs.Words.{words_in}
+use Rattle.position.proofs.Contents.{IsSmall, bytes_small}
+use Rattle.position.proofs.Wordings.{words_length, words_spell}
 use Rattle.region.specs.declared.access.Access.{Access}
 use Rattle.region.specs.declared.access.ReadAccess.{ReadAccess}
 use Rattle.log_memory.specs.declared.drafts.Draft.{Draft}

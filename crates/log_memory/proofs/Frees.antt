@@ -5,9 +5,9 @@ use Rattle.std.specs.Prelude.{slice_index}
 use Rattle.theory.specs.Placed.{Data, Frame, Pad, frame_length}
 use Rattle.theory.specs.Position.{Geometry, IsGeometry, aligned}
 use Rattle.position.specs.declared.head.FrameHead.{FrameHead}
-use Rattle.frame_words.specs.Contents.{bytes_in, head_by}
-use Rattle.frame_words.specs.Words.{IsLegal}
-use Rattle.frame_words.proofs.Contents.{head_said}
+use Rattle.position.specs.Contents.{bytes_in, head_by}
+use Rattle.position.specs.Words.{IsLegal}
+use Rattle.position.proofs.Contents.{head_said}
 use Rattle.publication.specs.declared.pass.FrameWords.{FrameWords}
 use Rattle.atomic_table.specs.Table.{rest}
 use Rattle.region.specs.declared.access.Access.{Access}

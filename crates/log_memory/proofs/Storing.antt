@@ -28,7 +28,7 @@ use Rattle.log_rule.proofs.Lifting.{lifted, other_spares}
 use Rattle.log_rule.proofs.Owning.{commits_goes, stores_goes}
 use Rattle.log_memory.specs.Rule.{AreSmall}
 use Rattle.log_memory.proofs.Lifting.{there_low}
-use Rattle.frame_words.specs.Words.{IsLegal, frame_words}
+use Rattle.position.specs.Words.{IsLegal, frame_words}
 use Rattle.log_rule.specs.Claims.Events.{Eventful}
 
 pub set_twice : {A : Type 0} (l : List A) (i : ℕ) (a b : A) → set (set l i a) i b ≡ set l i b

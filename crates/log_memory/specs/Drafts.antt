@@ -2,7 +2,7 @@
 use Rattle.std.specs.Prelude.{◌≡◌, ℕ, ◌+◌, ◌-◌, ◌/◌, ◌%◌, ◌^◌, ◌<◌, ◌≤◌, List, [], ◌∷◌, ◌++◌, drop, length, suc}
 use Rattle.std.specs.List.{AllByRecursion}
 use Rattle.theory.specs.Position.{aligned}
-use Rattle.frame_words.specs.Words.{words_in}
+use Rattle.position.specs.Words.{words_in}
 use Rattle.publication.specs.declared.pass.FrameWords.{FrameWords}
 use Rattle.publication.specs.Steps.{blank, frame, with_work}
 use Rattle.region.specs.declared.access.Access.{Access}

@@ -5,7 +5,7 @@ use Rattle.atomic_table.specs.Table.{rest}
 use Rattle.theory.specs.Bytes.{Identity}
 use Rattle.publication.specs.declared.pass.FrameWords.{FrameWords}
 use Rattle.publication.specs.declared.pass.Reading.{Reading}
-use Rattle.frame_words.specs.Contents.{bytes_in}
+use Rattle.position.specs.Contents.{bytes_in}
 use Rattle.region.specs.declared.access.Access.{Access}
 use Rattle.region.specs.declared.access.WriteAccess.{WriteAccess}
 use Rattle.publication.specs.Steps.{term_of}

@@ -4,7 +4,7 @@ use Rattle.region.specs.declared.access.Access.{Access}
 use Rattle.region.specs.declared.access.ReadAccess.{ReadAccess}
 use Rattle.region.specs.declared.access.WriteAccess.{WriteAccess}
 use Rattle.log_memory.specs.declared.view.Site.{Site}
-use Rattle.frame_words.specs.Contents.{bytes_in}
+use Rattle.position.specs.Contents.{bytes_in}
 use Rattle.log_memory.specs.Steps.{Carries, IsPartAt}
 
 -- whatever a slot has

@@ -10,7 +10,7 @@ use Rattle.theory.specs.Entry.{length_of}
 use Rattle.theory.specs.Placed.{Among}
 use Rattle.theory.specs.Position.{Geometry, greatest_claim}
 use Rattle.theory.specs.Refusal.{limit_in}
-use Rattle.frame_words.specs.Contents.{bytes_in}
+use Rattle.position.specs.Contents.{bytes_in}
 use Rattle.publication.specs.declared.pass.FrameWords.{FrameWords}
 use Rattle.publication.specs.declared.pass.Pass.{Pass}
 use Rattle.publication.specs.declared.pass.Reading.{Reading}

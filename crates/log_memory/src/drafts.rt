@@ -1,7 +1,7 @@
 //! A frame is stored in the room of an open claim, and parted among those who read it.
 
 ghost use Rattle.std.specs.Prelude.{◌≡◌, ◌+◌, ◌*◌, ◌/◌, ◌^◌, ◌<◌, ◌≤◌, ◌∷◌, ◌++◌, [], drop, length};
-ghost use Rattle.frame_words.specs.Contents.{bytes_in};
+ghost use Rattle.position.specs.Contents.{bytes_in};
 ghost use Rattle.region.specs.Identity.{start_address};
 ghost use Rattle.publication.specs.Steps.{frame};
 ghost use Rattle.log_memory.specs.Drafts.{IsDraft, IsParted, MayStore, StoresFrame, behind_of, words_of};

@@ -14,8 +14,7 @@ use crate::keeper::{give_room, take_back};
 use crate::memory::LogMemory;
 use crate::rights::{LogSeat, collect_parts, deal_room};
 use crate::steps::Give;
-use frame_words::head_in;
-use position::align32;
+use position::{align32, head_in};
 use region::{Access, Region, WriteAccess};
 use std::sync::Arc;
 

@@ -10,12 +10,12 @@ use Rattle.theory.specs.Placed.{Among, Data}
 use Rattle.theory.specs.Tiling.{share_of}
 use Rattle.theory.proofs.Rows.{abc, identity}
 use Rattle.theory.proofs.UnitRows.{legal}
-use Rattle.frame_words.specs.Words.{frame_words}
+use Rattle.position.specs.Words.{frame_words}
 use Rattle.publication.specs.declared.pass.ClaimRange.{ClaimRange}
 use Rattle.publication.specs.declared.pass.FrameWords.{FrameWords}
 use Rattle.publication.specs.Frames.{frame_at}
 use Rattle.publication.specs.Steps.{Extent, works}
-use Rattle.log_passes.specs.Handles.{LogId, LogValue, PublisherValue}
+use Rattle.shared_log.specs.Steps.Handles.{LogId, LogValue, PublisherValue}
 use Rattle.log_rule.specs.Claims.Plays.{newcomer}
 use Rattle.log_rule.specs.Claims.Sure.{no_controls}
 use Rattle.log_rule.specs.Claims.Sums.{total}

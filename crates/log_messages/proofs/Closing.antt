@@ -11,7 +11,7 @@ use Rattle.theory.specs.Tiling.{Tiles, share_of}
 use Rattle.theory.proofs.Lists.{all_append, all_at, all_from, among_cases, among_left, among_right}
 use Rattle.theory.proofs.Tiling.{share-cons}
 use Rattle.publication.specs.declared.pass.FrameWords.{FrameWords}
-use Rattle.log_passes.specs.Handles.{LogValue, PublisherValue}
+use Rattle.shared_log.specs.Steps.Handles.{LogValue, PublisherValue}
 use Rattle.log_rule.specs.Claims.Sums.{total}
 use Rattle.log_rule.proofs.Claimed.Totals.{total_append, total_map}
 use Rattle.shared_log.specs.Books.{IsCommittedBy, ShowsBook, committed_of, weight_in}

@@ -13,7 +13,7 @@ use Rattle.theory.specs.Bytes.{Identity}
 use Rattle.theory.specs.Placed.{Among, Data}
 use Rattle.theory.specs.Position.{IsGeometry, framed_length}
 use Rattle.theory.specs.Words.{id_before, tail_word}
-use Rattle.frame_words.specs.Words.{frame_words}
+use Rattle.position.specs.Words.{frame_words}
 use Rattle.publication.specs.declared.pass.FrameWords.{FrameWords}
 use Rattle.publication.specs.declared.pass.Pass.{Pass}
 use Rattle.publication.specs.declared.pass.Reading.{Reading}
@@ -42,7 +42,7 @@ use Rattle.log_rule.proofs.Lifting.{Spares, lifted, load_spares, other_spares}
 use Rattle.log_rule.proofs.Looked.{others_are_looks}
 use Rattle.log_rule.proofs.Owning.{Goes, adds_goes, arms_goes, commits_goes, sees_goes}
 use Rattle.log_rule.proofs.Saying.{rule_says}
-use Rattle.log_passes.specs.Handles.{LogId}
+use Rattle.shared_log.specs.Steps.Handles.{LogId}
 use Rattle.shared_log.specs.Readers.{ReaderValue, known_of}
 use Rattle.log_messages.specs.Law.{ReadIsCommitted}
 use Rattle.log_messages.specs.Reading.{HasRead, given_of}

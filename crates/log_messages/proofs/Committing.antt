@@ -7,9 +7,9 @@ use Rattle.theory.specs.Entry.{Entry, committed}
 use Rattle.theory.specs.Placed.{AllAmong, Among, Data, Frame, Pad, Placed, frame_length, place_all}
 use Rattle.theory.specs.Position.{aligned}
 use Rattle.theory.proofs.Lists.{all_from}
-use Rattle.frame_words.specs.Contents.{frame_of}
-use Rattle.frame_words.specs.Words.{frame_words}
-use Rattle.frame_words.proofs.Contents.{bytes_small, data_said, pad_said}
+use Rattle.position.specs.Contents.{frame_of}
+use Rattle.position.specs.Words.{frame_words}
+use Rattle.position.proofs.Contents.{bytes_small, data_said, pad_said}
 use Rattle.publication.specs.Frames.{frames_at}
 use Rattle.shared_log.specs.Sourced.{placed}
 use Rattle.log_messages.specs.Closed.{CommitsItsClaims, IsTold, joined, words_in}

@@ -23,7 +23,7 @@ use Rattle.position.specs.Heads.{head_of}
 use Rattle.publication.specs.declared.pass.FrameWords.{FrameWords}
 use Rattle.publication.specs.declared.pass.Pass.{Pass}
 use Rattle.publication.specs.Contents.{frame_in}
-use Rattle.log_passes.specs.Handles.{LogValue}
+use Rattle.shared_log.specs.Steps.Handles.{LogValue}
 use Rattle.shared_log.specs.Readers.{Advances, Has, IsReaderOf, ReaderValue, ReadsFrame, ReadsNone, known_of, misses_of}
 use Rattle.shared_log.specs.Sourced.{placed}
 use Rattle.shared_log.proofs.Sourced.{passes}

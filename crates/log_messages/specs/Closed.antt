@@ -9,7 +9,7 @@ use Rattle.theory.specs.Position.{IsGeometry, max_position}
 use Rattle.theory.specs.Tiling.{Tiles, share_of}
 use Rattle.publication.specs.declared.pass.FrameWords.{FrameWords}
 use Rattle.publication.specs.Frames.{frames_at}
-use Rattle.log_passes.specs.Handles.{LogValue, PublisherValue}
+use Rattle.shared_log.specs.Steps.Handles.{LogValue, PublisherValue}
 use Rattle.log_rule.specs.Claims.Rule.{entries_of}
 use Rattle.shared_log.specs.declared.book.Book.{Book}
 use Rattle.shared_log.specs.Books.{IsCommittedBy, ShowsBook, committed_of}

@@ -9,7 +9,7 @@ use Rattle.log_rule.specs.declared.rule.Key.{Key}
 use Rattle.log_rule.specs.Claims.Plays.{pass_in}
 use Rattle.log_rule.specs.Edges.{CommittedBy}
 use Rattle.log_rule.specs.Table.{LogRuled}
-use Rattle.log_passes.specs.Handles.{LogValue, PublisherValue}
+use Rattle.shared_log.specs.Steps.Handles.{LogValue, PublisherValue}
 use Rattle.publication.specs.declared.pass.FrameWords.{FrameWords}
 use Rattle.theory.specs.Placed.{Among}
 use Rattle.shared_log.specs.declared.book.Book.{Book}

@@ -11,8 +11,8 @@ use Rattle.position.specs.Heads.{IsStreamFrame, head_of}
 use Rattle.publication.specs.declared.pass.FrameWords.{FrameWords}
 use Rattle.publication.specs.declared.pass.Pass.{Pass}
 use Rattle.publication.specs.Steps.{Extent, extents}
-use Rattle.frame_words.specs.Words.{IsLegal, frame_words}
-use Rattle.frame_words.proofs.Wordings.{words_length}
+use Rattle.position.specs.Words.{IsLegal, frame_words}
+use Rattle.position.proofs.Wordings.{words_length}
 use Rattle.log_rule.specs.Claims.Sums.{covers, total}
 use Rattle.log_rule.specs.Claims.Terms.{claimed_to}
 use Rattle.log_rule.specs.Claims.Rule.{Bounds, shape_of, size_of}

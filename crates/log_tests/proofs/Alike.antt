@@ -2,7 +2,7 @@
 use Rattle.std.proofs.Common.{◌≡◌, ◌∙◌, ℕ, ◌+◌, ◌-◌, ◌/◌, [], max, min, true, sym, ap, arith}
 use Rattle.theory.specs.Bytes.{Identity}
 use Rattle.one_hand.specs.Stream.{Stream, cleaned_and_limited, opened, ready}
-use Rattle.one_hand.specs.Commands.{IsSameBut}
+use Rattle.log_tests.specs.Agreements.{IsSameBut}
 
 pub begin_alike : (i : Identity) (start : ℕ) (plain shared : Stream) → plain ≡ ready i start 0 → shared ≡ cleaned_and_limited (record (opened i start 1) { connected = true }) → IsSameBut plain shared
 begin_alike i start plain shared a b =

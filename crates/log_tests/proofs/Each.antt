@@ -2,8 +2,8 @@
 use Rattle.std.proofs.Common.{◌≡◌, ℕ, zero, suc, ◌<◌, List, [], ◌∷◌, length, slice_index_or, sym, ap, ◌∙◌, subst, arith}
 use Rattle.publication.specs.declared.pass.Pass.{Pass}
 use Rattle.shared_log.specs.Handles.{AreNew, IsNew}
-use Rattle.log_passes.specs.Handles.{IsOf, LogValue, PublisherValue}
-use Rattle.log_passes.specs.Meets.{IsBack}
+use Rattle.shared_log.specs.Steps.Handles.{IsOf, LogValue, PublisherValue}
+use Rattle.shared_log.specs.Steps.Meets.{IsBack}
 use Rattle.log_tests.specs.Stays.{IsRested, Stays}
 
 pub each_of : (l : LogValue) (n : ℕ) (ps : List PublisherValue) → AreNew l n ps → (i : ℕ) (x : PublisherValue) → i < length ps → x ≡ slice_index_or ps i x → IsOf l x

@@ -1,1 +1,4 @@
 pub mod Stays
+pub mod Outcomes
+pub mod Plain
+pub mod Agreements

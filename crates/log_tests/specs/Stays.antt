@@ -1,7 +1,7 @@
 -- What a publisher keeps over a call.
 use Rattle.std.specs.Prelude.{◌≡◌}
 use Rattle.shared_log.specs.Books.{IsIdle}
-use Rattle.log_passes.specs.Handles.{IsOf, LogValue, PublisherValue}
+use Rattle.shared_log.specs.Steps.Handles.{IsOf, LogValue, PublisherValue}
 use Rattle.log_rule.specs.Claims.Plays.{no_keeping}
 
 -- it is one of the log; it isn't armed, if it wasn't; it has its parts of the right to close; and it is no other keeper

@@ -1,9 +1,11 @@
 //! The same commands on the plain state of a log and on the log that threads share.
 
-ghost use Rattle.std.specs.Prelude.{◌≡◌, IfOk};
-ghost use Rattle.one_hand.specs.Commands.{IsSameBut};
+ghost use Rattle.std.specs.Prelude.{IfOk};
+ghost use Rattle.log_tests.specs.Agreements.{IsSameBut};
 
-use one_hand::{ClaimAnswer, ClaimCommand, LogHand, OneHandLog, PlainLog, run_on_both, runs_agree};
+use crate::plain_log::PlainLog;
+use crate::plain_log::agreement::{run_on_both, runs_agree};
+use one_hand::{ClaimAnswer, ClaimCommand, LogHand};
 use position::Geometry;
 use rand_core::utils::NextWord;
 use rand_pcg::Pcg32;

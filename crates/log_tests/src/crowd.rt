@@ -1,7 +1,7 @@
 //! Eight publishers on one log, each in a thread of its own.
 
 ghost use Rattle.shared_log.specs.Handles.{AreNew};
-ghost use Rattle.log_passes.specs.Handles.{IsOf};
+ghost use Rattle.shared_log.specs.Steps.Handles.{IsOf};
 ghost use Rattle.shared_log.specs.Readers.{IsReaderOf};
 
 use crate::claimed::Claimed;

@@ -1,8 +1,9 @@
 //! A publisher that draws what it publishes.
 
-ghost use Rattle.std.specs.Prelude.{◌≡◌, ◌≤◌, ◌<◌, length};
+ghost use Rattle.std.specs.Prelude.{◌≤◌, ◌<◌, length};
 ghost use Rattle.theory.specs.Position.{max_message, max_payload};
-ghost use Rattle.log_passes.specs.Handles.{IsOf};
+ghost use Rattle.shared_log.specs.Steps.Handles.{IsOf};
+ghost use Rattle.log_tests.specs.Stays.{Stays};
 
 use crate::claimed::{Claimed, LONGEST, fill};
 use position::Geometry;
@@ -63,10 +64,14 @@ fn publish_claim(
 }
 
 /// Offers a message.
-fn publish_offer(log: &Log, publisher: &mut Publisher, message: &[u8]) -> Result<u64, Refusal>
+pub(crate) fn publish_offer(
+    log: &Log,
+    publisher: &mut Publisher,
+    message: &[u8],
+) -> Result<u64, Refusal>
     requires fits { IsOf log.now publisher.old }
     requires short { length message.now ≤ max_message log.now.identity.geometry }
-    ensures { IsOf log.now publisher.new }
+    ensures { Stays log.now publisher.old publisher.new }
 {
     offer(&mut OnLog::new(log), publisher, message)
 }

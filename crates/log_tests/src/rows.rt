@@ -1,28 +1,18 @@
 //! One publisher, step by step; logs that aren't opened.
 
-ghost use Rattle.std.specs.Prelude.{◌≡◌, ◌≤◌, length, IfOk};
-ghost use Rattle.theory.specs.Position.{max_message};
-ghost use Rattle.log_passes.specs.Handles.{IsOf};
+ghost use Rattle.std.specs.Prelude.{◌≡◌, IfOk};
+ghost use Rattle.shared_log.specs.Steps.Handles.{IsOf};
 ghost use Rattle.shared_log.specs.Readers.{IsReaderOf};
 ghost use Rattle.log_tests.specs.Stays.{Stays};
 
 use crate::opening::open_ready;
+use crate::publishing::publish_offer;
 use crate::walk::{Terms, shown};
 use position::Geometry;
-use publication::{Refusal, offer};
-use shared_log::{Log, LogError, LogReader, OnLog, Publisher};
+use shared_log::{Log, LogError, LogReader, Publisher};
 use std::alloc::{AllocError, Global};
 use std::process::Abort;
 use std::test::*;
-
-/// Offers a message.
-fn publish_offer(log: &Log, publisher: &mut Publisher, message: &[u8]) -> Result<u64, Refusal>
-    requires fits { IsOf log.now publisher.old }
-    requires short { length message.now ≤ max_message log.now.identity.geometry }
-    ensures { Stays log.now publisher.old publisher.new }
-{
-    offer(&mut OnLog::new(log), publisher, message)
-}
 
 /// A log that begins at a position, offers of so many bytes with the positions or codes that answer them, and what stands
 /// in the log then: the end of the stream, the active count and the three raw tails, and bytes from a position on.

@@ -1,7 +1,7 @@
 //! A term that is turned by whoever sees its end.
 
-ghost use Rattle.std.specs.Prelude.{◌<◌, ◌≡◌, suc, OnOk};
-ghost use Rattle.log_passes.specs.Handles.{IsOf};
+ghost use Rattle.std.specs.Prelude.{◌<◌, OnOk};
+ghost use Rattle.shared_log.specs.Steps.Handles.{IsOf};
 
 use crate::rows::{count_and_tails, offer_letters, open_at};
 use publication::{Look, Refusal, add_range, look_at, rotate};

@@ -18,7 +18,7 @@ use Rattle.publication.specs.Alone.{Ends, FindsClosed, FindsEnd, PadsEnd, Reache
 use Rattle.one_hand.specs.Stream.{Fits, IsClosed, IsLimited, IsUsedUp, OfferCase, Stream, Trips, after, after_claim, after_offer, answer, answer_of, case_of, refusal_at_end, room, turned, with_claim, with_message, with_padding}
 use Rattle.one_hand.specs.declared.log_hand.held.Held.{Held}
 use Rattle.one_hand.specs.Shown.{WholeBy, IsWhole, consumers_of, stream_by, stream_of}
-use Rattle.frame_words.proofs.Contents.{IsSmall}
+use Rattle.position.proofs.Contents.{IsSmall}
 use Rattle.one_hand.proofs.Keeps.{padding_keeps, turn_keeps}
 use Rattle.one_hand.proofs.Cases.{case_closed, case_fits, case_limited, case_trips, case_used_up}
 use Rattle.one_hand.proofs.Handed.{claim_grown, message_grown, pad_grown, rest_unit, still, used_last, used_up}

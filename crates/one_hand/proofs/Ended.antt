@@ -21,7 +21,7 @@ use Rattle.one_hand.specs.Legal.{IsOpenClaim, IsStream}
 use Rattle.one_hand.specs.Stream.{Aborts, Commits, OpenClaim, Stream, aborted_at, claim_by, claim_end, with_frame, without_claim}
 use Rattle.one_hand.specs.declared.log_hand.held.Held.{Held}
 use Rattle.one_hand.specs.Shown.{WholeBy, IsWhole, claim_in, consumers_of, entry_in, open_claim, stream_by, stream_of}
-use Rattle.frame_words.proofs.Contents.{IsSmall, data_said, pad_said}
+use Rattle.position.proofs.Contents.{IsSmall, data_said, pad_said}
 use Rattle.one_hand.proofs.Answered.{Rests}
 use Rattle.one_hand.proofs.Entries.{chained_first, data_more, from_among, pad_more}
 use Rattle.one_hand.proofs.Keeps.{claim_is, ends_keeps, one_entry}

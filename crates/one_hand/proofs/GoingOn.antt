@@ -16,12 +16,12 @@ use Rattle.theory.specs.Bytes.{Identity}
 use Rattle.frame_source.specs.Sources.{HasFrame}
 use Rattle.publication.specs.declared.pass.FrameWords.{FrameWords}
 use Rattle.publication.specs.declared.pass.Pass.{Pass}
-use Rattle.log_passes.specs.Handles.{LogValue, PublisherValue}
+use Rattle.shared_log.specs.Steps.Handles.{LogValue, PublisherValue}
 use Rattle.log_rule.specs.Readings.{IsFrameAt}
 use Rattle.log_rule.proofs.InTerm.{words_cover}
 use Rattle.shared_log.specs.Readers as reading
 use Rattle.shared_log.specs.Readers.{OnlyReads, ReaderValue, positions_of}
-use Rattle.log_passes.specs.Readers.{SameSeat}
+use Rattle.shared_log.specs.Steps.Readers.{SameSeat}
 use Rattle.shared_log.proofs.Finding.{content_is}
 use Rattle.one_hand.specs.Entries.{claim_of}
 use Rattle.one_hand.specs.Reads.{Advances, source_of}

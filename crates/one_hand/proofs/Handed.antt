@@ -25,7 +25,7 @@ use Rattle.one_hand.specs.Stream.{OpenClaim, Stream, covered, standing, with_cla
 use Rattle.one_hand.specs.declared.log_hand.held.Held.{Held}
 use Rattle.publication.specs.Contents.{frame_in}
 use Rattle.one_hand.specs.Shown.{Chained, WholeBy, claim_in, end_of, entry_in, open_claim, shares_of, spans, stream_by}
-use Rattle.frame_words.proofs.Contents.{IsSmall, pad_said}
+use Rattle.position.proofs.Contents.{IsSmall, pad_said}
 use Rattle.one_hand.proofs.Pieced.{no_padding, pieces_chained, pieces_said, pieces_within}
 use Rattle.one_hand.proofs.Entries.{chained_more, entry_by, entry_more, follow_more, shares_more, sum_more}
 use Rattle.one_hand.proofs.Keeps.{claim_keeps, message_keeps, payload_sum, set_get, turn_keeps}

@@ -1,33 +1,37 @@
 -- What a hand holds beside its log is right behind each call.
 use Rattle.std.proofs.Math.Nat.{mul-le-mul_right}
 use Rattle.std.proofs.Common.{◌≡◌, ◌∙◌, ℕ, zero, suc, ◌+◌, ◌*◌, ◌-◌, ◌<◌, ◌≤◌, List, [], ◌∷◌, map, Some, None, sym, ap, subst, arith}
-use Rattle.std.specs.Prelude.{Err, IfErr, IfOk, Ok, Option, Result, slice_index, slice_index_or, slice_set, sum}
+use Rattle.std.specs.Prelude.{Err, IfErr, IfOk, Ok, Option, Result, length, slice_index, slice_index_or, slice_set, sum}
 use Rattle.std.proofs.lemmas.List.{get_or-set_same}
 use Rattle.std.proofs.lemmas.List.Sums.{sum_by-cons}
 use Rattle.publication.specs.declared.pass.ClaimRange.{ClaimRange}
 use Rattle.publication.specs.declared.pass.Keeping.{Keeping}
 use Rattle.publication.specs.declared.pass.Reading.{Reading}
 use Rattle.publication.specs.declared.refusal.Refusal.{Refusal}
-use Rattle.log_passes.specs.Handles.{LogValue, PublisherValue}
+use Rattle.shared_log.specs.Steps.Handles.{LogValue, PublisherValue}
 use Rattle.log_rule.specs.Shares.{claimed_bytes}
 use Rattle.one_hand.specs.Entries.{with_share}
 use Rattle.one_hand.specs.Legal.{IsStream}
 use Rattle.one_hand.specs.Stream.{Stream, term_of}
 use Rattle.one_hand.proofs.InHand.{is_stream, knows_on}
+use Rattle.one_hand.specs.declared.log_hand.LogHand.TheInside.{Inside}
 use Rattle.one_hand.specs.declared.log_hand.held.Held.{Held}
 use Rattle.one_hand.specs.Shown.{consumers_of, seated, shares_of}
 use Rattle.one_hand.specs.Hands.{Claims, ClaimsNone, IsEnd, IsInHand, SameRest, Shares, range, stream_in}
 use Rattle.one_hand.specs.Parts.{AreNumbers, IsHand, Numbers, Stands, stream_at}
 
+abbrev pub numbers : Inside → Numbers
+numbers h = record { shares = h.shares; positions = h.positions; limit = h.limit; cleaned = h.cleaned; there = h.there; block = length h.block }
+
 -- the pass that was taken out is the one that was there
-pub there : (l : LogValue) (o : Option PublisherValue) (p : PublisherValue) (held : List (Option Held)) (n : Numbers) → IsHand l o held n → o ≡ Some p → Stands l p held n
-there l o p held n h e = subst (λ (x : Option PublisherValue). IsHand l x held n) e h
+pub there : (h : Inside) (p : PublisherValue) → IsHand h.log h.all h.held (numbers h) → h.all ≡ Some p → Stands h.log p h.held (numbers h)
+there h p is e = subst (λ (x : Option PublisherValue). IsHand h.log x h.held (numbers h)) e is
 
-pub nobody : (l : LogValue) (o : Option PublisherValue) (held : List (Option Held)) (n : Numbers) → IsHand l o held n → o ≡ None → ⊥
-nobody l o held n h e = subst (λ (x : Option PublisherValue). IsHand l x held n) e h
+pub nobody : (h : Inside) → IsHand h.log h.all h.held (numbers h) → h.all ≡ None → ⊥
+nobody h is e = subst (λ (x : Option PublisherValue). IsHand h.log x h.held (numbers h)) e is
 
-pub shown : (o : Option PublisherValue) (p : PublisherValue) (held : List (Option Held)) (s : Stream) → stream_at o held ≡ s → o ≡ Some p → stream_in p held ≡ s
-shown o p held s v e = ap (λ (x : Option PublisherValue). stream_at x held) (sym e) ∙ v
+pub shown : (h : Inside) (p : PublisherValue) (s : Stream) → stream_at h.all h.held ≡ s → h.all ≡ Some p → stream_in p h.held ≡ s
+shown h p s v e = ap (λ (x : Option PublisherValue). stream_at x h.held) (sym e) ∙ v
 
 tail_small : (s : Stream) → IsStream s → s.tail ≤ 36028797018963968
 tail_small s is =

@@ -19,7 +19,7 @@ use Rattle.publication.specs.declared.step.WordStep.{WordStep}
 use Rattle.publication.specs.Claims.{Fills, Justified}
 use Rattle.publication.specs.Offers.{Offered, Opened}
 use Rattle.publication.proofs.Alone as alone
-use Rattle.log_passes.specs.Handles.{IsOf, LogValue, PublisherValue, Took}
+use Rattle.shared_log.specs.Steps.Handles.{IsOf, LogValue, PublisherValue, Took}
 use Rattle.log_rule.specs.Shares.{claimed_bytes}
 use Rattle.shared_log.specs.Readers.{positions_of}
 use Rattle.one_hand.specs.Entries.{with_share}
@@ -31,7 +31,7 @@ use Rattle.log_rule.specs.Kept.{IsThere}
 use Rattle.log_rule.specs.Keepings.{numbered}
 use Rattle.shared_log.specs.Keepers.{KnowsWho}
 use Rattle.one_hand.specs.Hands.{HasAll, Shares, AbortsClaim, Claims, ClaimsNone, CommitsClaim, IsFree, IsInHand, MayEnd, Offers, range, stream_in}
-use Rattle.frame_words.proofs.Contents.{IsSmall}
+use Rattle.position.proofs.Contents.{IsSmall}
 use Rattle.one_hand.proofs.Answered as answered
 use Rattle.one_hand.proofs.Answered.{Rests}
 use Rattle.one_hand.proofs.Entries.{from_among}

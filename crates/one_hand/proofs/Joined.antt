@@ -7,7 +7,7 @@ use Rattle.std.specs.Prelude.{Option, slice_index, slice_index_or, slice_set}
 use Rattle.publication.specs.declared.pass.Keeping.{Keeping}
 use Rattle.publication.specs.declared.pass.Pass.{Pass}
 use Rattle.publication.specs.declared.pass.Reading.{Reading}
-use Rattle.log_passes.specs.Handles.{LogValue, PublisherValue}
+use Rattle.shared_log.specs.Steps.Handles.{LogValue, PublisherValue}
 use Rattle.log_rule.specs.Keepings.{left, newly, numbered}
 use Rattle.shared_log.specs.Joining as joining
 use Rattle.shared_log.specs.Joining.{begun}

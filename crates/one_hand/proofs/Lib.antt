@@ -20,4 +20,5 @@ pub mod Limited
 pub mod Moved
 pub mod GoingOn
 pub mod Joined
-pub mod Plain
+pub mod Steps
+pub mod ClaimRows

@@ -5,7 +5,7 @@ use Rattle.theory.specs.Refusal.{limit_in}
 use Rattle.theory.proofs.Places.{power_half}
 use Rattle.publication.specs.declared.pass.Controls.{Controls}
 use Rattle.publication.specs.declared.pass.Pass.{Pass}
-use Rattle.log_passes.specs.Handles.{LogValue, PublisherValue}
+use Rattle.shared_log.specs.Steps.Handles.{LogValue, PublisherValue}
 use Rattle.log_rule.specs.Keepings.{least_there, numbered, with_keeping}
 use Rattle.shared_log.specs.Keepers.{raised}
 use Rattle.shared_log.specs.Readers.{numbers_of}

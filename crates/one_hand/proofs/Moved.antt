@@ -6,10 +6,10 @@ use Rattle.publication.specs.declared.pass.Controls.{Controls}
 use Rattle.publication.specs.declared.pass.Keeping.{Keeping}
 use Rattle.publication.specs.declared.pass.Pass.{Pass}
 use Rattle.publication.specs.declared.pass.Reading.{Reading}
-use Rattle.log_passes.specs.Handles.{LogValue, PublisherValue}
+use Rattle.shared_log.specs.Steps.Handles.{LogValue, PublisherValue}
 use Rattle.log_rule.specs.Keepings.{numbered}
 use Rattle.shared_log.specs.Readers.{OnlyReads, positions_of}
-use Rattle.log_passes.specs.Readers.{SameSeat}
+use Rattle.shared_log.specs.Steps.Readers.{SameSeat}
 use Rattle.one_hand.specs.Legal.{IsStream}
 use Rattle.one_hand.specs.Stream.{Stream, standing}
 use Rattle.one_hand.specs.declared.log_hand.held.Held.{Held}

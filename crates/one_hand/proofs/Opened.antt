@@ -17,7 +17,7 @@ use Rattle.publication.specs.declared.pass.Controls.{Controls}
 use Rattle.publication.specs.declared.pass.Pass.{Pass}
 use Rattle.publication.specs.Alone.{Settled}
 use Rattle.publication.proofs.Packed.{before_fits, id_of_word}
-use Rattle.log_passes.specs.Handles.{IsLogOf, IsWholeNew, LogValue, PublisherValue}
+use Rattle.shared_log.specs.Steps.Handles.{IsLogOf, IsWholeNew, LogValue, PublisherValue}
 use Rattle.publication.specs.declared.pass.Reading.{Reading}
 use Rattle.log_rule.specs.declared.rule.Key.{Key}
 use Rattle.log_rule.specs.Table.{consumers_at, first_there, whole_pass}

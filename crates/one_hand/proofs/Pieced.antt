@@ -11,7 +11,7 @@ use Rattle.theory.proofs.Pieces.{payload_in}
 use Rattle.publication.specs.declared.pass.FrameWords.{FrameWords}
 use Rattle.publication.specs.Frames.{frames_at}
 use Rattle.publication.specs.Contents.{frame_in}
-use Rattle.frame_words.proofs.Contents.{IsSmall, data_said}
+use Rattle.position.proofs.Contents.{IsSmall, data_said}
 use Rattle.one_hand.specs.Shown.{Chained}
 
 flags_low : (first : Bool) (cuts : List ℕ) → flags_of first cuts < 256

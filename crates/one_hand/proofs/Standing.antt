@@ -11,9 +11,9 @@ use Rattle.position.specs.declared.head.FrameHead.{FrameHead}
 use Rattle.position.specs.Heads.{IsStreamFrame, head_of}
 use Rattle.publication.specs.declared.pass.FrameWords.{FrameWords}
 use Rattle.publication.specs.Contents.{frame_in}
-use Rattle.log_passes.specs.Handles.{LogValue, PublisherValue}
+use Rattle.shared_log.specs.Steps.Handles.{LogValue, PublisherValue}
 use Rattle.shared_log.specs.Readers.{FindsNone, OnlyReads, ReadsFrame, ReaderValue, Rereads, positions_of}
-use Rattle.log_passes.specs.Readers.{SameSeat}
+use Rattle.shared_log.specs.Steps.Readers.{SameSeat}
 use Rattle.one_hand.specs.Reads.{ShowsFrame, source_of}
 use Rattle.one_hand.specs.Stream.{HasConsumer, Stream, position_of}
 use Rattle.frame_source.specs.Sources.{HasNone}

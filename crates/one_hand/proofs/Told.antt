@@ -7,9 +7,9 @@ use Rattle.position.specs.declared.head.FrameHead.{FrameHead}
 use Rattle.frame_source.specs.Sources as sources
 use Rattle.publication.specs.declared.pass.Pass.{Pass}
 use Rattle.publication.specs.declared.pass.Reading.{Reading}
-use Rattle.log_passes.specs.Handles.{LogValue, PublisherValue}
+use Rattle.shared_log.specs.Steps.Handles.{LogValue, PublisherValue}
 use Rattle.shared_log.specs.Readers.{MayReread, OnlyReads, numbers_of, positions_of}
-use Rattle.log_passes.specs.Readers.{SameSeat}
+use Rattle.shared_log.specs.Steps.Readers.{SameSeat}
 use Rattle.one_hand.specs.Reads.{ShowsFrame, ShowsNone, source_of}
 use Rattle.one_hand.specs.Stream.{HasConsumer, Stream, consumer_at, position_of}
 use Rattle.one_hand.specs.declared.log_hand.held.Held.{Held}

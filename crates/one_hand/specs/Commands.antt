@@ -1,12 +1,12 @@
 -- What publishers' commands answer, and what they make of a stream.
-use Rattle.std.specs.Prelude.{◌≡◌, ℕ, ◌&&◌, Bool, List, [], ◌∷◌, length, nat_eq, nat_le, nat_lt, if◌then◌else◌, Option, None, Some, is_none, Result, Ok, Err}
+use Rattle.std.specs.Prelude.{ℕ, ◌&&◌, Bool, List, [], ◌∷◌, length, nat_eq, nat_le, nat_lt, if◌then◌else◌, Option, None, Some, is_none, Result, Ok, Err}
 use Rattle.theory.specs.Position.{max_message, max_payload}
 use Rattle.publication.specs.declared.refusal.Refusal.{Refusal}
 use Rattle.one_hand.specs.Stream.{OpenClaim, Stream, after_claim, after_offer, answer_of, claim_by, claim_end, with_abort, with_commit}
-use Rattle.one_hand.specs.declared.plain_log.claim_command.ClaimAnswer.{ClaimAnswer}
-use Rattle.one_hand.specs.declared.plain_log.claim_command.ClaimAnswer.TheVariants.{Begins, Ends, Refused, Unfit}
-use Rattle.one_hand.specs.declared.plain_log.claim_command.ClaimCommand.{ClaimCommand}
-use Rattle.one_hand.specs.declared.plain_log.claim_command.ClaimCommand.TheVariants.{Abort, Claim, Commit, Offer}
+use Rattle.one_hand.specs.declared.claims.claim_command.ClaimAnswer.{ClaimAnswer}
+use Rattle.one_hand.specs.declared.claims.claim_command.ClaimAnswer.TheVariants.{Begins, Ends, Refused, Unfit}
+use Rattle.one_hand.specs.declared.claims.claim_command.ClaimCommand.{ClaimCommand}
+use Rattle.one_hand.specs.declared.claims.claim_command.ClaimCommand.TheVariants.{Abort, Claim, Commit, Offer}
 
 -- ---- an offer or a claim
 
@@ -91,17 +91,3 @@ answers_of s (c ∷ cs) = answer_to s c ∷ answers_of (after_command s c) cs
 abbrev pub after_all : Stream → List ClaimCommand → Stream
 after_all s [] = s
 after_all s (c ∷ cs) = after_all (after_command s c) cs
-
--- ---- what the commands don't see
-
--- they differ in nothing but their consumers
-abbrev pub IsSameBut : Stream → Stream → Type 0
-IsSameBut s t = record s { consumers = [] } ≡ record t { consumers = [] }
-
--- the same answers to any commands
-abbrev pub AlwaysSameAnswers : Type 0
-AlwaysSameAnswers = (s t : Stream) (commands : List ClaimCommand) → IsSameBut s t → answers_of s commands ≡ answers_of t commands
-
--- and behind them the same again
-abbrev pub AlwaysAgain : Type 0
-AlwaysAgain = (s t : Stream) (commands : List ClaimCommand) → IsSameBut s t → IsSameBut (after_all s commands) (after_all t commands)

@@ -5,7 +5,7 @@ use Rattle.publication.specs.declared.refusal.Refusal.{Refusal}
 use Rattle.publication.specs.declared.pass.Controls.{Controls}
 use Rattle.publication.specs.declared.pass.Pass.{Pass}
 use Rattle.publication.specs.Claims.{HasBlank}
-use Rattle.log_passes.specs.Handles.{IsOf, LogValue, PublisherValue}
+use Rattle.shared_log.specs.Steps.Handles.{IsOf, LogValue, PublisherValue}
 use Rattle.log_rule.specs.Keepings.{numbered}
 use Rattle.shared_log.specs.Readers.{numbers_of}
 use Rattle.log_rule.specs.Shares.{claimed_bytes}

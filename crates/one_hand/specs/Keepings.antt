@@ -1,7 +1,7 @@
 -- What the keeper's calls of the pass that has all come to.
 use Rattle.std.specs.Prelude.{◌≡◌, ℕ, Bool, List}
 use Rattle.theory.specs.Refusal.{limit_in}
-use Rattle.log_passes.specs.Handles.{IsOf, LogValue, PublisherValue}
+use Rattle.shared_log.specs.Steps.Handles.{IsOf, LogValue, PublisherValue}
 use Rattle.log_rule.specs.Keepings.{with_keeping}
 use Rattle.shared_log.specs.Joining.{Begins, Ends}
 use Rattle.shared_log.specs.Keepers.{CleansAndLimits, IsKeeping, KeeperValue, KnowsWho}

@@ -9,6 +9,4 @@ pub mod Parts
 pub mod Readers
 pub mod Keepings
 pub mod Passings
-pub mod Outcomes
-pub mod Plain
 pub mod Commands

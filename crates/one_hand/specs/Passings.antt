@@ -3,7 +3,7 @@ use Rattle.std.specs.Prelude.{◌≡◌, ℕ, List}
 use Rattle.theory.specs.Placed.{Among}
 use Rattle.position.specs.declared.head.FrameHead.{FrameHead}
 use Rattle.publication.specs.declared.pass.FrameWords.{FrameWords}
-use Rattle.log_passes.specs.Handles.{LogValue, PublisherValue}
+use Rattle.shared_log.specs.Steps.Handles.{LogValue, PublisherValue}
 use Rattle.shared_log.specs.Readers.{Advances, ReaderValue, ReadsFrame}
 use Rattle.one_hand.specs.Readers.{reader_of}
 use Rattle.one_hand.specs.declared.log_hand.consumer.Consumer.{Consumer}

@@ -1,7 +1,7 @@
 -- What readers' calls of the pass that has all come to.
 use Rattle.std.specs.Prelude.{◌≡◌, ℕ, zero, suc, ◌<◌, List, [], ◌∷◌}
 use Rattle.position.specs.declared.head.FrameHead.{FrameHead}
-use Rattle.log_passes.specs.Handles.{IsOf, LogValue, PublisherValue}
+use Rattle.shared_log.specs.Steps.Handles.{IsOf, LogValue, PublisherValue}
 use Rattle.one_hand.specs.declared.log_hand.consumer.Consumer.{Consumer}
 use Rattle.shared_log.specs.Readers.{IsReading, ReaderValue, ReadsFrame, ReadsNone, Rereads}
 

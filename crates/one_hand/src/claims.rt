@@ -1,10 +1,13 @@
 //! The publishing side of a log that one hand holds.
 
-ghost use Rattle.std.specs.Prelude.{◌≡◌, ◌<◌, ◌≤◌, ℕ, None, Some, Ok, Err, IfOk, IfErr, IsSome, length};
+ghost use Rattle.std.specs.Prelude.{◌≡◌, ◌<◌, ◌≤◌, None, Some, Ok, Err, IfOk, IfErr, IsSome, length};
 ghost use Rattle.std.specs.Option.{option_map};
 ghost use Rattle.theory.specs.Position.{IsGeometry, max_message, max_payload};
 ghost use Rattle.one_hand.specs.Legal.{IsStream};
 ghost use Rattle.one_hand.specs.Stream.{Aborts, Commits, OpenClaim, Stream, after_claim, after_offer, answer_of, claim_by};
+
+pub(crate) mod claim_command;
+pub(crate) mod running;
 
 use position::Geometry;
 use publication::Refusal;

@@ -1,11 +1,11 @@
 //! A reader of a log in one hand, as a source of frames.
 
-ghost use Rattle.std.specs.Prelude.{◌≡◌, ⊤, length, refl};
+ghost use Rattle.std.specs.Prelude.{⊤, refl};
 ghost use Rattle.one_hand.specs.HandReads.{AreSame, MovesReader, frames_keep, frames_on, reader_goes_on, reader_stays};
 ghost use Rattle.one_hand.specs.Reads.{source_of};
 ghost use Rattle.one_hand.specs.Stream.{HasConsumer};
 
-use crate::one_hand::OneHandLog;
+use crate::log_hand::LogHand;
 use block::Block;
 use frame_source::{Alone, FrameSource};
 use position::FrameHead;
@@ -16,26 +16,26 @@ pub struct HandReader {
     pub number: usize,
 }
 
-impl<L: OneHandLog> FrameSource<L> for HandReader {
-    ghost source = { λ r l. source_of (L.stream l) r.number };
+impl FrameSource<LogHand> for HandReader {
+    ghost source = { λ r l. source_of l r.number };
 
     ghost grown = { AreSame };
 
-    ghost stands = { λ r l. HasConsumer (L.stream l) r.number };
+    ghost stands = { λ r l. HasConsumer l r.number };
 
     ghost has_read = { λ r l. ⊤ };
 
-    ghost leaves = { λ r l q m. MovesReader r.number (L.stream l) q.number (L.stream m) };
+    ghost leaves = { λ r l q m. MovesReader r.number l q.number m };
 
-    fn next(&mut self, log: &mut L, block: &mut Block) -> Option<FrameHead> {
+    fn next(&mut self, log: &mut LogHand, block: &mut Block) -> Option<FrameHead> {
         log.next(self.number, block)
     }
 
-    fn advance(&mut self, log: &mut L) -> u64 {
+    fn advance(&mut self, log: &mut LogHand) -> u64 {
         log.advance(self.number)
     }
 
-    fn reread(&mut self, log: &mut L, position: u64, block: &mut Block) -> FrameHead {
+    fn reread(&mut self, log: &mut LogHand, position: u64, block: &mut Block) -> FrameHead {
         log.reread(self.number, position, block)
     }
 
@@ -45,11 +45,11 @@ impl<L: OneHandLog> FrameSource<L> for HandReader {
 
     ghost grown_keeps = { frames_keep };
 
-    ghost leaves_same = { λ r l h. reader_stays r.number (L.stream l) h };
+    ghost leaves_same = { λ r l h. reader_stays r.number l h };
 
-    ghost leaves_on = { λ r l q m p n h k. reader_goes_on r.number (L.stream l) q.number (L.stream m) p.number (L.stream n) h k };
+    ghost leaves_on = { λ r l q m p n h k. reader_goes_on r.number l q.number m p.number n h k };
 }
 
-impl<L: OneHandLog> Alone<L> for HandReader {
+impl Alone<LogHand> for HandReader {
     ghost exact = { λ old new same. same };
 }

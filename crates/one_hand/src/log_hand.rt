@@ -1,9 +1,11 @@
 //! One hand over a log.
 
-ghost use Rattle.std.specs.Prelude.{◌≡◌, IfErr, IfOk, IsErrOf, ◌↔◌};
+ghost use Rattle.std.specs.Prelude.{◌≡◌, ◌<◌, ◌≤◌, ◌+◌, true, false, IfErr, IfNone, IfOk, IfSome, IsErrOf, IsTrue, length, sum, ◌↔◌};
+ghost use Rattle.frame_source.specs.Sources.{HasFrame, MayReread};
 ghost use Rattle.position.specs.Openings.{IsConsumerCount, IsStart};
 ghost use Rattle.shared_log.specs.Faults.{OfOpening};
-ghost use Rattle.one_hand.specs.Stream.{opened};
+ghost use Rattle.one_hand.specs.Reads.{Advances, ShowsFrame, ShowsNone, source_of};
+ghost use Rattle.one_hand.specs.Stream.{HasConsumer, HasOther, IsVacant, cleaned_and_limited, lowest, opened, position_of, raised, with_consumer, without_consumer};
 
 pub(crate) mod acting;
 pub(crate) mod consumer;
@@ -21,7 +23,6 @@ use crate::log_hand::joining::{begin_as, end_as};
 use crate::log_hand::keeping::{clean_as, set_closed_as, set_connected_as};
 use crate::log_hand::passing::advance_as;
 use crate::log_hand::reading::{next_as, reread_as};
-use crate::one_hand::OneHandLog;
 use block::Block;
 use position::{FrameHead, Geometry};
 use publication::Refusal;
@@ -94,6 +95,179 @@ impl LogHand {
             block,
         })
     }
+
+    /// Whether a consumer has this number, 0 to 7.
+    pub fn has_consumer(&self, reader: usize) -> bool
+        requires { reader < 8 }
+        ensures there { IsTrue result → HasConsumer self.now reader }
+        ensures none { result ≡ false → IsVacant self.now reader }
+    {
+        self.there[reader]
+    }
+
+    /// Opens a consumer with a number that nobody has, 0 to 7, at the least position of those that are there. It reads every
+    /// frame from there on. The answer is its position.
+    pub fn join(&mut self, reader: usize) -> u64
+        requires { IsVacant self.old reader }
+        ensures least { result ≡ lowest self.old }
+        ensures after { self.new ≡ with_consumer self.old reader (lowest self.old) }
+    {
+        let Some(all) = self.all.take() else {
+            unreachable!();
+        };
+        let (limit, cleaned, there) = (self.limit, self.cleaned, self.there);
+        let seat = (reader as u64, place_of(&there, reader));
+        let (all, position) = begin_as(&self.log, all, limit, cleaned, there, seat);
+        self.there[reader] = true;
+        self.positions[reader] = position;
+        self.all = Some(all);
+        position
+    }
+
+    /// Ends a consumer, where another one is there: nobody has its number then.
+    pub fn leave(&mut self, reader: usize)
+        requires consumer { HasConsumer self.old reader }
+        requires other { HasOther self.old reader }
+        ensures { self.new ≡ without_consumer self.old reader }
+    {
+        let Some(all) = self.all.take() else {
+            unreachable!();
+        };
+        let (limit, cleaned, there) = (self.limit, self.cleaned, self.there);
+        let seat = (reader as u64, place_of(&there, reader));
+        let all = end_as(&self.log, all, limit, cleaned, there, seat);
+        self.there[reader] = false;
+        self.all = Some(all);
+    }
+
+    /// Reads the frame that is committed where the reader stands: a message's part is copied to the block's front. There is
+    /// none where the frame that begins there isn't committed.
+    pub fn next(&mut self, reader: usize, block: &mut Block) -> Option<FrameHead>
+        requires reader { HasConsumer self.old reader }
+        requires room { self.old.identity.geometry.mtu ≤ length block.old }
+        ensures same { self.new ≡ self.old }
+        ensures same_length { length block.new ≡ length block.old }
+        ensures found { IfSome result (λ head. ShowsFrame self.old (position_of self.old reader) head block.old block.new) }
+        ensures none { IfNone result (ShowsNone self.old reader block.old block.new) }
+    {
+        let Some(all) = self.all.take() else {
+            unreachable!();
+        };
+        let consumer = consumer_of(&self.there, &self.positions, reader);
+        let (all, head) = next_as(&self.log, all, consumer, block);
+        self.all = Some(all);
+        head
+    }
+
+    /// Moves the reader past the frame that is committed where it stands. The answer is its new position.
+    pub fn advance(&mut self, reader: usize) -> u64
+        requires reader { HasConsumer self.old reader }
+        requires frame { HasFrame (source_of self.old reader) (position_of self.old reader) }
+        ensures { Advances self.old reader result self.new }
+    {
+        let Some(all) = self.all.take() else {
+            unreachable!();
+        };
+        let consumer = consumer_of(&self.there, &self.positions, reader);
+        let (all, end) = advance_as(&self.log, all, consumer, &mut self.block);
+        self.positions[reader] = end;
+        self.all = Some(all);
+        end
+    }
+
+    /// Reads a frame again that the reader has passed, within three quarters of a term below it.
+    pub fn reread(&mut self, reader: usize, position: u64, block: &mut Block) -> FrameHead
+        requires reader { HasConsumer self.old reader }
+        requires room { self.old.identity.geometry.mtu ≤ length block.old }
+        requires may { MayReread (source_of self.old reader) position }
+        ensures same { self.new ≡ self.old }
+        ensures same_length { length block.new ≡ length block.old }
+        ensures found { ShowsFrame self.old position result block.old block.new }
+    {
+        let Some(all) = self.all.take() else {
+            unreachable!();
+        };
+        let consumer = consumer_of(&self.there, &self.positions, reader);
+        let (all, head) = reread_as(&self.log, all, consumer, position, block);
+        self.all = Some(all);
+        head
+    }
+
+    /// Cleans all that is a term or more below the least consumer. Then, if the log is connected and not closed, raises the
+    /// limit to half a term above that consumer. The answer is the limit.
+    pub fn clean_and_limit(&mut self) -> u64
+        ensures limit { result ≡ raised self.old }
+        ensures after { self.new ≡ cleaned_and_limited self.old }
+    {
+        let Some(all) = self.all.take() else {
+            unreachable!();
+        };
+        let (all, word, cleaned, limit) = clean_as(
+            &self.log,
+            all,
+            self.limit,
+            self.cleaned,
+            self.there,
+        );
+        self.limit = word;
+        self.cleaned = cleaned;
+        self.all = Some(all);
+        limit
+    }
+
+    /// Says whether somebody receives the stream.
+    pub fn set_connected(&mut self, connected: bool)
+        ensures { self.new ≡ record self.old { connected = connected } }
+    {
+        let Some(all) = self.all.take() else {
+            unreachable!();
+        };
+        let (limit, cleaned, there) = (self.limit, self.cleaned, self.there);
+        let (all, limit) = set_connected_as(&self.log, all, limit, cleaned, there, connected);
+        self.limit = limit;
+        self.all = Some(all);
+    }
+
+    /// Closes the log, for good.
+    pub fn set_closed(&mut self)
+        ensures { self.new ≡ record self.old { closed = true } }
+    {
+        let Some(all) = self.all.take() else {
+            unreachable!();
+        };
+        let (all, limit) = set_closed_as(&self.log, all, self.limit, self.cleaned, self.there);
+        self.limit = limit;
+        self.all = Some(all);
+    }
+
+    /// Ends the log, and tells what each publisher claimed of it. A claim that is open counts for its publisher.
+    pub fn close(self) -> Book
+        ensures start { result.start ≡ self.start }
+        ensures tail { result.tail ≡ self.tail }
+        ensures shares { result.shares ≡ self.shares }
+        ensures whole { result.start + sum result.shares ≡ result.tail }
+    {
+        let LogHand {
+            log,
+            all,
+            held: _,
+            shares,
+            positions: _,
+            limit: _,
+            cleaned: _,
+            there: _,
+            block: _,
+        } = self;
+        let Some(all) = all else {
+            unreachable!();
+        };
+        let start = log.start();
+        Book {
+            start,
+            tail: start + all.share(),
+            shares,
+        }
+    }
 }
 
 impl Claims for LogHand {
@@ -108,10 +282,7 @@ impl Claims for LogHand {
     }
 
     fn claimed(&self, publisher: usize) -> Option<u32> {
-        match self.held[publisher] {
-            None => None,
-            Some(held) => Some(held.size),
-        }
+        self.held[publisher].map(|held| held.size)
     }
 
     fn offer(&mut self, publisher: usize, message: &[u8]) -> Result<u64, Refusal> {
@@ -163,125 +334,5 @@ impl Claims for LogHand {
         self.held[publisher] = None;
         self.all = Some(all);
         end
-    }
-}
-
-impl OneHandLog for LogHand {
-    fn has_consumer(&self, reader: usize) -> bool {
-        self.there[reader]
-    }
-
-    fn join(&mut self, reader: usize) -> u64 {
-        let Some(all) = self.all.take() else {
-            unreachable!();
-        };
-        let (limit, cleaned, there) = (self.limit, self.cleaned, self.there);
-        let seat = (reader as u64, place_of(&there, reader));
-        let (all, position) = begin_as(&self.log, all, limit, cleaned, there, seat);
-        self.there[reader] = true;
-        self.positions[reader] = position;
-        self.all = Some(all);
-        position
-    }
-
-    fn leave(&mut self, reader: usize) {
-        let Some(all) = self.all.take() else {
-            unreachable!();
-        };
-        let (limit, cleaned, there) = (self.limit, self.cleaned, self.there);
-        let seat = (reader as u64, place_of(&there, reader));
-        let all = end_as(&self.log, all, limit, cleaned, there, seat);
-        self.there[reader] = false;
-        self.all = Some(all);
-    }
-
-    fn next(&mut self, reader: usize, block: &mut Block) -> Option<FrameHead> {
-        let Some(all) = self.all.take() else {
-            unreachable!();
-        };
-        let consumer = consumer_of(&self.there, &self.positions, reader);
-        let (all, head) = next_as(&self.log, all, consumer, block);
-        self.all = Some(all);
-        head
-    }
-
-    fn advance(&mut self, reader: usize) -> u64 {
-        let Some(all) = self.all.take() else {
-            unreachable!();
-        };
-        let consumer = consumer_of(&self.there, &self.positions, reader);
-        let (all, end) = advance_as(&self.log, all, consumer, &mut self.block);
-        self.positions[reader] = end;
-        self.all = Some(all);
-        end
-    }
-
-    fn reread(&mut self, reader: usize, position: u64, block: &mut Block) -> FrameHead {
-        let Some(all) = self.all.take() else {
-            unreachable!();
-        };
-        let consumer = consumer_of(&self.there, &self.positions, reader);
-        let (all, head) = reread_as(&self.log, all, consumer, position, block);
-        self.all = Some(all);
-        head
-    }
-
-    fn clean_and_limit(&mut self) -> u64 {
-        let Some(all) = self.all.take() else {
-            unreachable!();
-        };
-        let (all, word, cleaned, limit) = clean_as(
-            &self.log,
-            all,
-            self.limit,
-            self.cleaned,
-            self.there,
-        );
-        self.limit = word;
-        self.cleaned = cleaned;
-        self.all = Some(all);
-        limit
-    }
-
-    fn set_connected(&mut self, connected: bool) {
-        let Some(all) = self.all.take() else {
-            unreachable!();
-        };
-        let (limit, cleaned, there) = (self.limit, self.cleaned, self.there);
-        let (all, limit) = set_connected_as(&self.log, all, limit, cleaned, there, connected);
-        self.limit = limit;
-        self.all = Some(all);
-    }
-
-    fn set_closed(&mut self) {
-        let Some(all) = self.all.take() else {
-            unreachable!();
-        };
-        let (all, limit) = set_closed_as(&self.log, all, self.limit, self.cleaned, self.there);
-        self.limit = limit;
-        self.all = Some(all);
-    }
-
-    fn close(self) -> Book {
-        let LogHand {
-            log,
-            all,
-            held: _,
-            shares,
-            positions: _,
-            limit: _,
-            cleaned: _,
-            there: _,
-            block: _,
-        } = self;
-        let Some(all) = all else {
-            unreachable!();
-        };
-        let start = log.start();
-        Book {
-            start,
-            tail: start + all.share(),
-            shares,
-        }
     }
 }

@@ -17,6 +17,7 @@
 mod ends;
 mod run;
 
+pub use ends::end_plan::SECOND;
 pub use ends::fault::EndFault;
 pub use ends::ids::{Drawn, draw};
 pub use ends::options::{EndOptions, PublishOptions, SubscribeOptions};

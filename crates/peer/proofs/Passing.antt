@@ -9,17 +9,16 @@ use Rattle.peer.specs.declared.tied.Awaited.{Awaited}
 use Rattle.theory.specs.Wire.{SM, Spells, Status}
 use Rattle.peer.specs.Watching.{Finds, PassesMany as PassesFrames, PassesOne as PassesFrame, Screened, Watching, with_none}
 
--- it has the same device, peer and count of what was heard
+-- nothing but its count of what was passed over, and its socket, is another
 abbrev pub IsRest : Tied → Tied → Type 0
-IsRest old new = new ≡ record old { strangers = new.strangers; passed = new.passed; offer = new.offer; later = new.later; socket = new.socket }
+IsRest old new = new ≡ record old { passed = new.passed; socket = new.socket }
 
-rest_same : (old new : Tied) → new.device ≡ old.device → new.peer ≡ old.peer → new.to ≡ old.to → new.awaited ≡ old.awaited → new.heard ≡ old.heard → IsRest old new
-rest_same old new d p t a h =
-    subst (λ x. new ≡ record new { device = old.device; peer = old.peer; to = old.to; awaited = old.awaited; heard = x }) h
-    (subst (λ x. new ≡ record new { device = old.device; peer = old.peer; to = old.to; awaited = x }) a
+rest_same : (old new : Tied) → new.device ≡ old.device → new.peer ≡ old.peer → new.to ≡ old.to → new.awaited ≡ old.awaited → IsRest old new
+rest_same old new d p t a =
+    subst (λ x. new ≡ record new { device = old.device; peer = old.peer; to = old.to; awaited = x }) a
     (subst (λ x. new ≡ record new { device = old.device; peer = old.peer; to = x }) t
     (subst (λ x. new ≡ record new { device = old.device; peer = x }) p
-    (subst (λ x. new ≡ record new { device = x }) d refl))))
+    (subst (λ x. new ≡ record new { device = x }) d refl)))
 
 passed_one : (n : ℕ) (old middle new : Tied) → IsPassedOver n old middle → PassesOne middle new → IsPassedOver (suc n) old new
 passed_one n old middle new i p = record {
@@ -29,8 +28,7 @@ passed_one n old middle new i p = record {
       (ap (λ (t : Tied). t.device) p.is ∙ ap (λ (t : Tied). t.device) i.same)
       (ap (λ (t : Tied). t.peer) p.is ∙ ap (λ (t : Tied). t.peer) i.same)
       (ap (λ (t : Tied). t.to) p.is ∙ ap (λ (t : Tied). t.to) i.same)
-      (ap (λ (t : Tied). t.awaited) p.is ∙ ap (λ (t : Tied). t.awaited) i.same)
-      (ap (λ (t : Tied). t.heard) p.is ∙ ap (λ (t : Tied). t.heard) i.same);
+      (ap (λ (t : Tied). t.awaited) p.is ∙ ap (λ (t : Tied). t.awaited) i.same);
 }
 
 pub passed_over : PassingIsBounded
@@ -41,14 +39,13 @@ pub passed_more : (old middle new : Tied) → ((n : ℕ) × PassesMany n old mid
 passed_more old middle new m p = (suc m.0, (middle, m.1, p))
 
 -- what was found and settled is handed over
-pub handed : (t s u new : Tied) (n : ℕ) (buffer : List ℕ) → BringsPeers t s → SettlesCame s s.socket.came u → u.socket ≡ s.socket → HandsCame u u.socket.came n buffer new → HandsPeers t n buffer new
-handed t s u new n buffer b settles socket hands = record {
+pub handed : (t s u : Tied) (n : ℕ) (buffer : List ℕ) → BringsPeers t s → SettlesCame s s.socket.came u → u.socket ≡ s.socket → HandsCame u.socket.came n buffer → HandsPeers t n buffer u
+handed t s u n buffer b settles socket hands = record {
   from = b.from;
   bytes = b.bytes;
   heard = b.heard;
-  middle = u;
   settles = subst (λ (x : Tied). SettlesCame x x.socket.came u) b.is settles;
-  hands = subst (λ (o : Option Came). HandsCame u o n buffer new) (ap (λ (l : Listening). l.came) socket ∙ ap (λ (x : Tied). x.socket.came) b.is) hands;
+  hands = subst (λ (o : Option Came). HandsCame o n buffer) (ap (λ (l : Listening). l.came) socket ∙ ap (λ (x : Tied). x.socket.came) b.is) hands;
 }
 
 -- ---- the start that is waited for

@@ -66,21 +66,14 @@ pub record Tied : Type 0 where
   pub to : SocketAddr
   -- whose start it waits for: until that is told, what comes from any address of its peer's port is handed over
   pub awaited : Option Awaited
-  -- how many datagrams of the peer it has handed over
-  pub heard : ℕ
-  -- how many of others it has passed over
-  pub strangers : ℕ
-  -- how many of those since a receive found nothing
+  -- how many datagrams of others it has passed over since a receive found nothing
   pub passed : ℕ
-  -- the first SETUP among what it has passed over since one was taken, and the last one behind it
-  pub offer : Offer
-  pub later : Offer
   -- the socket below it
   pub socket : Listening
 
 -- a socket that waits for a start, or for none, is tied to a peer
 abbrev pub tied_waiting : Listening → SocketAddr → Option Awaited → Tied
-tied_waiting socket peer awaited = record { device = fresh; peer = peer; to = peer; awaited = awaited; heard = 0; strangers = 0; passed = 0; offer = None; later = None; socket = socket }
+tied_waiting socket peer awaited = record { device = fresh; peer = peer; to = peer; awaited = awaited; passed = 0; socket = socket }
 
 abbrev pub tied_to : Listening → SocketAddr → Tied
 tied_to socket peer = tied_waiting socket peer None
@@ -141,11 +134,9 @@ SettlesCame old (Some c) new = Settles old c.from c.bytes new
 
 -- ---- what comes and goes
 
-abbrev pub with_heard : Tied → Tied
-with_heard t = record t { heard = counted t.heard }
-
+-- a datagram of another is passed over
 abbrev pub with_stranger : Tied → Tied
-with_stranger t = record t { strangers = counted t.strangers; passed = t.passed + 1 }
+with_stranger t = record t { passed = t.passed + 1 }
 
 -- a receive found nothing
 abbrev pub with_nothing : Tied → Tied
@@ -169,24 +160,14 @@ last_of None later o = later
 last_of (Some first) later None = later
 last_of (Some first) later (Some o) = Some o
 
--- it keeps a SETUP, if that is one
-abbrev pub keeping : Offer → Tied → Tied
-keeping o t = record t { offer = first_of t.offer o; later = last_of t.offer t.later o }
-
--- it has given out the first one
-abbrev pub offer_given : Tied → Tied
-offer_given t = record t { offer = t.later; later = None }
-
--- another's datagram is passed over, where that happened fewer than 256 times since a receive found nothing: it is counted, and a
--- SETUP is kept
+-- another's datagram is passed over, where that happened fewer than 256 times since a receive found nothing: it is
+-- counted
 pub record PassesOne (old new : Tied) : Type 0 where
   pub room : old.passed < 256
   pub from : SocketAddr
   pub bytes : List ℕ
   pub other : ¬ Hears old from
-  pub found : Option Setup
-  pub tells : TellsSetup bytes (option_map setup_of found)
-  pub is : new ≡ keeping (sent_by from found) (with_stranger (brought old (Some (record { from = from; bytes = bytes }))))
+  pub is : new ≡ with_stranger (brought old (Some (record { from = from; bytes = bytes })))
 
 -- so many are, one after the other
 abbrev pub PassesMany : ℕ → Tied → Tied → Type 0
@@ -224,24 +205,22 @@ pub record Seeks (old : Tied) (result : Result Bool DeviceFailed) (new : Tied) :
 abbrev pub sending : Tied → Tied
 sending t = record t { socket = giving t.socket t.to }
 
--- the first bytes of what came stand at the buffer's front, and it is counted as heard
-pub record HandsBytes (old : Tied) (bytes : List ℕ) (n : ℕ) (buffer : List ℕ) (new : Tied) : Type 0 where
+-- the first bytes of what came stand at the buffer's front
+pub record HandsBytes (bytes : List ℕ) (n : ℕ) (buffer : List ℕ) : Type 0 where
   pub size : n ≡ min (length bytes) (length buffer)
   pub front : take n buffer ≡ take n bytes
-  pub is : new ≡ with_heard old
 
-abbrev pub HandsCame : Tied → Option Came → ℕ → List ℕ → Tied → Type 0
-HandsCame old None n buffer new = ⊥
-HandsCame old (Some c) n buffer new = HandsBytes old c.bytes n buffer new
+abbrev pub HandsCame : Option Came → ℕ → List ℕ → Type 0
+HandsCame None n buffer = ⊥
+HandsCame (Some c) n buffer = HandsBytes c.bytes n buffer
 
 -- what came was of one that is heard
 pub record HandsPeers (old : Tied) (n : ℕ) (buffer : List ℕ) (new : Tied) : Type 0 where
   pub from : SocketAddr
   pub bytes : List ℕ
   pub heard : Hears old from
-  pub middle : Tied
-  pub settles : Settles (brought old (Some (record { from = from; bytes = bytes }))) from bytes middle
-  pub hands : HandsBytes middle bytes n buffer new
+  pub settles : Settles (brought old (Some (record { from = from; bytes = bytes }))) from bytes new
+  pub hands : HandsBytes bytes n buffer
 
 -- what came from one that is heard is handed over; or nothing came, or 256 were passed over since a receive found nothing; or it failed
 abbrev pub EndsReceive : Tied → Result (Option ℕ) DeviceFailed → List ℕ → Tied → Type 0
@@ -256,12 +235,11 @@ pub record HandsOver (old : Tied) (result : Result (Option ℕ) DeviceFailed) (b
   pub passes : PassesMany count old middle
   pub ends : EndsReceive middle result buffer new
 
--- what was passed over is counted, 256 at the most before a receive finds nothing; nothing but the counts, the offers and
--- the socket changes
+-- what was passed over is counted, 256 at the most before a receive finds nothing; nothing but the count and the socket changes
 pub record IsPassedOver (count : ℕ) (old new : Tied) : Type 0 where
   pub counted : new.passed ≡ old.passed + count
   pub few : (0 < count) → new.passed ≤ 256
-  pub same : new ≡ record old { strangers = new.strangers; passed = new.passed; offer = new.offer; later = new.later; socket = new.socket }
+  pub same : new ≡ record old { passed = new.passed; socket = new.socket }
 
 abbrev pub PassingIsBounded : Type 0
 PassingIsBounded = (count : ℕ) (old new : Tied) → PassesMany count old new → IsPassedOver count old new

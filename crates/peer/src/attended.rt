@@ -13,21 +13,14 @@ ghost use Rattle.peer.specs.Watching.{CountsLook, CountsRefused, FillsLook, Find
 use crate::attendance::{Attendance, Heard};
 use crate::farewell::{StreamEnd, end_told, farewell_bytes};
 use crate::screen::{Bounds, Verdict, asked_bytes, has_room_for, judge};
+use crate::tied::MOST_PASSED;
 use endpoint::{Datagrams, DeviceFailed};
 use frames::{
-    FaultCounts, Frame, FrameError, Header, Nak, check_datagram, read_frame, write_frame,
+    FaultCounts, Frame, FrameError, Header, NAK_LENGTH, Nak, SETUP_LENGTH, check_datagram,
+    read_frame, write_frame,
 };
 use position::Identity;
 use std::marker::Model;
-
-/// The bytes of a negative acknowledgement.
-const NAK_BYTES: usize = 28;
-
-/// How many bytes a datagram has at the most that is passed over.
-const FRONT_BYTES: usize = 40;
-
-/// How many datagrams are passed over at the most, before a receive finds nothing.
-const MOST_PASSED: u64 = 256;
 
 /// What a look at the inner device has found.
 #[derive(Clone, Copy, Debug, PartialEq, Eq)]
@@ -151,25 +144,25 @@ fn put_nak(nak: Nak, buffer: &mut [u8]) -> usize
     ensures front { take result buffer.new ≡ take result (spelling (NAK (nak_of nak))) }
     ensures rest { drop result buffer.new ≡ drop result buffer.old }
 {
-    let mut bytes = [0; NAK_BYTES];
+    let mut bytes = [0; NAK_LENGTH];
     write_frame(&Frame::Nak(nak), &mut bytes);
-    let length = NAK_BYTES.min(buffer.len());
+    let length = NAK_LENGTH.min(buffer.len());
     buffer[..length].copy_from_slice(&bytes[..length]);
     length
 }
 
 /// The first bytes of a buffer, as many as there are up to 40.
-fn front_of(buffer: &[u8]) -> [u8; FRONT_BYTES]
+fn front_of(buffer: &[u8]) -> [u8; SETUP_LENGTH]
     ensures { take (min 40 (length buffer.now)) result ≡ take (min 40 (length buffer.now)) buffer.now }
 {
-    let mut bytes = [0; FRONT_BYTES];
-    let length = FRONT_BYTES.min(buffer.len());
+    let mut bytes = [0; SETUP_LENGTH];
+    let length = SETUP_LENGTH.min(buffer.len());
     bytes[..length].copy_from_slice(&buffer[..length]);
     bytes
 }
 
 /// Puts so many first bytes of a buffer back.
-fn put_back(buffer: &mut [u8], front: &[u8; FRONT_BYTES], size: usize)
+fn put_back(buffer: &mut [u8], front: &[u8; SETUP_LENGTH], size: usize)
     requires short { size ≤ 40 }
     requires within { size ≤ length buffer.old }
     ensures front { take size buffer.new ≡ take size front.now }

@@ -8,7 +8,7 @@ ghost use Rattle.frames.specs.Frames.{setup_of, wire};
 ghost use Rattle.peer.specs.Farewells.{EndsAt, FarewellsTellEnds, IsFarewell, SpellsFarewell, TellsEnd, end_of, farewell_fields};
 ghost use Rattle.peer.specs.declared.farewell.StreamEnd.{StreamEnd as End};
 
-use frames::{Frame, Setup, write_frame};
+use frames::{Frame, SETUP_LENGTH, Setup, write_frame};
 use position::{Geometry, Identity};
 
 /// The time to live of a SETUP that announces an end. A sender writes 0.
@@ -16,9 +16,6 @@ const FAREWELL: i32 = -1;
 
 /// The time to live of a SETUP that announces an end at which the stream is broken off.
 const BROKEN_OFF: i32 = -2;
-
-/// The bytes of a SETUP.
-const SETUP_BYTES: usize = 40;
 
 /// Where a stream ends, as its publisher announces it.
 #[derive(Clone, Copy, Debug, PartialEq, Eq)]
@@ -49,14 +46,14 @@ pub fn farewell_of(sent: &Identity, end: StreamEnd) -> Setup
 }
 
 /// The datagram that announces this end of a stream, or one at the last position that the stream can have, if that is below.
-pub(crate) fn farewell_bytes(sent: &Identity, end: StreamEnd) -> [u8; SETUP_BYTES]
+pub(crate) fn farewell_bytes(sent: &Identity, end: StreamEnd) -> [u8; SETUP_LENGTH]
     ensures { SpellsFarewell sent.now (end_of sent.now end) result }
 {
     let last = StreamEnd {
         position: end.position.min(sent.geometry().max_position()),
         ..end
     };
-    let mut bytes = [0; SETUP_BYTES];
+    let mut bytes = [0; SETUP_LENGTH];
     let farewell = farewell_of(sent, last);
     write_frame(&Frame::Setup(farewell), &mut bytes);
     bytes

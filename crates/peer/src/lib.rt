@@ -2,10 +2,9 @@
 //! tied to one peer (`TiedDevice`), and what stands round that, which screens what comes, notes which receivers it hears and when
 //! it ends by that; and a device that sends to one of a subscriber's peers (`PeerDevice`).
 //!
-//! A tied device meets the trait of devices: it fails only where it counts that. What it hands over came from its peer and is
-//! counted as heard; what others sent is passed over and counted, and the last SETUP of that is kept. A receive finds nothing
-//! only where nothing has come or 256 datagrams were passed over since one found nothing, so a cycle passes over no more
-//! (`TiedDevice`, by `HandsOver`; `passing_is_bounded`). A publisher's waits for its stream's start: until a status message tells
+//! A tied device meets the trait of devices: it fails only where it counts that. What it hands over came from its peer; what
+//! others sent is passed over. A receive finds nothing only where nothing has come or 256 datagrams were passed over since one
+//! found nothing, so a cycle passes over no more (`TiedDevice`, by `HandsOver`; `passing_is_bounded`). A publisher's waits for its stream's start: until a status message tells
 //! that, any address of its peer's port is heard, and who tells it is its peer from then on (`TiedDevice::along`, by `Settles`).
 //! What it sends is given to its socket for the one that it was made for, or tied to. A device round
 //! another that never fails takes a failed call for a lost datagram, and counts exactly those (`PatientDevice`). The farewell of
@@ -57,5 +56,5 @@ pub use patient::PatientDevice;
 pub use peer_device::PeerDevice;
 pub use screen::{Bounds, Verdict, judge};
 pub use silence::Silence;
-pub use status_socket::{STATUS_BYTES, StatusSocket};
+pub use status_socket::StatusSocket;
 pub use tied::{Awaited, TiedDevice, passing_is_bounded};

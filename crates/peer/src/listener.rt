@@ -10,9 +10,9 @@ ghost use Rattle.peer.specs.Ties.{asking, giving, hearing_anybody, with_came};
 
 use crate::fault::BindError;
 use crate::peer_device::PeerDevice;
-use crate::status_socket::{STATUS_BYTES, StatusSocket};
+use crate::status_socket::StatusSocket;
 use endpoint::{Binding, DeviceFailed, GREATEST_DATAGRAM, OpenError, Route, is_loss};
-use frames::{Frame, Status, write_frame};
+use frames::{Frame, STATUS_LENGTH, Status, write_frame};
 use std::alloc::Global;
 use std::io;
 use std::io::ErrorKind;
@@ -81,10 +81,10 @@ fn lead<R: Net>(rt: &R, route: &Route) -> io::Result<()> {
 }
 
 /// The datagram that asks for a SETUP with a status message.
-fn asking_bytes(status: Status) -> [u8; STATUS_BYTES]
+fn asking_bytes(status: Status) -> [u8; STATUS_LENGTH]
     ensures { result ≡ spelling (SM 128 (status_of status)) }
 {
-    let mut bytes = [0; STATUS_BYTES];
+    let mut bytes = [0; STATUS_LENGTH];
     write_frame(&Frame::Status { asks: true, status }, &mut bytes);
     bytes
 }

@@ -3,17 +3,15 @@
 ghost use Rattle.std.specs.Prelude.{◌≡◌};
 ghost use Rattle.peer.specs.StatusSockets.{giving, unused};
 
+use frames::STATUS_LENGTH;
 use std::marker::Model;
 use std::net::{SocketAddr, UdpSocket};
-
-/// The bytes of a status message.
-pub const STATUS_BYTES: usize = 36;
 
 /// A status message, and who it is for.
 #[derive(Clone, Copy)]
 struct Given {
     to: SocketAddr,
-    bytes: [u8; STATUS_BYTES],
+    bytes: [u8; STATUS_LENGTH],
 }
 
 /// A second handle of a subscriber's socket, so that another thread can send status messages from the same port. It hears
@@ -47,7 +45,7 @@ impl StatusSocket {
 
     /// Hands a status message for somebody to the system. Whether it gets there nobody says. The count of these stays at the
     /// greatest `u64`.
-    pub fn send(&mut self, to: SocketAddr, status: &[u8; STATUS_BYTES])
+    pub fn send(&mut self, to: SocketAddr, status: &[u8; STATUS_LENGTH])
         ensures { self.new ≡ giving self.old to status.now }
     {
         let bytes = *status;

@@ -4,20 +4,20 @@ ghost use Rattle.std.specs.Prelude.{◌≡◌, ◌≢◌, ◌↔◌, ◌<◌, If
 ghost use Rattle.endpoint.specs.Calls.{CountsFailure, Fills, Receives, Sends};
 ghost use Rattle.frames.specs.Frames.{asks_of, status_of};
 ghost use Rattle.endpoint.specs.Devices.{HasGrown, NeverFall};
-ghost use Rattle.peer.specs.Ties.{HandsCame, HandsOver, Hears, IsAwaited, Looks, PassingIsBounded, Seeks, SettlesCame, TellsStart, hearing_anybody, is_at, is_of_start, is_start, keeping, sending, sent_by, tied_waiting, with_fault, with_nothing, with_stranger};
+ghost use Rattle.peer.specs.Ties.{HandsCame, HandsOver, Hears, IsAwaited, Looks, PassingIsBounded, Seeks, SettlesCame, TellsStart, hearing_anybody, is_at, is_of_start, is_start, sending, tied_waiting, with_fault, with_nothing};
 
 use crate::listener::Listener;
-use crate::numbering::{setup_in, status_in};
+use crate::numbering::status_in;
 use crate::screen::{is_own, told_position};
 use endpoint::{Datagrams, DeviceFailed, OpenError, Route};
-use frames::{Setup, Status};
+use frames::Status;
 use position::Identity;
 use std::alloc::Global;
 use std::marker::Model;
 use std::net::{Net, SocketAddr};
 
 /// How many datagrams of strangers are passed over at the most, before a receive finds nothing.
-const MOST_PASSED: u64 = 256;
+pub(crate) const MOST_PASSED: u64 = 256;
 
 /// What a look at the socket has found.
 #[derive(Clone, Copy, Debug, PartialEq, Eq)]
@@ -39,21 +39,17 @@ pub struct Awaited {
 
 /// A device with one peer, over a socket that hears anybody. One that waits for a stream's start hears any address of its peer's
 /// port, until a status message of the stream has told that: who has told it is its peer from then on. It goes on sending to whom
-/// it did: a host may answer from another of its addresses than it was called at. What others send it passes over and counts, and keeps of that the first
-/// SETUP until it is taken, and the last one behind it. A receive finds nothing where nothing has come, or 256 datagrams of others were passed over since one did; so
-/// what ends there has passed over no more. A call that finds the system not ready hasn't failed: what was to be sent is
-/// lost, and nothing has come.
+/// it did: a host may answer from another of its addresses than it was called at. What others send it passes over. A receive
+/// finds nothing where nothing has come, or 256 datagrams of others were passed over since one did; so what ends there has
+/// passed over no more. A call that finds the system not ready hasn't failed: what was to be sent is lost, and nothing has
+/// come.
 #[derive(Drop)]
 pub struct TiedDevice {
     listener: Listener,
     peer: SocketAddr,
     to: SocketAddr,
     awaited: Option<Awaited>,
-    heard: u64,
-    strangers: u64,
     passed: u64,
-    offer: Option<(SocketAddr, Setup)>,
-    later: Option<(SocketAddr, Setup)>,
     failures: u64,
     nones: u64,
 }
@@ -64,7 +60,7 @@ impl Model for TiedDevice {
 
     ghost Value = { Tied };
 
-    ghost view = { λ t. record { device = record { sent = []; received = []; failures = t.failures; nones = t.nones }; peer = t.peer; to = t.to; awaited = t.awaited; heard = t.heard; strangers = t.strangers; passed = t.passed; offer = t.offer; later = t.later; socket = t.listener } };
+    ghost view = { λ t. record { device = record { sent = []; received = []; failures = t.failures; nones = t.nones }; peer = t.peer; to = t.to; awaited = t.awaited; passed = t.passed; socket = t.listener } };
 }
 
 /// Whether a position is this one.
@@ -118,11 +114,7 @@ impl TiedDevice {
             peer,
             to: peer,
             awaited,
-            heard: 0,
-            strangers: 0,
             passed: 0,
-            offer: None,
-            later: None,
             failures: 0,
             nones: 0,
         }
@@ -147,28 +139,6 @@ impl TiedDevice {
         ensures { result ≡ self.now.peer }
     {
         self.peer
-    }
-
-    /// Keeps a SETUP.
-    fn keep(&mut self, from: SocketAddr, setup: Setup)
-        ensures { self.new ≡ keeping (Some (from, setup)) self.old }
-    {
-        match self.offer {
-            None => self.offer = Some((from, setup)),
-            Some(_) => self.later = Some((from, setup)),
-        }
-    }
-
-    /// Counts a datagram of another, which is passed over, and keeps the SETUP that it is.
-    fn pass(&mut self, from: SocketAddr, found: Option<Setup>)
-        requires { self.old.passed < 256 }
-        ensures { self.new ≡ keeping (sent_by from found) (with_stranger self.old) }
-    {
-        self.strangers = self.strangers.saturating_add(1);
-        self.passed += 1;
-        if let Some(setup) = found {
-            self.keep(from, setup);
-        }
     }
 
     /// Counts a failure.
@@ -230,14 +200,13 @@ impl TiedDevice {
     {
         let heard = self.listener.hear();
         self.note(heard)?;
-        let Some((from, datagram)) = self.listener.last() else {
+        let Some((from, _datagram)) = self.listener.last() else {
             return Ok(Look::Nothing);
         };
         if self.hears(from) {
             return Ok(Look::Peers);
         }
-        let found = setup_in(datagram);
-        self.pass(from, found);
+        self.passed += 1;
         Ok(Look::Strangers)
     }
 
@@ -281,9 +250,9 @@ impl TiedDevice {
     }
 
     /// Hands over what was found. How many bytes it has, as far as there is room.
-    fn hand_over(&mut self, buffer: &mut [u8]) -> usize
-        requires found { self.old.socket.came ≢ None }
-        ensures hands { HandsCame self.old self.old.socket.came result buffer.new self.new }
+    fn hand_over(&self, buffer: &mut [u8]) -> usize
+        requires found { self.now.socket.came ≢ None }
+        ensures hands { HandsCame self.now.socket.came result buffer.new }
         ensures filled { Fills result buffer.old buffer.new }
     {
         let Some((_, datagram)) = self.listener.last() else {
@@ -291,7 +260,6 @@ impl TiedDevice {
         };
         let length = datagram.len().min(buffer.len());
         buffer[..length].copy_from_slice(&datagram[..length]);
-        self.heard = self.heard.saturating_add(1);
         length
     }
 }

@@ -4,7 +4,7 @@ use Rattle.theory.specs.Position.{aligned, cuts_of}
 use Rattle.theory.specs.Placed.{Frame, frame_length}
 use Rattle.theory.specs.Entry.{pieces_of}
 use Rattle.theory.specs.Bytes.{Identity}
-use Rattle.frame_words.specs.Words.{IsLegal, frame_words}
+use Rattle.position.specs.Words.{IsLegal, frame_words}
 use Rattle.publication.specs.declared.pass.FrameWords.{FrameWords}
 use Rattle.publication.specs.declared.pass.Pass.{Pass}
 use Rattle.publication.specs.Steps.{frame, geometry_of}

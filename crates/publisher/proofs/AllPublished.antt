@@ -1,8 +1,8 @@
 -- What was published in all, where a publisher has ended whole.
-use Rattle.std.proofs.Common.{◌≡◌, ◌∙◌, List, [], ◌∷◌, ◌++◌, ℕ, ◌+◌, ◌<◌, length, true, Option, None, Some, IfSome, ap, refl, subst, sym, arith}
+use Rattle.std.proofs.Common.{◌≡◌, ◌∙◌, List, [], ◌∷◌, ◌++◌, ℕ, ◌+◌, ◌<◌, length, true, Option, None, Some, IfSome, ap, subst, sym, arith}
 use Rattle.std.proofs.lemmas.List.Elements.{All-from_recursion}
 use Rattle.theory.proofs.Lists.{all_append}
-use Rattle.log_passes.specs.Handles.{LogValue, PublisherValue, parts_in}
+use Rattle.shared_log.specs.Steps.Handles.{LogValue, PublisherValue, parts_in}
 use Rattle.log_rule.specs.Claims.Sums.{total}
 use Rattle.log_rule.proofs.Claimed.Totals.{total_append}
 use Rattle.shared_log.specs.Books.{AreAll, IsDone, ShowsBook}

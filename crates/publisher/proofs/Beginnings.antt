@@ -6,7 +6,7 @@ use Rattle.std.proofs.lemmas.Bool.Decides.{nat_tests}
 use Rattle.std.specs.Io.Buffered.{reader_buffer, reader_capacity, reader_inner, reader_remaining}
 use Rattle.std.specs.Io.KnownBytes.{prepend_known}
 use Rattle.std.specs.declared.io.buffered.BufReader.{BufReader}
-use Rattle.log_passes.specs.Handles.{LogValue, PublisherValue, parts_in}
+use Rattle.shared_log.specs.Steps.Handles.{LogValue, PublisherValue, parts_in}
 use Rattle.log_rule.specs.Claims.Sums.{total}
 use Rattle.shared_log.specs.Handles.{AreNew, IsNew}
 use Rattle.shared_log.specs.Keepers.{KeeperValue}

@@ -4,7 +4,7 @@ use Rattle.publisher.specs.Openings.{ArePasses}
 use Rattle.publisher.specs.declared.sender_thread.SenderPasses.{SenderPasses}
 use Rattle.agents.specs.Duties.{Agent}
 use Rattle.agents.specs.LogSenders.{SendsLog}
-use Rattle.log_passes.specs.Handles.{LogValue}
+use Rattle.shared_log.specs.Steps.Handles.{LogValue}
 use Rattle.shared_log.specs.declared.reader.source.LogFrames.{LogFrames}
 use Rattle.std.proofs.Common.{◌≡◌, ◌∙◌, ℕ, ◌<◌, ◌≤◌, ◌^◌, ◌&&◌, ◌||◌, Bool, true, false, not, nat_le, nat_lt, if◌then◌else◌, [], length, Some, ap, arith, refl, subst, sym}
 use Rattle.std.specs.Prelude.{⊤}

@@ -1,11 +1,9 @@
 -- Rows: how long a publisher waits, and how it ends by a silence.
-use Rattle.std.proofs.Common.{◌≡◌, ℕ, true, false, Option, None, Some, ap, refl}
+use Rattle.std.proofs.Common.{◌≡◌, true, false, Option, None, Some, ap, refl}
 use Rattle.std.specs.Prelude.{nat_le}
 use Rattle.peer.specs.Endings.{ending_of, is_silent, patience}
 use Rattle.peer.specs.declared.attendance.Attendance.{Attendance}
 use Rattle.peer.specs.declared.attendance.Heard.{Heard}
-use Rattle.peer.specs.declared.attendance.Ending.{Ending}
-use Rattle.peer.specs.declared.attendance.Ending.TheVariants.{Short}
 
 -- for the first status message it waits as long as `wait` says, and for a further one as long as `linger` does
 first : patience None 15 4 ≡ 4

@@ -4,7 +4,7 @@ use Rattle.std.specs.List.{AllByRecursion}
 use Rattle.flow_control.specs.Stream.{flow_after, group_of}
 use Rattle.flow_control.specs.declared.stream.StreamFlow.{StreamFlow}
 use Rattle.position.specs.Openings.{IsStart}
-use Rattle.log_passes.specs.Handles.{LogValue, PublisherValue}
+use Rattle.shared_log.specs.Steps.Handles.{LogValue, PublisherValue}
 use Rattle.shared_log.specs.Books.{IsCommittedBy}
 use Rattle.shared_log.specs.Readers.{IsReaderOf, ReaderValue, known_of}
 use Rattle.shared_log.specs.declared.reader.source.LogFrames.{LogFrames}

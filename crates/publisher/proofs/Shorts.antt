@@ -2,7 +2,7 @@
 use Rattle.std.proofs.Common.{◌≡◌, ◌∙◌, ◌⊎◌, inl, inr, true, List, Option, IfOk, Result, Ok, Err, refl, sym, subst}
 use Rattle.std.specs.Prelude.{⊤, slice_index_or}
 use Rattle.std.specs.declared.net.SocketAddr.{SocketAddr}
-use Rattle.log_passes.specs.Handles.{LogValue}
+use Rattle.shared_log.specs.Steps.Handles.{LogValue}
 use Rattle.endpoint.specs.Fans.{Fanned}
 use Rattle.endpoint.specs.declared.udp.Route.{Route}
 use Rattle.options.specs.declared.ends.plans.PublishPlan.{PublishPlan}

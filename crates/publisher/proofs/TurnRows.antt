@@ -5,7 +5,7 @@ use Rattle.options.specs.declared.ends.plans.PublishPlan.{PublishPlan}
 use Rattle.peer.specs.declared.farewell.StreamEnd.{StreamEnd}
 use Rattle.publisher.specs.Judging.{StaysEnded, stream_end_in}
 use Rattle.publisher.specs.Progress.{end_due, is_due_since}
-use Rattle.publisher.specs.Turns.{EndsBehind, Going, Turns, TurnsMany}
+use Rattle.publisher.specs.Turns.{EndsBehind, Going, TurnsMany}
 use Rattle.publisher.specs.declared.judging.Judged.{Judged}
 use Rattle.publisher.specs.declared.offering.reading.Reading.{Reading}
 use Rattle.publisher.specs.declared.sender_thread.ChannelSender.{ChannelSender}

@@ -1,7 +1,7 @@
 -- What is left where the thread that reads has ended.
 use Rattle.std.specs.Prelude.{◌≡◌, ℕ, List, Option}
 use Rattle.theory.specs.Position.{max_message}
-use Rattle.log_passes.specs.Handles.{LogValue, PublisherValue}
+use Rattle.shared_log.specs.Steps.Handles.{LogValue, PublisherValue}
 use Rattle.publication.specs.declared.pass.Pass.{Pass}
 use Rattle.shared_log.specs.Books.{IsDone}
 use Rattle.messages.specs.declared.form.Form.{Form}

@@ -1,7 +1,7 @@
 -- What a cycle does for the log.
 use Rattle.std.specs.Prelude.{◌≡◌, Bool, true}
 use Rattle.agents.specs.Conducting.{Conducts}
-use Rattle.log_passes.specs.Handles.{LogValue}
+use Rattle.shared_log.specs.Steps.Handles.{LogValue}
 use Rattle.publisher.specs.declared.sender_thread.SenderPasses.{SenderPasses}
 
 -- the keeper and the taker went through a cycle of the conductor, and where that had work, there was work

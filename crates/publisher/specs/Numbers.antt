@@ -1,6 +1,6 @@
 -- What a destination makes of a datagram that comes from there, and what it is behind some calls.
 use Rattle.std.specs.Prelude.{◌≡◌, ℕ, ℤ, List, drop, take, Option, None, Some, Result, Ok, Err}
-use Rattle.std.proofs.Common.{◌∙◌, ap, subst, refl}
+use Rattle.std.proofs.Common.{◌∙◌, ap}
 use Rattle.endpoint.specs.Calls.{Receives}
 use Rattle.endpoint.specs.Devices.{Device, NeverFall}
 use Rattle.endpoint.specs.declared.datagrams.DeviceFailed.{DeviceFailed}

@@ -3,7 +3,7 @@ use Rattle.std.specs.Prelude.{◌≡◌, List, []}
 use Rattle.std.specs.List.{AllByRecursion}
 use Rattle.atomic_table.specs.Seated.{TableId}
 use Rattle.theory.specs.Bytes.{Identity}
-use Rattle.log_passes.specs.Handles.{LogValue, PublisherValue, parts_in}
+use Rattle.shared_log.specs.Steps.Handles.{LogValue, PublisherValue, parts_in}
 use Rattle.log_rule.specs.Claims.Sums.{total}
 use Rattle.shared_log.specs.Books.{IsDone}
 use Rattle.shared_log.specs.Keepers.{KeeperValue}

@@ -1,5 +1,5 @@
 -- What a cycle shows of a destination.
-use Rattle.std.specs.Prelude.{ℕ, ℤ, ◌-◌, List, Bool, true, false, not, ◌&&◌, ◌||◌, nat_eq, nat_lt, is_some, if◌then◌else◌, Option, None, Some}
+use Rattle.std.specs.Prelude.{ℕ, ℤ, ◌-◌, List, Bool, not, ◌&&◌, ◌||◌, nat_eq, nat_lt, is_some, if◌then◌else◌, Option, None, Some}
 use Rattle.std.specs.declared.net.SocketAddr.{SocketAddr}
 use Rattle.loss_injector.specs.Losing.{Losing}
 use Rattle.endpoint.specs.Fans.{AllLive}

@@ -5,7 +5,7 @@ ghost use Rattle.std.specs.Arc.{arc_value};
 ghost use Rattle.std.specs.List.{AllByRecursion};
 ghost use Rattle.peer.specs.declared.attendance.Ending.TheVariants.{Whole};
 ghost use Rattle.shared_log.specs.Books.{IsCommittedBy, IsDone};
-ghost use Rattle.log_passes.specs.Handles.{LogValue};
+ghost use Rattle.shared_log.specs.Steps.Handles.{LogValue};
 ghost use Rattle.shared_log.specs.Readers.{known_of};
 ghost use Rattle.publisher.specs.Ended.{CanClose, IsClosed, LeavesPasses, ShowsAll};
 ghost use Rattle.publisher.specs.Shorts.{unclosed};

@@ -1,14 +1,12 @@
 //! What a publisher has seen and told.
 
 ghost use Rattle.std.specs.Prelude.{◌≡◌, ◌||◌, not, nat_eq};
-ghost use Rattle.publisher.specs.Progress.{end_to_tell, is_alone, is_back, is_broken, is_end_due, is_shown, nothing_seen, seen, shown_at, shown_messages, told_of, with_end_told, with_work};
+ghost use Rattle.publisher.specs.Progress.{end_to_tell, is_alone, is_back, is_broken, is_end_due, nothing_seen, seen, shown_at, shown_messages, told_of, with_end_told, with_work};
 
 use crate::destination::Seen;
 use flow_control::LIVE;
+use options::SECOND;
 use peer::{Attendance, Silence, StreamEnd};
-
-/// Nanoseconds from one line of counters to the next.
-const SECOND: u64 = 1_000_000_000;
 
 /// Nanoseconds after which it is told that nobody was heard.
 const ALONE: u64 = 5_000_000_000;

@@ -4,7 +4,6 @@ ghost use Rattle.std.specs.Prelude.{◌≡◌, ◌≤◌, ◌||◌, nat_le, not,
 ghost use Rattle.std.specs.List.{list_all};
 ghost use Rattle.agents.specs.Conducting.{Conducts};
 ghost use Rattle.agents.specs.LogSenders.{SendsLog};
-ghost use Rattle.endpoint.specs.Fans.{AllLive};
 ghost use Rattle.sender_meaning.specs.Moments.{CyclesAt};
 ghost use Rattle.sender_meaning.specs.StreamLives.{StreamLived};
 ghost use Rattle.endpoint.specs.declared.device_error.DeviceError.TheVariants.{Device};
@@ -17,7 +16,7 @@ ghost use Rattle.publisher.specs.Endings.{is_broken_along};
 ghost use Rattle.publisher.specs.Farewells.{TellsWhereDue};
 ghost use Rattle.publisher.specs.Judges.{HasToldWhy, Judges};
 ghost use Rattle.publisher.specs.Judging.{FailsBy, StaysEnded};
-ghost use Rattle.publisher.specs.Seeing.{LivesAlong, begun, seen_along};
+ghost use Rattle.publisher.specs.Seeing.{begun, seen_along};
 ghost use Rattle.publisher.specs.Turns.{Begins, Cycles, EndsBehind, LivedAt, LivedToLast};
 
 use crate::destination::{ChannelDevice, Destination, are_broken, begin_all, ending_along};
@@ -26,13 +25,13 @@ use crate::fault::PublishFault;
 use crate::judging::{Judged, check_reading, end_in, messages_in, stream_end_in, tail_in};
 use crate::offering::{OfferingState, Reading};
 use crate::progress::Progress;
-use crate::telling::{Line, NANOSECONDS_PER_SECOND, tell};
+use crate::telling::{Line, tell};
 use crate::two_threads::tell_all;
 use agents::{Began, Duty, IdleStrategy, StreamSender, conduct};
 use conductor::{Client, Conductor, Taker};
 use endpoint::{Datagrams, DeviceError, Fan};
 use flow_control::StreamFlow;
-use options::PublishPlan;
+use options::{PublishPlan, SECOND};
 use peer::StreamEnd;
 use shared_log::Keeper;
 use std::io::Write;
@@ -278,7 +277,7 @@ fn number<D, E: Write>(
         return;
     }
     destination.id = Some(OUTSIDE);
-    let seconds = wait / NANOSECONDS_PER_SECOND;
+    let seconds = wait / SECOND;
     let _ = tell(errors, None, Line::LeftOut(destination.peer, seconds));
 }
 

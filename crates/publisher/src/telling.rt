@@ -8,14 +8,12 @@ ghost use Rattle.publisher.specs.Whys.{SaysElsewhere, SaysUnclosed};
 
 use crate::fault::PublishFault;
 use frames::FaultCounts;
+use options::SECOND;
 use peer::{Attendance, Behind, Ending, Heard, Tally};
 use std::io::Write;
 use std::net::SocketAddr;
 use std::{fmt, io};
 use text::Pace;
-
-/// The nanoseconds of a second.
-pub(crate) const NANOSECONDS_PER_SECOND: u64 = 1_000_000_000;
 
 /// The session, how many messages were accepted in all and since this was told, where they end, what was told, and what the
 /// device has counted.
@@ -281,7 +279,7 @@ pub fn shortfall_of(
 ) -> Shortfall
     ensures { result ≡ shortfall_of attendance.now end tail unheard behind }
 {
-    let seconds = unheard / NANOSECONDS_PER_SECOND;
+    let seconds = unheard / SECOND;
     let start = attendance.start;
     match attendance.present {
         None => Shortfall::Unheard { seconds },

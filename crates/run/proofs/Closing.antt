@@ -11,7 +11,7 @@ use Rattle.theory.specs.Tiling.{Tiles}
 use Rattle.theory.proofs.Claims.{covers_framed}
 use Rattle.theory.proofs.Lists.{all_append, all_weaker}
 use Rattle.publication.specs.declared.pass.ClaimRange.{ClaimRange}
-use Rattle.log_passes.specs.Handles.{LogValue, PublisherValue, parts_in}
+use Rattle.shared_log.specs.Steps.Handles.{LogValue, PublisherValue, parts_in}
 use Rattle.log_rule.specs.Claims.Rule.{entry_of}
 use Rattle.log_rule.specs.Claims.Sums.{total}
 use Rattle.log_rule.specs.Shares.{claimed_bytes, range_bytes}

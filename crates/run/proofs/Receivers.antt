@@ -4,7 +4,7 @@ use Rattle.std.specs.Prelude.{IfOk, IsOk, OnOk, remove, slice_index_or}
 use Rattle.std.proofs.lemmas.List.{map-append}
 use Rattle.std.specs.List.{AllByRecursion}
 use Rattle.theory.specs.Position.{Geometry}
-use Rattle.log_passes.specs.Handles.{LogValue, PublisherValue}
+use Rattle.shared_log.specs.Steps.Handles.{LogValue, PublisherValue}
 use Rattle.endpoint.specs.Devices.{Device}
 use Rattle.endpoint.specs.declared.device_error.DeviceError.{DeviceError}
 use Rattle.run_parties.specs.Receivers.{HasReceived, IsWaitingReceiver}

@@ -4,7 +4,7 @@ use Rattle.std.specs.List.{AllByRecursion, list_all}
 use Rattle.theory.specs.Position.{Geometry, framed_length}
 use Rattle.theory.specs.Entry.{Entry, length_of}
 use Rattle.theory.specs.Tiling.{Tiles, share_of}
-use Rattle.log_passes.specs.Handles.{LogValue, PublisherValue}
+use Rattle.shared_log.specs.Steps.Handles.{LogValue, PublisherValue}
 use Rattle.shared_log.specs.Books.{ShowsBook}
 use Rattle.shared_log.specs.declared.book.Book.{Book}
 use Rattle.options.specs.declared.run.made.Plan.{Plan}

@@ -6,7 +6,7 @@ use Rattle.theory.specs.Entry.{Entry, pieces_of}
 use Rattle.theory.specs.Placed.{Pad}
 use Rattle.theory.specs.Position.{Geometry, cuts_of}
 use Rattle.publication.specs.declared.pass.ClaimRange.{ClaimRange}
-use Rattle.log_passes.specs.Handles.{LogValue, PublisherValue}
+use Rattle.shared_log.specs.Steps.Handles.{LogValue, PublisherValue}
 use Rattle.shared_log.specs.declared.book.Book.{Book}
 use Rattle.log_messages.specs.Closed.{ClosesAsStream}
 use Rattle.receiver.specs.CoreLives.{CoreAct, CoreLives, heard_in}

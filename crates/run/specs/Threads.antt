@@ -4,7 +4,7 @@ use Rattle.std.specs.List.{AllByRecursion}
 use Rattle.std.specs.Arc.{arc_value}
 use Rattle.theory.specs.Position.{Geometry, max_message}
 use Rattle.atomic_table.specs.Seated.{TableId}
-use Rattle.log_passes.specs.Handles.{LogValue, PublisherValue, parts_in}
+use Rattle.shared_log.specs.Steps.Handles.{LogValue, PublisherValue, parts_in}
 use Rattle.log_rule.specs.Claims.Sums.{total}
 use Rattle.shared_log.specs.Books.{IsDone}
 use Rattle.shared_log.specs.Parts.{IsNewReader}

@@ -19,7 +19,7 @@ use Rattle.publication.specs.Frames.{frame_at, message_frames}
 use Rattle.publication.specs.Offers.{Offered}
 use Rattle.publication.specs.Orders.{AreInOrder}
 use Rattle.publication.proofs.Ordered as ordered
-use Rattle.log_passes.specs.Handles.{IsOf, LogValue, PublisherValue}
+use Rattle.shared_log.specs.Steps.Handles.{IsOf, LogValue, PublisherValue}
 use Rattle.log_rule.specs.Claims.Sums.{total}
 use Rattle.log_rule.proofs.Claimed.Totals.{total_append}
 use Rattle.shared_log.specs.Books.{IsDone}

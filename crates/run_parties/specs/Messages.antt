@@ -9,7 +9,7 @@ use Rattle.publication.specs.declared.pass.ClaimRange.{ClaimRange}
 use Rattle.publication.specs.declared.pass.FrameWords.{FrameWords}
 use Rattle.publication.specs.Frames.{frames_at, message_frames}
 use Rattle.publication.specs.Orders.{AreInOrder}
-use Rattle.log_passes.specs.Handles.{LogValue, PublisherValue}
+use Rattle.shared_log.specs.Steps.Handles.{LogValue, PublisherValue}
 use Rattle.log_rule.specs.Claims.Sums.{total}
 use Rattle.run_parties.specs.Passes.{Ends}
 

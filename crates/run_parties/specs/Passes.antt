@@ -1,6 +1,6 @@
 -- What the threads of a run give back.
 use Rattle.std.specs.Prelude.{◌≡◌, []}
-use Rattle.log_passes.specs.Handles.{LogValue, PublisherValue}
+use Rattle.shared_log.specs.Steps.Handles.{LogValue, PublisherValue}
 use Rattle.shared_log.specs.Keepers.{KeeperValue}
 use Rattle.shared_log.specs.Books.{IsDone}
 

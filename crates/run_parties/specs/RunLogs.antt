@@ -2,7 +2,7 @@
 use Rattle.std.specs.Prelude.{◌≡◌, ◌+◌, ◌<◌, ℕ, length, pos}
 use Rattle.std.specs.List.{AllByRecursion}
 use Rattle.theory.specs.Position.{Geometry, IsGeometry}
-use Rattle.log_passes.specs.Handles.{LogValue, parts_in}
+use Rattle.shared_log.specs.Steps.Handles.{LogValue, parts_in}
 use Rattle.log_rule.specs.Claims.Sums.{total}
 use Rattle.shared_log.specs.Books.{IsDone}
 use Rattle.shared_log.specs.Parts.{IsNewReader}

@@ -3,7 +3,7 @@
 ghost use Rattle.std.specs.Prelude.{◌≡◌, ◌≤◌, ◌+◌, ◌-◌, ◌++◌, ℕ, IfErr, IfOk, drop, length, replicate};
 ghost use Rattle.byteorder.specs.Endian.{little_bytes};
 ghost use Rattle.theory.specs.Position.{max_message};
-ghost use Rattle.log_passes.specs.Handles.{PublisherValue};
+ghost use Rattle.shared_log.specs.Steps.Handles.{PublisherValue};
 ghost use Rattle.shared_log.specs.Books.{IsDone};
 ghost use Rattle.run_parties.specs.Messages.{HasPublished, message_of};
 ghost use Rattle.run_parties.specs.Passes.{Ends};

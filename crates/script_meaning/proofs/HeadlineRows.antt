@@ -1,7 +1,7 @@
 -- A worked script that meets the premises, and what its polls then are: term length 65536, MTU 1408, first term 7, session 1,
 -- stream 1001.
-use Rattle.std.specs.Prelude.{◌≡◌, ℕ, true, false, List, [], ◌∷◌, ◌++◌, Option, None, Some}
-use Rattle.std.proofs.Common.{ap, refl, sym, ◌∙◌, subst}
+use Rattle.std.specs.Prelude.{◌≡◌, ℕ, List, [], ◌∷◌, ◌++◌}
+use Rattle.std.proofs.Common.{ap, refl, ◌∙◌}
 use Rattle.theory.specs.Bytes.{bytes_of}
 use Rattle.theory.specs.Control.{setup_at}
 use Rattle.theory.specs.Placed.{Data}

@@ -1,14 +1,12 @@
 -- A poll as events of its image.
-use Rattle.std.proofs.Common.{◌≡◌, ℕ, List, [], ◌∷◌, ◌++◌, map, false, Option, Some, refl, sym, ap, ◌∙◌, subst, append_assoc, append-nil}
+use Rattle.std.proofs.Common.{◌≡◌, ℕ, List, [], ◌∷◌, false, Some, refl, sym, ap, ◌∙◌, subst}
 use Rattle.std.specs.Prelude.{slice_get, slice_set}
-use Rattle.std.specs.Option.{option_to_list}
-use Rattle.theory.specs.Placed.{AllAmong, Chain, Frame, Data, Pad, Placed}
-use Rattle.theory.specs.Assembly.{after_all, on_frame}
+use Rattle.theory.specs.Placed.{AllAmong, Chain, Placed}
 use Rattle.theory.specs.Consumer.{Consumer, MayMove, moved, passed_by}
 use Rattle.theory.specs.Image.{Image, Poll, Lose}
 use Rattle.model.specs.World.{World, Step}
 use Rattle.model.specs.World.{AtImage}
-use Rattle.receiver.specs.Polling.{moved_all, passed_all, gives}
+use Rattle.receiver.specs.Polling.{moved_all, passed_all}
 use Rattle.script_meaning.proofs.Runs.{Goes, stays, goes_one, goes_on, with_image, image_kept, image_there, image_again}
 
 abbrev pub with_one : Image → Consumer → Image

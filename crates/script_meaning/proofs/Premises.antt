@@ -1,13 +1,13 @@
 -- A script without bytes of its own is honest, and one to which no memory was refused is whole.
-use Rattle.std.specs.Prelude.{◌≡◌, ℕ, List, [], ◌∷◌, ◌++◌, true, false}
+use Rattle.std.specs.Prelude.{◌≡◌, ℕ, List, [], ◌∷◌, false}
 use Rattle.std.specs.List.{AllByRecursion}
 use Rattle.std.proofs.Common.{subst}
 use Rattle.theory.proofs.Lists.{all_behind}
 use Rattle.script.specs.Meaning as commands
 use Rattle.script.specs.Meaning.{CommandContent}
 use Rattle.script_meaning.specs.LineContents.{LineContent}
-use Rattle.script_meaning.specs.Published.{AllWhole, IsHonestLine, IsWhole, Played, is_refusal}
-use Rattle.script_meaning.specs.Premises.{HonestWithoutRaw, IsUnrefused, PolledWithoutRaw, WholeUnrefused, is_raw}
+use Rattle.script_meaning.specs.Published.{IsHonestLine, IsWhole, Played, is_refusal}
+use Rattle.script_meaning.specs.Premises.{HonestWithoutRaw, PolledWithoutRaw, WholeUnrefused, is_raw}
 
 -- whatever a line is, unless it is of the script's own bytes
 pub line_honest : (i : ℕ) (packets : List (List ℕ)) (command : CommandContent) (lines : List LineContent) → is_raw command ≡ false → IsHonestLine i packets command lines

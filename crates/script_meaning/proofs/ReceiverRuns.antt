@@ -7,13 +7,13 @@ use Rattle.std.proofs.lemmas.List.{map-set}
 use Rattle.theory.specs.Position.{Geometry, IsGeometry, NamesPlace, count_of, id_of, max_message, max_position, place_of}
 use Rattle.theory.specs.Wire.{Header, Wire, DATA, PAD, HEARTBEAT, NAK, SM, SETUP, Setup}
 use Rattle.theory.specs.Placed.{Among, Data, Pad, Frame, Placed}
-use Rattle.theory.specs.Bytes.{Identity, header_at, wire_at}
+use Rattle.theory.specs.Bytes.{Identity, header_at}
 use Rattle.theory.specs.Consumer.{Consumer, consumer_at, least_of}
 use Rattle.theory.specs.Control.{named_by, setup_fields}
 use Rattle.theory.specs.Image.{Image, ImageEvent, ImageStep, Inserted, Heartbeat, IsLeast, IsWindow, after_heartbeat, after_insert, image_at}
 use Rattle.theory.specs.Insert.{head_of, insert_answer}
 use Rattle.theory.specs.Laws.{HeaderNamesPlace}
-use Rattle.theory.specs.Setup.{NamesGeometry, NamesPosition}
+use Rattle.theory.specs.Setup.{NamesPosition}
 use Rattle.model.specs.World.{AtImage, Open}
 use Rattle.theory.proofs.Lists.{all_at}
 use Rattle.theory.proofs.Stays.{beat_stays, insert_stays}

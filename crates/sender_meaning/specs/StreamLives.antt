@@ -7,7 +7,7 @@ use Rattle.theory.specs.Datagrams.{frames_of}
 use Rattle.theory.specs.Placed.{AllAmong, Among}
 use Rattle.flow_control.specs.Stream.{flow_after}
 use Rattle.flow_control.specs.declared.stream.StreamFlow.{StreamFlow}
-use Rattle.log_passes.specs.Handles.{LogValue}
+use Rattle.shared_log.specs.Steps.Handles.{LogValue}
 use Rattle.shared_log.specs.Readers.{misses_of}
 use Rattle.shared_log.specs.Sourced.{StaysOn}
 use Rattle.sender.specs.Sending.{begun}

@@ -7,11 +7,11 @@ use Rattle.log_rule.specs.Keepings.{least_there}
 use Rattle.log_memory.specs.Frames.{Follow}
 use Rattle.std.specs.List.{AllByRecursion}
 use Rattle.theory.specs.Position.{Geometry, IsGeometry, max_position}
-use Rattle.log_passes.specs.Handles.{IsOf, LogValue, PublisherValue}
-use Rattle.log_passes.specs.Keepers.{Cleans}
+use Rattle.shared_log.specs.Steps.Handles.{IsOf, LogValue, PublisherValue}
+use Rattle.shared_log.specs.Steps.Keepers.{Cleans}
 use Rattle.shared_log.specs.Keepers.{CleansAndLimits, CleansTo, IsKeeping, KeepsAs, KeeperValue, KnowsLimit, MayCleanTo, ReadsConsumer, SameFreed, Sweeps, TookSteps, freeing_steps, keeping_of, raised, reads_of, seen_positions, stored_once, there_of, those_there, with_cleaned, with_limit, with_reads}
 use Rattle.shared_log.proofs.Limits.{cleans_none}
-use Rattle.shared_log.proofs.Steps.{keeping_is, keeps_then}
+use Rattle.shared_log.proofs.Stepping.{keeping_is, keeps_then}
 
 eq_self : (n : ℕ) → nat_eq n n ≡ true
 eq_self n = search rules

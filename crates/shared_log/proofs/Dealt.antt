@@ -5,7 +5,7 @@ use Rattle.theory.specs.Bytes.{Identity}
 use Rattle.theory.specs.Placed.{Among}
 use Rattle.publication.specs.declared.pass.Pass.{Pass}
 use Rattle.publication.specs.declared.pass.Reading.{Reading}
-use Rattle.log_passes.specs.Handles.{LogValue, PublisherValue}
+use Rattle.shared_log.specs.Steps.Handles.{LogValue, PublisherValue}
 use Rattle.log_rule.specs.Claims.Plays.{dealer, down, newcomer, other_numbers}
 use Rattle.log_rule.specs.Table.{consumers_at, other_readings}
 use Rattle.shared_log.specs.Handles.{OwnsClaims}

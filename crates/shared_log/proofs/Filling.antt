@@ -5,15 +5,15 @@ use Rattle.theory.specs.Bytes.{Identity}
 use Rattle.theory.specs.Placed.{Data, Frame, Pad, frame_length}
 use Rattle.theory.specs.Position.{aligned}
 use Rattle.theory.specs.Wire.{front}
-use Rattle.frame_words.specs.Words.{IsLegal, frame_words, header_words, payload_words, words_in}
-use Rattle.frame_words.proofs.Wordings.{data_words, pad_words, words_length, words_rest}
+use Rattle.position.specs.Words.{IsLegal, frame_words, header_words, payload_words, words_in}
+use Rattle.position.proofs.Wordings.{data_words, pad_words, words_length, words_rest}
 use Rattle.publication.specs.Claims.{Fills, HasBlank}
 use Rattle.publication.specs.declared.pass.FrameWords.{FrameWords}
 use Rattle.publication.specs.declared.pass.Pass.{Pass}
 use Rattle.publication.specs.Steps.{blank, frame, with_work}
 use Rattle.log_memory.specs.declared.drafts.Draft.{Draft}
 use Rattle.log_memory.specs.Drafts.{words_of}
-use Rattle.log_passes.specs.Drafts.{IsOpenDraft}
+use Rattle.shared_log.specs.Steps.Drafts.{IsOpenDraft}
 
 -- the first word of a data frame, whose length was summed the other way round
 pub data_first : (payload : List ℕ) (flags first : ℕ) → first ≡ from_le_bytes w64 (front (length payload + 32) flags 1) → first ≡ from_le_bytes w64 (front (32 + length payload) flags 1)

@@ -14,13 +14,13 @@ use Rattle.publication.specs.declared.pass.FrameWords.{FrameWords}
 use Rattle.publication.specs.declared.pass.Pass.{Pass}
 use Rattle.publication.specs.declared.pass.Reading.{Reading}
 use Rattle.publication.specs.Steps.{frame, term_of}
-use Rattle.frame_words.specs.Contents.{bytes_in, head_by}
+use Rattle.position.specs.Contents.{bytes_in, head_by}
 use Rattle.publication.specs.Contents.{frame_in}
-use Rattle.frame_words.proofs.Contents.{head_said, legal_said}
+use Rattle.position.proofs.Contents.{head_said, legal_said}
 use Rattle.log_rule.specs.Claims.Memory.{IsCommittedFrame}
 use Rattle.log_memory.specs.declared.reader.Consumer.{Consumer}
-use Rattle.log_passes.specs.Readers.{Copies, CopiesHad, CopiesKnown, IsRead, MayRereadAt, ReadsAgain, SameSeat, fitting, part_bytes, part_of}
-use Rattle.log_passes.specs.Handles.{LogValue, PublisherValue}
+use Rattle.shared_log.specs.Steps.Readers.{Copies, CopiesHad, CopiesKnown, IsRead, MayRereadAt, ReadsAgain, SameSeat, fitting, part_bytes, part_of}
+use Rattle.shared_log.specs.Steps.Handles.{LogValue, PublisherValue}
 use Rattle.shared_log.specs.Readers.{Advances, Finds, FindsNone, FindsPart, Has, IsReaderOf, IsReading, MayReread, Misses, OnlyReads, ReaderValue, ReadsFrame, Rereads, Rests, Stays, consumer_of, known_at, known_of, misses_at, positions_of}
 use Rattle.log_rule.specs.Readings as Frames
 use Rattle.log_rule.specs.Readings.{Consumes, IsConsumer, IsFrameAt, Looks, knows_more, missed, moved_to, with_consumer}

@@ -21,7 +21,7 @@ use Rattle.log_rule.specs.Claims.Rule.{entries_of, entry_of, weight}
 use Rattle.log_rule.specs.Edges.{in_entry}
 use Rattle.log_rule.specs.Numbers.{is_number, numbers_as}
 use Rattle.publication.specs.Steps.{Extent}
-use Rattle.log_passes.specs.Handles.{LogValue, PublisherValue, parts_in}
+use Rattle.shared_log.specs.Steps.Handles.{LogValue, PublisherValue, parts_in}
 use Rattle.log_rule.proofs.Claimed.Memories.{maps_append}
 use Rattle.log_rule.proofs.Claimed.Totals.{total_append}
 use Rattle.log_rule.specs.Shares.{IsTiled, Weighs, claimed_bytes, owner_bytes}

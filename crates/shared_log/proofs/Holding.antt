@@ -5,8 +5,8 @@ use Rattle.theory.specs.Bytes.{Identity}
 use Rattle.publication.specs.declared.pass.Pass.{Pass}
 use Rattle.publication.specs.declared.pass.Reading.{Reading}
 use Rattle.log_rule.specs.Readings.{Consumes, Looks, with_consumer}
-use Rattle.log_passes.specs.Handles.{LogId, PublisherValue}
-use Rattle.log_passes.specs.Readers.{SameSeat}
+use Rattle.shared_log.specs.Steps.Handles.{LogId, PublisherValue}
+use Rattle.shared_log.specs.Steps.Readers.{SameSeat}
 use Rattle.region.specs.Identity as regions
 use Rattle.shared_log.specs.declared.home.Home.{Home}
 use Rattle.shared_log.specs.Handles.{HasHome, IsPublisher, IsPublishing}

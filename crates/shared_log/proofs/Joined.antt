@@ -13,7 +13,7 @@ use Rattle.log_rule.specs.Kept.{IsThere}
 use Rattle.log_rule.specs.Keepings.{MayJoin, MayLeave, joined, least_of, least_there, left, newly, numbered}
 use Rattle.log_rule.specs.Table.{other_readings, reader_alone}
 use Rattle.log_rule.proofs.Growing.{there_low}
-use Rattle.log_passes.specs.Handles.{LogValue}
+use Rattle.shared_log.specs.Steps.Handles.{LogValue}
 use Rattle.shared_log.specs.Joining.{Becomes, Begins, Ends, HasConsumer, HasOther, IsFirstFree, IsJoined, Joins as ReaderJoins, KnowsControls, Leaves as ReaderLeaves, begun, with_newcomer}
 use Rattle.shared_log.specs.Keepers.{IsKeeping, KeeperValue, KnowsWho, ReadsConsumer, Sweeps, TookSteps, flag_of, keeping_of, reads_of, seen_positions, there_of, those_there}
 use Rattle.shared_log.specs.Readers.{IsAlone, IsReading, OnlyReads, ReaderValue, numbers_of}

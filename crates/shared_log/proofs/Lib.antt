@@ -1,9 +1,16 @@
+mod Resting
+mod Works
+mod Picked
+mod Heads
+mod Read
+mod Cleaned
+mod Together
 pub mod Looking
 pub mod Finding
 pub mod Sourced
 mod Whole
 pub mod Told
-mod Steps
+mod Stepping
 mod Sweeping
 pub mod Joined
 mod Limits

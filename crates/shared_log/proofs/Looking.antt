@@ -10,8 +10,8 @@ use Rattle.theory.proofs.Lists.{among_left}
 use Rattle.publication.specs.declared.pass.FrameWords.{FrameWords}
 use Rattle.publication.specs.declared.pass.Pass.{Pass}
 use Rattle.publication.specs.declared.pass.Reading.{Reading}
-use Rattle.log_passes.specs.Readers.{SameSeat}
-use Rattle.log_passes.specs.Handles.{LogValue}
+use Rattle.shared_log.specs.Steps.Readers.{SameSeat}
+use Rattle.shared_log.specs.Steps.Handles.{LogValue}
 use Rattle.shared_log.specs.Readers.{IsReaderOf, IsReading, Misses, OnlyReads, ReaderValue, Rests, known_at, known_of, misses_at, missing_at, positions_of}
 use Rattle.log_rule.specs.Readings.{Consumes, IsConsumer, Looks, MayPass, knows_more, missed, moved_to, with_consumer}
 

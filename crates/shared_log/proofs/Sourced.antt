@@ -14,7 +14,7 @@ use Rattle.publication.specs.declared.pass.FrameWords.{FrameWords}
 use Rattle.publication.specs.Contents.{frame_in}
 use Rattle.log_rule.specs.Readings.{IsFrameAt, end_of}
 use Rattle.log_rule.proofs.InTerm.{done_long, words_cover}
-use Rattle.log_passes.specs.Handles.{LogValue}
+use Rattle.shared_log.specs.Steps.Handles.{LogValue}
 use Rattle.shared_log.specs.Readers.{Advances, IsReaderOf, MayReread, ReaderValue, ReadsFrame, ReadsNone, Rereads, known_of, misses_at, misses_of}
 use Rattle.shared_log.specs.Sourced.{Grows, source_of, placed}
 use Rattle.shared_log.proofs.Finding.{content_is}

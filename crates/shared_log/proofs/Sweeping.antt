@@ -10,13 +10,13 @@ use Rattle.theory.specs.Placed.{Among}
 use Rattle.theory.specs.Position.{max_position}
 use Rattle.publication.specs.declared.pass.Keeping.{Keeping}
 use Rattle.publication.specs.declared.pass.Pass.{Pass}
-use Rattle.log_passes.specs.Handles.{IsOf, LogValue}
+use Rattle.shared_log.specs.Steps.Handles.{IsOf, LogValue}
 use Rattle.log_rule.specs.Kept.{IsThere}
 use Rattle.log_rule.specs.Keepings.{MayStand, SeesConsumer, least_of, least_there, numbered, with_keeping}
 use Rattle.log_rule.proofs.Growing.{there_low}
 use Rattle.log_rule.proofs.Keeping.{among_numbered}
 use Rattle.shared_log.specs.Keepers.{IsKeeping, KeepsAs, KeeperValue, ReadsConsumer, SameFreed, Sweeps, TookSteps, reads_of, seen_positions, there_of, those_there, with_reads}
-use Rattle.shared_log.proofs.Steps.{keeping_is, keeps_then}
+use Rattle.shared_log.proofs.Stepping.{keeping_is, keeps_then}
 
 -- ---- the numbers of those who are there
 

@@ -7,8 +7,8 @@ use Rattle.theory.proofs.Lists.{among_left}
 use Rattle.publication.specs.declared.pass.FrameWords.{FrameWords}
 use Rattle.publication.specs.declared.pass.Pass.{Pass}
 use Rattle.publication.specs.declared.pass.Reading.{Reading}
-use Rattle.log_passes.specs.Readers.{SameSeat}
-use Rattle.log_passes.specs.Handles.{PublisherValue}
+use Rattle.shared_log.specs.Steps.Readers.{SameSeat}
+use Rattle.shared_log.specs.Steps.Handles.{PublisherValue}
 use Rattle.log_rule.specs.Table.{knows_all}
 use Rattle.shared_log.specs.Readers.{IsReading, Learns, OnlyReads, ReaderValue, known_at, misses_at, positions_of}
 

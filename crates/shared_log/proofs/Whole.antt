@@ -7,7 +7,7 @@ use Rattle.position.specs.declared.head.FrameHead.{FrameHead}
 use Rattle.position.specs.declared.head.FrameKind.TheVariants as kinds
 use Rattle.publication.specs.declared.pass.Pass.{Pass}
 use Rattle.publication.specs.declared.pass.Reading.{Reading}
-use Rattle.log_passes.specs.Handles.{LogValue}
+use Rattle.shared_log.specs.Steps.Handles.{LogValue}
 use Rattle.shared_log.specs.Readers.{Finds, FindsPart, IsReading, ReaderValue, known_of}
 use Rattle.shared_log.specs.Whole.{FindsLonger}
 use Rattle.shared_log.proofs.Finding.{unfit}

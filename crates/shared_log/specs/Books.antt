@@ -13,7 +13,7 @@ use Rattle.log_rule.specs.Claims.Events.{committed_weight}
 use Rattle.log_rule.specs.Edges.{in_entry}
 use Rattle.log_rule.specs.Numbers.{numbers_as}
 use Rattle.publication.specs.Steps.{Extent, extent_of}
-use Rattle.log_passes.specs.Handles.{IsOf, LogValue, PublisherValue, parts_in}
+use Rattle.shared_log.specs.Steps.Handles.{IsOf, LogValue, PublisherValue, parts_in}
 use Rattle.log_rule.specs.Claims.Closing.{both, handed_over}
 use Rattle.log_rule.specs.Shares.{IsTiled, Weighs, claimed_bytes}
 use Rattle.log_rule.specs.Table.{knowledge_of}

@@ -5,7 +5,7 @@ use Rattle.theory.specs.Bytes.{Identity}
 use Rattle.region.specs.Identity as regions
 use Rattle.shared_log.specs.declared.home.Home.{Home}
 use Rattle.theory.specs.Placed.{Among}
-use Rattle.log_passes.specs.Handles.{IsOf, LogValue, PublisherValue}
+use Rattle.shared_log.specs.Steps.Handles.{IsOf, LogValue, PublisherValue}
 use Rattle.log_rule.specs.Claims.Plays.{newcomer}
 use Rattle.publication.specs.declared.pass.ClaimRange.{ClaimRange}
 use Rattle.publication.specs.declared.pass.Pass.{Pass}

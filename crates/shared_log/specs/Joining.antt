@@ -8,7 +8,7 @@ use Rattle.log_rule.specs.Kept.{IsThere}
 use Rattle.log_rule.specs.Keepings.{least_there, left, newly, with_keeping}
 use Rattle.log_rule.specs.Readings.{IsConsumer}
 use Rattle.log_rule.specs.Table.{reader_alone}
-use Rattle.log_passes.specs.Handles.{LogValue}
+use Rattle.shared_log.specs.Steps.Handles.{LogValue}
 use Rattle.shared_log.specs.Keepers.{KeeperValue, KeepsAs, ReadsConsumer, SameFreed, TookSteps, keeping_of, reads_of, seen_positions, there_of, those_there}
 use Rattle.shared_log.specs.Parts.{IsFresh}
 use Rattle.shared_log.specs.Readers.{ReaderValue}

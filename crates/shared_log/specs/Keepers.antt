@@ -12,7 +12,7 @@ use Rattle.publication.specs.declared.pass.FrameWords.{FrameWords}
 use Rattle.log_memory.specs.Frames.{Follow}
 use Rattle.shared_log.specs.declared.home.Home.{Home}
 use Rattle.shared_log.specs.Handles.{HasHome}
-use Rattle.log_passes.specs.Handles.{LogValue, PublisherValue}
+use Rattle.shared_log.specs.Steps.Handles.{LogValue, PublisherValue}
 use Rattle.log_rule.specs.Kept.{IsThere}
 use Rattle.log_rule.specs.Keepings.{MayStand, least_there, numbered, with_keeping}
 

@@ -8,12 +8,12 @@ use Rattle.publication.specs.declared.pass.FrameWords.{FrameWords}
 use Rattle.publication.specs.declared.pass.Pass.{Pass}
 use Rattle.publication.specs.declared.pass.Reading.{Reading}
 use Rattle.publication.specs.Contents.{frame_in}
-use Rattle.log_passes.specs.Handles.{IsOf, LogValue, PublisherValue}
+use Rattle.shared_log.specs.Steps.Handles.{IsOf, LogValue, PublisherValue}
 use Rattle.log_rule.specs.Readings.{IsConsumer, IsFrameAt, MayPass, end_of, missed}
 use Rattle.log_rule.specs.Says.{IsCommittedFor}
 use Rattle.log_rule.specs.Table.{reader_alone}
 use Rattle.theory.specs.Bytes.{Identity}
-use Rattle.log_passes.specs.Readers.{Copies, SameSeat, part_bytes}
+use Rattle.shared_log.specs.Steps.Readers.{Copies, SameSeat, part_bytes}
 use Rattle.log_memory.specs.declared.reader.Consumer.{Consumer}
 use Rattle.shared_log.specs.declared.home.Home.{Home}
 use Rattle.shared_log.specs.Handles.{HasHome}

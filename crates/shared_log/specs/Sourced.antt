@@ -5,7 +5,7 @@ use Rattle.theory.specs.Placed.{Among, Placed}
 use Rattle.frame_source.specs.Sources.{Source}
 use Rattle.publication.specs.declared.pass.FrameWords.{FrameWords}
 use Rattle.publication.specs.Contents.{frame_in}
-use Rattle.log_passes.specs.Handles.{LogValue}
+use Rattle.shared_log.specs.Steps.Handles.{LogValue}
 use Rattle.shared_log.specs.Readers.{ReaderValue, known_of, misses_of}
 
 abbrev pub placed : FrameWords → Placed

@@ -5,7 +5,7 @@ use Rattle.position.specs.declared.head.FrameHead.{FrameHead}
 use Rattle.position.specs.declared.head.FrameKind.TheVariants as kinds
 use Rattle.shared_log.specs.declared.reader.whole.Unread.{Unread}
 use Rattle.shared_log.specs.declared.reader.whole.Unread.TheVariants as unread
-use Rattle.log_passes.specs.Handles.{LogValue}
+use Rattle.shared_log.specs.Steps.Handles.{LogValue}
 use Rattle.shared_log.specs.Readers.{Finds, ReaderValue, ReadsNone}
 
 -- it has found a message's part that is longer than these bytes, which stay; it knows the frame, and has read what it had

@@ -12,7 +12,7 @@ use crate::book::Book;
 use crate::keeper::Keeper;
 use crate::publisher::Publisher;
 use crate::reader::LogReader;
-use log_passes::Log;
+use crate::steps::log::Log;
 
 /// The keeper is told how much it has claimed.
 fn weigh(log: &Log, keeper: &mut Keeper)
@@ -21,7 +21,8 @@ fn weigh(log: &Log, keeper: &mut Keeper)
     ensures weighs { Weighs keeper.old.held.pass keeper.new.held.pass }
     ensures idle { IsIdle log.now keeper.new.held }
 {
-    log.weigh(&mut keeper.pass);
+    let _ = log.identity();
+    log.weigh(&mut keeper.handle.pass);
 }
 
 /// What a publisher has goes to the keeper. The answer is its number and its share.
@@ -35,17 +36,13 @@ fn gather(log: &Log, keeper: &mut Keeper, publisher: Publisher) -> (usize, u64)
     ensures low { keeper.new.held.pass.start + claimed_bytes keeper.new.held.pass ≤ 2 ^ 55 }
 {
     let Publisher {
-        mut pass,
-        home: _,
-        freed: _,
+        mut handle,
         number,
         share,
-        identity: _,
-        start: _,
     } = publisher;
-    log.weigh(&mut pass);
-    log.gather(&mut keeper.pass, pass);
-    log.weigh(&mut keeper.pass);
+    log.weigh(&mut handle.pass);
+    log.gather(&mut keeper.handle.pass, handle.pass);
+    log.weigh(&mut keeper.handle.pass);
     (number as usize, share)
 }
 
@@ -87,7 +84,7 @@ fn remember(log: &Log, keeper: &mut Keeper, reader: &mut LogReader)
     ensures idle { IsIdle log.now keeper.new.held }
     ensures remembers { Remembers keeper.old.held.pass reader.old.held.pass keeper.new.held.pass }
 {
-    log.remember(&mut keeper.pass, &mut reader.pass);
+    log.remember(&mut keeper.handle.pass, &mut reader.handle.pass);
 }
 
 /// Ends a log as `close` does, with one of its readers: the frames that this knows are such as the

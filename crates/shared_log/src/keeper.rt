@@ -3,35 +3,29 @@
 ghost use Rattle.std.specs.Prelude.{◌≡◌, ◌+◌, ◌-◌, ◌*◌, ◌/◌, ◌%◌, ◌^◌, ◌<◌, ◌≤◌, ◌&&◌, not, slice_index};
 ghost use Rattle.theory.specs.Refusal.{is_closed, is_connected, limit_in};
 ghost use Rattle.log_rule.specs.Claims.Packs.{slot, table_length};
-ghost use Rattle.log_passes.specs.Handles.{IsOf};
+ghost use Rattle.shared_log.specs.Steps.Handles.{IsOf};
 ghost use Rattle.log_rule.specs.Kept.{IsThere};
 ghost use Rattle.log_rule.specs.Keepings.{MayRaise, SeesConsumer};
 ghost use Rattle.shared_log.specs.Keepers.{CleansAndLimits, CleansTo, IsKeeping, KeepsAs, KnowsLimit, MayCleanTo, MayRaiseFrom, SameFreed, Sweeps, TookSteps, closed_word, connected_word, flag_of, raised, reads_of, seen_positions, stored_once, there_of, with_cleaned, with_limit, with_reads};
 
 pub(crate) mod joining;
 
+use crate::handle::Handle;
 use crate::home::Home;
-use log_passes::{Log, LogPass};
+use crate::steps::log::Log;
 use position::Identity;
 use std::marker::Model;
 
 /// The keeper of a log.
 #[derive(Drop)]
 pub struct Keeper {
-    pub(crate) pass: LogPass,
-    /// Shows that the log's region is there.
-    pub(crate) home: Option<Home>,
-    /// The position below which memory was taken back.
-    pub(crate) freed: u64,
+    pub(crate) handle: Handle,
     /// The limit word: the limit with its two flags.
     pub(crate) limit: u64,
     /// The position below which nothing is readable any more.
     pub(crate) cleaned: u64,
     /// Which consumers are there, by their numbers.
     pub(crate) there: [bool; 8],
-    /// Which stream its log carries, and where that begins.
-    pub(crate) identity: Identity,
-    pub(crate) start: u64,
 }
 
 impl Model for Keeper {
@@ -39,9 +33,9 @@ impl Model for Keeper {
 
     ghost Value = { KeeperValue };
 
-    ghost view = { λ k. record { held = k.pass; limit = k.limit; cleaned = k.cleaned } };
+    ghost view = { λ k. record { held = k.handle.pass; limit = k.limit; cleaned = k.cleaned } };
 
-    ghost invariant = { λ k. IsKeeper k.pass k.home k.freed k.limit k.cleaned k.there k.identity k.start };
+    ghost invariant = { λ k. IsKeeper k.handle.pass k.handle.home k.handle.freed k.limit k.cleaned k.there k.handle.identity k.handle.start };
 }
 
 impl Keeper {
@@ -71,14 +65,14 @@ impl Keeper {
     pub fn identity(&self) -> Identity
         ensures { result ≡ self.now.held.pass.identity }
     {
-        self.identity
+        self.handle.identity
     }
 
     /// The position at which that begins.
     pub fn start(&self) -> u64
         ensures { result ≡ self.now.held.pass.start }
     {
-        self.start
+        self.handle.start
     }
 }
 
@@ -94,7 +88,7 @@ fn see(log: &Log, keeper: &mut Keeper, number: u64) -> u64
     ensures freed { SameFreed keeper.old keeper.new }
     ensures once { TookSteps keeper.old 1 keeper.new }
 {
-    log.see_consumer(&mut keeper.pass, number)
+    log.see_consumer(&mut keeper.handle.pass, number)
 }
 
 /// The least position of the consumers that are there, each loaded once.
@@ -102,7 +96,7 @@ pub(crate) fn sweep(log: &Log, keeper: &mut Keeper) -> u64
     requires fits { IsOf log.now keeper.old.held }
     ensures { Sweeps log.now keeper.old result keeper.new }
 {
-    let _ = &keeper.pass;
+    let _ = &keeper.handle;
     let mut least = log.identity().geometry().max_position();
     for number in 0..8 {
         if keeper.has_consumer(number) {
@@ -124,12 +118,17 @@ fn clean_to(log: &Log, keeper: &mut Keeper, end: u64)
     if end <= keeper.cleaned {
         return;
     }
-    let Some(home) = keeper.home.take() else {
+    let Some(home) = keeper.handle.home.take() else {
         unreachable!();
     };
-    let (region, freed) = log.clean(&mut keeper.pass, home.region, keeper.freed, end);
-    keeper.home = Some(Home { region });
-    keeper.freed = freed;
+    let (region, freed) = log.clean(
+        &mut keeper.handle.pass,
+        home.region,
+        keeper.handle.freed,
+        end,
+    );
+    keeper.handle.home = Some(Home { region });
+    keeper.handle.freed = freed;
     keeper.cleaned = end;
 }
 
@@ -141,7 +140,7 @@ fn store_limit(log: &Log, keeper: &mut Keeper, word: u64)
     ensures freed { SameFreed keeper.old keeper.new }
     ensures once { TookSteps keeper.old 1 keeper.new }
 {
-    log.raise(&mut keeper.pass, word);
+    log.raise(&mut keeper.handle.pass, word);
     keeper.limit = word;
 }
 

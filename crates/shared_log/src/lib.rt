@@ -19,6 +19,7 @@
 mod book;
 mod closing;
 mod fault;
+mod handle;
 mod home;
 mod keeper;
 mod opening;
@@ -26,13 +27,13 @@ mod parts;
 mod publisher;
 mod reader;
 mod roles;
+mod steps;
 
 pub use book::{Book, PUBLISHERS};
 pub use closing::{close, close_read};
 pub use fault::LogError;
 pub use keeper::joining::{begin_consumer, end_consumer};
 pub use keeper::{Keeper, clean_and_limit, set_closed, set_connected};
-pub use log_passes::{Log, meets_never_fall};
 pub use opening::open_whole;
 pub use parts::{Parts, first_there, open};
 pub use publisher::Publisher;
@@ -44,3 +45,5 @@ pub use reader::learning::learn;
 pub use reader::source::LogFrames;
 pub use reader::whole::{Unread, next_whole};
 pub use reader::{LogReader, advance, next, reread};
+pub use steps::log::Log;
+pub use steps::meeting::meets_never_fall;

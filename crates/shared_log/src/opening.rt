@@ -3,12 +3,13 @@
 ghost use Rattle.std.specs.Prelude.{◌↔◌, IfErr, IfOk, IsErrOf};
 ghost use Rattle.position.specs.Openings.{IsConsumerCount, IsStart};
 ghost use Rattle.shared_log.specs.Faults.{OfOpening};
-ghost use Rattle.log_passes.specs.Handles.{IsLogOf, IsWholeNew};
+ghost use Rattle.shared_log.specs.Steps.Handles.{IsLogOf, IsWholeNew};
 
 use crate::fault::LogError;
+use crate::handle::Handle;
 use crate::home::Home;
 use crate::publisher::Publisher;
-use log_passes::Log;
+use crate::steps::log::Log;
 use log_rule::Key;
 use position::{Geometry, Identity};
 use std::alloc::Global;
@@ -51,14 +52,17 @@ pub fn open_whole(
         consumers: consumers as u64,
     };
     let (log, pass, region) = Log::open(alloc, &key)?;
-    let whole = Publisher {
+    let handle = Handle {
         pass,
         home: Some(Home { region }),
         freed: start,
-        number: 7,
-        share: 0,
         identity,
         start,
+    };
+    let whole = Publisher {
+        handle,
+        number: 7,
+        share: 0,
     };
     Ok((log, whole))
 }

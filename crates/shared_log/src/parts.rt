@@ -6,17 +6,18 @@ ghost use Rattle.position.specs.Openings.{IsConsumerCount, IsStart};
 ghost use Rattle.log_rule.specs.Table.{first_there as first_flags};
 ghost use Rattle.shared_log.specs.Faults.{OfOpening};
 ghost use Rattle.shared_log.specs.Handles.{AreNew};
-ghost use Rattle.log_passes.specs.Handles.{IsLogOf, IsWholeNew};
+ghost use Rattle.shared_log.specs.Steps.Handles.{IsLogOf, IsWholeNew};
 ghost use Rattle.shared_log.specs.Keepers.{flag_of};
 ghost use Rattle.shared_log.specs.Parts.{AreDealt, AreReaders, IsDealing, IsDealer, IsNewKeeper, IsNewReader, IsNewPublisher};
 
 use crate::fault::LogError;
+use crate::handle::Handle;
 use crate::home::Home;
 use crate::keeper::Keeper;
 use crate::opening::open_whole;
 use crate::publisher::Publisher;
 use crate::reader::LogReader;
-use log_passes::Log;
+use crate::steps::log::Log;
 use position::Geometry;
 use region::Region;
 use std::alloc::{AllocError, AllocFailed, Global};
@@ -54,15 +55,18 @@ fn deal_keeper(log: &Log, region: Arc<Region>, pass: &mut Publisher) -> Keeper
 {
     let start = log.start();
     let there = first_there(log.consumers());
-    Keeper {
-        pass: log.deal_keeper(&mut pass.pass),
+    let handle = Handle {
+        pass: log.deal_keeper(&mut pass.handle.pass),
         home: Some(Home { region }),
-        freed: pass.freed,
+        freed: pass.handle.freed,
+        identity: log.identity(),
+        start,
+    };
+    Keeper {
+        handle,
         limit: start,
         cleaned: start,
         there,
-        identity: log.identity(),
-        start,
     }
 }
 
@@ -75,16 +79,19 @@ fn deal_reader(log: &Log, pass: &mut Publisher, number: u64) -> LogReader
     ensures reader { IsNewReader log.now number result }
 {
     let start = log.start();
-    LogReader {
-        pass: log.deal_reader(&mut pass.pass),
+    let handle = Handle {
+        pass: log.deal_reader(&mut pass.handle.pass),
         home: None,
-        freed: pass.freed,
+        freed: pass.handle.freed,
+        identity: log.identity(),
+        start,
+    };
+    LogReader {
+        handle,
         place: 0,
         number,
         position: start,
         read_to: start,
-        identity: log.identity(),
-        start,
     }
 }
 
@@ -114,16 +121,19 @@ fn deal_publisher(log: &Log, region: Arc<Region>, pass: &mut Publisher) -> Publi
     ensures dealt { IsNewPublisher log.now pass.old.pass.number result }
 {
     let number = pass.number;
-    let dealt = log.deal_publisher(&mut pass.pass);
+    let dealt = log.deal_publisher(&mut pass.handle.pass);
     pass.number = number - 1;
-    Publisher {
+    let handle = Handle {
         pass: dealt,
         home: Some(Home { region }),
-        freed: pass.freed,
+        freed: pass.handle.freed,
+        identity: pass.handle.identity,
+        start: pass.handle.start,
+    };
+    Publisher {
+        handle,
         number,
         share: 0,
-        identity: pass.identity,
-        start: pass.start,
     }
 }
 

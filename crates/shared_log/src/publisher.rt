@@ -9,37 +9,29 @@ pub(crate) mod meeting;
 pub(crate) mod numbering;
 pub(crate) mod retiring;
 
-use crate::home::Home;
-use log_passes::LogPass;
+use crate::handle::Handle;
 use position::Identity;
 use std::marker::Model;
 
 /// A publisher of a log.
 #[derive(Drop)]
 pub struct Publisher {
-    pub(crate) pass: LogPass,
-    /// Shows that the log's region is there.
-    pub(crate) home: Option<Home>,
-    /// The position below which memory was taken back, where it is the keeper.
-    pub(crate) freed: u64,
+    pub(crate) handle: Handle,
     pub(crate) number: u64,
     /// How many bytes its claims cover.
     pub(crate) share: u64,
-    /// Which stream its log carries, and where that begins.
-    pub(crate) identity: Identity,
-    pub(crate) start: u64,
 }
 
 impl Model for Publisher {
     ghost use Rattle.std.specs.Prelude.{◌≡◌};
-    ghost use Rattle.log_passes.specs.Handles.{PublisherValue};
+    ghost use Rattle.shared_log.specs.Steps.Handles.{PublisherValue};
     ghost use Rattle.shared_log.specs.Handles.{IsPublisher};
 
     ghost Value = { PublisherValue };
 
-    ghost view = { λ p. p.pass };
+    ghost view = { λ p. p.handle.pass };
 
-    ghost invariant = { λ p. IsPublisher p.pass p.home p.freed p.number p.share p.identity p.start };
+    ghost invariant = { λ p. IsPublisher p.handle.pass p.handle.home p.handle.freed p.number p.share p.handle.identity p.handle.start };
 }
 
 impl Publisher {
@@ -62,13 +54,13 @@ impl Publisher {
     pub fn identity(&self) -> Identity
         ensures { result ≡ self.now.pass.identity }
     {
-        self.identity
+        self.handle.identity
     }
 
     /// The position at which that begins.
     pub fn start(&self) -> u64
         ensures { result ≡ self.now.pass.start }
     {
-        self.start
+        self.handle.start
     }
 }

@@ -3,8 +3,8 @@
 ghost use Rattle.std.specs.Prelude.{◌≡◌, ◌+◌, ◌<◌, ◌≤◌, IfNone, IfSome, length};
 ghost use Rattle.theory.specs.Position.{aligned};
 ghost use Rattle.std.specs.Int.{w64, to_le_bytes};
-ghost use Rattle.frame_words.specs.Contents.{head_by};
-ghost use Rattle.log_passes.specs.Readers.{CopiesHad, CopiesKnown, MayRereadAt, ReadsAgain, SameSeat, part_bytes};
+ghost use Rattle.position.specs.Contents.{head_by};
+ghost use Rattle.shared_log.specs.Steps.Readers.{CopiesHad, CopiesKnown, MayRereadAt, ReadsAgain, SameSeat, part_bytes};
 ghost use Rattle.log_rule.specs.Readings.{Looks};
 ghost use Rattle.shared_log.specs.Readers.{Advances, FindsPart, IsAlone, IsReaderOf, IsReading, MayReread, ReadsFrame, ReadsNone, Rereads, Rests, consumer_of};
 
@@ -12,30 +12,23 @@ pub(crate) mod learning;
 pub(crate) mod source;
 pub(crate) mod whole;
 
-use crate::home::Home;
+use crate::handle::Handle;
+use crate::steps::log::Log;
 use block::Block;
-use frame_words::head_in;
-use log_passes::{Consumer, Log, LogPass};
-use position::{FrameHead, Identity, align32};
+use log_memory::Consumer;
+use position::{FrameHead, Identity, align32, head_in};
 use std::marker::Model;
 
 /// A reader of a log's committed frames, one of its consumers.
 #[derive(Drop)]
 pub struct LogReader {
-    pub(crate) pass: LogPass,
-    /// Shows that the log's region is there, where the pass may commit or clean.
-    pub(crate) home: Option<Home>,
-    /// The position below which memory was taken back, where it is the keeper.
-    pub(crate) freed: u64,
+    pub(crate) handle: Handle,
     /// The place of this consumer among those of its pass.
     pub(crate) place: u64,
     pub(crate) number: u64,
     pub(crate) position: u64,
     /// Where the frame ends that it has read here; its position, if it has read none.
     pub(crate) read_to: u64,
-    /// Which stream its log carries, and where that begins.
-    pub(crate) identity: Identity,
-    pub(crate) start: u64,
 }
 
 impl Model for LogReader {
@@ -44,14 +37,14 @@ impl Model for LogReader {
     ghost Value = { ReaderValue };
 
     ghost view = { λ r. record {
-      held = r.pass;
+      held = r.handle.pass;
       place = r.place;
       number = r.number;
       position = r.position;
       read_to = r.read_to;
     } };
 
-    ghost invariant = { λ r. IsReader r.pass r.home r.freed r.place r.number r.position r.read_to r.identity r.start };
+    ghost invariant = { λ r. IsReader r.handle.pass r.handle.home r.handle.freed r.place r.number r.position r.read_to r.handle.identity r.handle.start };
 }
 
 impl LogReader {
@@ -73,14 +66,14 @@ impl LogReader {
     pub fn identity(&self) -> Identity
         ensures { result ≡ self.now.held.pass.identity }
     {
-        self.identity
+        self.handle.identity
     }
 
     /// The position at which that begins.
     pub fn start(&self) -> u64
         ensures { result ≡ self.now.held.pass.start }
     {
-        self.start
+        self.handle.start
     }
 
     /// The consumer that it is.
@@ -115,7 +108,7 @@ pub(crate) fn look(log: &Log, reader: &mut LogReader, bytes: &mut [u8]) -> Optio
     let _ = log.identity();
     let start = reader.position;
     let consumer = reader.consumer();
-    let word = log.look(&mut reader.pass, &consumer, bytes);
+    let word = log.look(&mut reader.handle.pass, &consumer, bytes);
     if word == 0 {
         return None;
     }
@@ -153,7 +146,7 @@ pub fn advance(log: &Log, reader: &mut LogReader) -> u64
     ensures answer { result ≡ reader.new.position }
 {
     let consumer = reader.consumer();
-    log.consume(&mut reader.pass, &consumer, reader.read_to);
+    log.consume(&mut reader.handle.pass, &consumer, reader.read_to);
     reader.position = reader.read_to;
     reader.read_to
 }
@@ -170,6 +163,11 @@ pub fn reread(log: &Log, reader: &mut LogReader, position: u64, block: &mut Bloc
 {
     let _ = log.identity();
     let consumer = reader.consumer();
-    let word = log.reread(&mut reader.pass, &consumer, position, block.bytes_mut());
+    let word = log.reread(
+        &mut reader.handle.pass,
+        &consumer,
+        position,
+        block.bytes_mut(),
+    );
     head_in(word, position)
 }

@@ -25,24 +25,16 @@ impl Publisher {
         } }
     {
         let Publisher {
-            pass,
-            home,
-            freed,
+            handle,
             number: _,
             share: _,
-            identity,
-            start,
         } = self;
         LogReader {
-            pass,
-            home,
-            freed,
+            handle,
             place,
             number,
             position,
             read_to: position,
-            identity,
-            start,
         }
     }
 
@@ -54,23 +46,15 @@ impl Publisher {
         ensures { result ≡ record { held = self; limit = limit; cleaned = cleaned } }
     {
         let Publisher {
-            pass,
-            home,
-            freed,
+            handle,
             number: _,
             share: _,
-            identity,
-            start,
         } = self;
         Keeper {
-            pass,
-            home,
-            freed,
+            handle,
             limit,
             cleaned,
             there,
-            identity,
-            start,
         }
     }
 }
@@ -82,24 +66,16 @@ impl LogReader {
         ensures { result ≡ self.held }
     {
         let LogReader {
-            pass,
-            home,
-            freed,
+            handle,
             place: _,
             number: _,
             position: _,
             read_to: _,
-            identity,
-            start,
         } = self;
         Publisher {
-            pass,
-            home,
-            freed,
+            handle,
             number,
             share,
-            identity,
-            start,
         }
     }
 }
@@ -111,23 +87,15 @@ impl Keeper {
         ensures { result ≡ self.held }
     {
         let Keeper {
-            pass,
-            home,
-            freed,
+            handle,
             limit: _,
             cleaned: _,
             there: _,
-            identity,
-            start,
         } = self;
         Publisher {
-            pass,
-            home,
-            freed,
+            handle,
             number,
             share,
-            identity,
-            start,
         }
     }
 }

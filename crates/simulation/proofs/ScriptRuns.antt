@@ -1,15 +1,15 @@
 -- Lines of a script, one after the other.
-use Rattle.std.proofs.Common.{Option, ◌≡◌, ◌∙◌, ℕ, ◌<◌, ◌≤◌, get_or, inl, inr, ◌+◌, List, [], ◌∷◌, ◌++◌, sym, ap, subst, refl, append_assoc, append-nil, length, arith, take}
+use Rattle.std.proofs.Common.{Option, ◌≡◌, ◌∙◌, ℕ, ◌<◌, ◌≤◌, get_or, inl, inr, ◌+◌, List, [], ◌∷◌, ◌++◌, sym, ap, subst, refl, append_assoc, append-nil, length, take}
 use Rattle.std.proofs.lemmas.List.{map-append, take_all}
 use Rattle.std.proofs.lemmas.Grind.{flat_map-append}
 use Rattle.std.specs.List.{flat_map}
-use Rattle.std.specs.Prelude.{◌%◌, slice_index, suc, sum}
-use Rattle.std.proofs.Math.Seq.{take-suc}
+use Rattle.std.specs.Prelude.{◌%◌, slice_index, sum}
 use Rattle.theory.specs.Bytes.{Identity, IsIdentity}
 use Rattle.theory.specs.Position.{Geometry, IsGeometry, max_position}
 use Rattle.theory.specs.Tiling.{share_of}
 use Rattle.shared_log.specs.declared.fault.LogError.TheVariants.{Start}
 use Rattle.one_hand.specs.Stream.{Stream}
+use Rattle.one_hand.proofs.Steps.{one_more}
 use Rattle.shared_log.specs.declared.book.Book.{Book}
 use Rattle.script.specs.Meaning.{Opening, CommandContent, ScriptContent, content_of, contents_of, group_in}
 use Rattle.script.specs.declared.command.Command.{Command}
@@ -23,7 +23,7 @@ use Rattle.script_meaning.specs.ScriptState.{ScriptState, entries_of, opened_sta
 use Rattle.script_meaning.specs.Standing.{Begins, IsPlayed}
 use Rattle.simulation.specs.Books.{ShowsBook}
 use Rattle.simulation.specs.Simulated.{Answered, IsAnswered, RepresentsState, Simulated, StandsSomewhere}
-use Rattle.simulation.specs.Runs.{Continued, Continues, ContinuesOpen, RunsTo}
+use Rattle.simulation.specs.Runs.{Continued, Continues, RunsTo}
 use Rattle.simulation.specs.declared.line.Line.{Line}
 use Rattle.simulation.specs.declared.line.Line.TheVariants as lines
 
@@ -66,11 +66,6 @@ one_more_played old mid new cs c before there after h step s shows standing =
     subst (λ (os : List CommandContent). Continued s os (line_contents before) (line_contents after) new) (sym (map-append content_of cs (c ∷ [])))
     (continued_snoc s (contents_of cs) (content_of c) (line_contents before) (line_contents there) (line_contents after) mid new standing (h s shows standing) step)
 
--- behind the line of an opened log
-pub behind_open : (old new : Simulated) (os : List CommandContent) (before there after : List Line) → there ≡ before ++ lines.Open ∷ [] → Continues old os there after new → ContinuesOpen old os before after new
-behind_open old new os before there after e h s shows standing =
-    subst (λ (ls : List LineContent). Continued s os ls (line_contents after) new) (ap line_contents e ∙ map-append line_content before (lines.Open ∷ [])) (h s shows standing)
-
 -- ---- the book
 
 -- a log that is opened so
@@ -89,8 +84,8 @@ shows_book s b eight counted h = record {
 all_printed : (before played book : List LineContent) → ((before ++ Open ∷ []) ++ played) ++ book ≡ before ++ Open ∷ (played ++ book)
 all_printed before played book = append_assoc (before ++ Open ∷ []) played book ∙ append_assoc before (Open ∷ []) (played ++ book)
 
-pub runs_to : AlwaysCounted → (old new : Simulated) (i : Identity) (start readers : ℕ) (os : List CommandContent) (before there after : List Line) (b : Book) → length b.shares ≡ 8 → Begins i start → RepresentsState old (opened_state i (group_in os) start readers) → ContinuesOpen old os before there new → ShowsBook new.log b → after ≡ there ++ lines.Book b ∷ [] → RunsTo i start readers os (line_contents before) (line_contents after)
-runs_to counted old new i start readers os before there after b eight begins shows h book e =
+pub runs_to : AlwaysCounted → (old new : Simulated) (i : Identity) (start readers : ℕ) (os : List CommandContent) (before opened there after : List Line) (b : Book) → length b.shares ≡ 8 → Begins i start → RepresentsState old (opened_state i (group_in os) start readers) → opened ≡ before ++ lines.Open ∷ [] → Continues old os opened there new → ShowsBook new.log b → after ≡ there ++ lines.Book b ∷ [] → RunsTo i start readers os (line_contents before) (line_contents after)
+runs_to counted old new i start readers os before opened there after b eight begins shows first h book e =
     let k = h (opened_state i (group_in os) start readers) shows (record { identity = i; group = group_in os; start = start; readers = readers; begins = begins; played = []; answered = refl }) in
     record {
       played = k.played;
@@ -102,20 +97,14 @@ runs_to counted old new i start readers os before there after b eight begins sho
       printed =
           ap line_contents e
           ∙ map-append line_content there (lines.Book b ∷ [])
-          ∙ ap (λ (ls : List LineContent). ls ++ Shares b.start b.tail b.shares ∷ []) k.printed
+          ∙ ap (λ (ls : List LineContent). ls ++ Shares b.start b.tail b.shares ∷ [])
+          (k.printed ∙ ap (λ (ls : List LineContent). ls ++ lines_in k.played) (ap line_contents first ∙ map-append line_content before (lines.Open ∷ [])))
           ∙ all_printed (line_contents before) (lines_in k.played) (Shares b.start b.tail b.shares ∷ []);
     }
 
-one_more_command : (cs : List Command) (k : ℕ) (c : Command) → k < length cs → c ≡ get_or cs k c → take (k + 1) cs ≡ take k cs ++ c ∷ []
-one_more_command cs k c below e =
-    let next : k + 1 ≡ suc k = omega arith in
-    ap (λ (n : ℕ). take n cs) next
-    ∙ take-suc cs k c below
-    ∙ ap (λ (x : Command). take k cs ++ x ∷ []) (sym e)
-
 pub next_played : (old mid new : Simulated) (cs : List Command) (k : ℕ) (c : Command) (before there after : List Line) → k < length cs → c ≡ get_or cs k c → Continues old (contents_of (take k cs)) before there mid → IsAnswered mid (content_of c) there after new → Continues old (contents_of (take (k + 1) cs)) before after new
 next_played old mid new cs k c before there after below e h step =
-    subst (λ (xs : List Command). Continues old (contents_of xs) before after new) (sym (one_more_command cs k c below e))
+    subst (λ (xs : List Command). Continues old (contents_of xs) before after new) (sym (one_more cs k c below e))
     (one_more_played old mid new (take k cs) c before there after h step)
 
 -- behind the last of them all are played

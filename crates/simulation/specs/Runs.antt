@@ -1,5 +1,5 @@
 -- What a script makes of a simulation, from the opened log to the book.
-use Rattle.std.specs.Prelude.{◌≡◌, ◌≤◌, ℕ, List, [], ◌∷◌, ◌++◌, length, map, vec_len}
+use Rattle.std.specs.Prelude.{◌≡◌, ℕ, List, [], ◌∷◌, ◌++◌, map}
 use Rattle.std.specs.List.{flat_map}
 use Rattle.theory.specs.Bytes.{Identity}
 use Rattle.script.specs.Meaning.{CommandContent, group_in}
@@ -12,7 +12,6 @@ use Rattle.script_meaning.specs.Standing.{IsPlayed}
 use Rattle.simulation.specs.Lines.{line_contents}
 use Rattle.simulation.specs.declared.line.Line.{Line}
 use Rattle.simulation.specs.Simulated.{AllShow, RepresentsState, Simulated}
-use Rattle.simulation.specs.declared.whole_script.Parts.{Parts}
 
 -- lines of a script one after the other
 pub record Continued (old : ScriptState) (commands : List CommandContent) (before after : List LineContent) (new : Simulated) : Type 0 where
@@ -26,20 +25,9 @@ pub record Continued (old : ScriptState) (commands : List CommandContent) (befor
 abbrev pub Continues : Simulated → List CommandContent → List Line → List Line → Simulated → Type 0
 Continues old commands before after new = (s : ScriptState) → RepresentsState old s → IsPlayed s → Continued s commands (line_contents before) (line_contents after) new
 
--- the same behind the line of an opened log
-abbrev pub ContinuesOpen : Simulated → List CommandContent → List Line → List Line → Simulated → Type 0
-ContinuesOpen old commands before after new = (s : ScriptState) → RepresentsState old s → IsPlayed s → Continued s commands (line_contents before ++ Open ∷ []) (line_contents after) new
-
 -- the eight receivers of a log that was just opened
 abbrev pub AreListening : Identity → List Subscribing → Type 0
 AreListening i vs = AllShow vs (map (listening_at i) numbers)
-
--- a datagram fits the outbox, a frame the block, and the eight receivers listen
-pub record AreReady (i : Identity) (p : Parts) : Type 0 where
-  pub size : p.outbox.mtu ≡ i.geometry.mtu
-  pub block : i.geometry.mtu ≤ length p.block
-  pub eight : vec_len p.subscribers ≡ 8
-  pub listening : AreListening i p.subscribers.items
 
 -- the lines of a script from the opened log on, and the book
 pub record RunsTo (i : Identity) (start readers : ℕ) (commands : List CommandContent) (before after : List LineContent) : Type 0 where

@@ -1,7 +1,7 @@
 //! What each line of a script does, and what it prints.
 
-ghost use Rattle.std.specs.Prelude.{◌≡◌, ◌≤◌, ℕ, ◌++◌, ◌∷◌, [], length, OnOk, map};
-ghost use Rattle.theory.specs.Position.{max_message, max_payload};
+ghost use Rattle.std.specs.Prelude.{◌≡◌, ◌≤◌, ℕ, ◌++◌, length, OnOk, map};
+ghost use Rattle.theory.specs.Position.{max_message};
 ghost use Rattle.receiver.specs.Subscribing.{answer_of};
 ghost use Rattle.script_meaning.specs.LineContents as content;
 ghost use Rattle.script_meaning.specs.LineContents.{OfReceiver};
@@ -16,7 +16,7 @@ use crate::log_lines::{
 use crate::simulation::Simulation;
 use assembler::Message;
 use flow_control::keeps_enough;
-use one_hand::{Claims, OneHandLog};
+use one_hand::Claims;
 use receiver::{Outcome, PollError, Positions};
 use script::{Command, PartyNumber};
 use script_meaning::sends_again_what_it_sent;
@@ -59,7 +59,7 @@ fn positions_line(positions: Option<Positions>) -> Line
     }
 }
 
-impl<L: OneHandLog> Simulation<L> {
+impl Simulation {
     /// Plays one command, and adds its lines. The error is that memory was refused; then nothing is said of what stands.
     pub fn play(&mut self, command: &Command, lines: &mut Vec<Line>) -> Result<(), AllocError>
         requires { StandsSomewhere self.old }
@@ -189,20 +189,7 @@ impl<L: OneHandLog> Simulation<L> {
         if size > u64::from(self.log.geometry().max_payload()) {
             return add_line(lines, Line::Bad);
         }
-        self.claim_short(publisher, size as u32, lines)
-    }
-
-    /// Claims a range for a message that a frame can hold, and adds its line.
-    fn claim_short(
-        &mut self,
-        publisher: PartyNumber,
-        size: u32,
-        lines: &mut Vec<Line>,
-    ) -> Result<(), AllocError>
-        requires { size ≤ max_payload self.old.log.identity.geometry }
-        ensures { OnOk result (IsAnswered self.old (commands.Claim publisher.number size) lines.old.items lines.new.items self.new) }
-    {
-        let line = claim_line(&mut self.log, publisher, size);
+        let line = claim_line(&mut self.log, publisher, size as u32);
         add_line(lines, line)
     }
 

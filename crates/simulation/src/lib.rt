@@ -1,9 +1,9 @@
 //! A log with its sender, eight receivers and every packet that they gave out, what each line of a script does to them,
 //! and a whole script, played.
 //!
-//! Each line prints and changes what its definition says, over any log in one hand (`Simulation::play`, by
-//! `IsAnswered`), and so does the book at the end (`Simulation::end`). Packets are had by their numbers (`Packets`);
-//! which text a line prints is said, too (`Line` as `Display` writes it).
+//! Each line prints and changes what its definition says, over the log that threads share, in one hand
+//! (`Simulation::play`, by `IsAnswered`), and so does the book at the end (`Simulation::end`). Packets are had by their
+//! numbers (`Packets`); which text a line prints is said, too (`Line` as `Display` writes it).
 //!
 //! A whole script is the way from the model to the code: each script that opens its log is a run of the model, of which
 //! `every_run` speaks.

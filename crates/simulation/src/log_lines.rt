@@ -13,7 +13,7 @@ ghost use Rattle.simulation.specs.Reading.{MayBeOffered};
 
 use crate::line::Line;
 use block::Block;
-use one_hand::{Claims, OneHandLog};
+use one_hand::{Claims, LogHand};
 use position::{FrameHead, FrameKind};
 use script::PartyNumber;
 use std::alloc::{AllocError, Global};
@@ -26,10 +26,10 @@ pub fn letters(alloc: Global, size: usize) -> Result<Vec<u8>, AllocError>
 }
 
 /// Offers a message that the log can hold, unless the publisher has a claim open.
-pub fn offer_line<L: OneHandLog>(log: &mut L, publisher: PartyNumber, message: &[u8]) -> Line
-    requires { length message.now ≤ max_message (L.stream log.old).identity.geometry }
-    ensures leads { LeadsTo (λ s lines t. MayBeOffered s publisher.number message.now lines t) (L.stream log.old) (line_content result) (L.stream log.new) }
-    ensures still { StandsStill (L.stream log.old) (L.stream log.new) }
+pub fn offer_line(log: &mut LogHand, publisher: PartyNumber, message: &[u8]) -> Line
+    requires { length message.now ≤ max_message log.old.identity.geometry }
+    ensures leads { LeadsTo (λ s lines t. MayBeOffered s publisher.number message.now lines t) log.old (line_content result) log.new }
+    ensures still { StandsStill log.old log.new }
 {
     // What always holds of it, for the proof.
     log.is_whole();
@@ -43,10 +43,10 @@ pub fn offer_line<L: OneHandLog>(log: &mut L, publisher: PartyNumber, message: &
 }
 
 /// Claims a range for a message that a frame can hold, unless the publisher has a claim open.
-pub fn claim_line<L: OneHandLog>(log: &mut L, publisher: PartyNumber, size: u32) -> Line
-    requires { size ≤ max_payload (L.stream log.old).identity.geometry }
-    ensures leads { LeadsTo (λ s lines t. Answers s (commands.Claim publisher.number size) lines t) (L.stream log.old) (line_content result) (L.stream log.new) }
-    ensures still { StandsStill (L.stream log.old) (L.stream log.new) }
+pub fn claim_line(log: &mut LogHand, publisher: PartyNumber, size: u32) -> Line
+    requires { size ≤ max_payload log.old.identity.geometry }
+    ensures leads { LeadsTo (λ s lines t. Answers s (commands.Claim publisher.number size) lines t) log.old (line_content result) log.new }
+    ensures still { StandsStill log.old log.new }
 {
     // What always holds of it, for the proof.
     log.is_whole();
@@ -60,13 +60,13 @@ pub fn claim_line<L: OneHandLog>(log: &mut L, publisher: PartyNumber, size: u32)
 }
 
 /// Fills the publisher's open claim with bytes 61, and commits it. At an error memory was refused, and the log is as it was.
-pub fn commit_line<L: OneHandLog>(
+pub fn commit_line(
     alloc: Global,
-    log: &mut L,
+    log: &mut LogHand,
     publisher: PartyNumber,
 ) -> Result<Line, AllocError>
-    ensures leads { IfOk result (λ line. LeadsTo (λ s lines t. Answers s (commands.Commit publisher.number) lines t) (L.stream log.old) (line_content line) (L.stream log.new)) }
-    ensures still { StandsStill (L.stream log.old) (L.stream log.new) }
+    ensures leads { IfOk result (λ line. LeadsTo (λ s lines t. Answers s (commands.Commit publisher.number) lines t) log.old (line_content line) log.new) }
+    ensures still { StandsStill log.old log.new }
 {
     // What always holds of it, for the proof.
     log.is_whole();
@@ -79,9 +79,9 @@ pub fn commit_line<L: OneHandLog>(
 }
 
 /// Makes the publisher's open claim a padding.
-pub fn abort_line<L: OneHandLog>(log: &mut L, publisher: PartyNumber) -> Line
-    ensures leads { LeadsTo (λ s lines t. Answers s (commands.Abort publisher.number) lines t) (L.stream log.old) (line_content result) (L.stream log.new) }
-    ensures still { StandsStill (L.stream log.old) (L.stream log.new) }
+pub fn abort_line(log: &mut LogHand, publisher: PartyNumber) -> Line
+    ensures leads { LeadsTo (λ s lines t. Answers s (commands.Abort publisher.number) lines t) log.old (line_content result) log.new }
+    ensures still { StandsStill log.old log.new }
 {
     // What always holds of it, for the proof.
     log.is_whole();
@@ -112,18 +112,18 @@ fn frame_line(alloc: Global, head: &FrameHead, block: &Block) -> Result<Line, Al
 
 /// Reads the frame where a reader stands, moves the reader past it, and says what it is. At an error memory was refused, and
 /// the reader stays.
-pub fn read_line<L: OneHandLog>(
+pub fn read_line(
     alloc: Global,
-    log: &mut L,
+    log: &mut LogHand,
     reader: usize,
     block: &mut Block,
 ) -> Result<Line, AllocError>
-    requires reader { HasConsumer (L.stream log.old) reader }
-    requires room { (L.stream log.old).identity.geometry.mtu ≤ length block.old }
+    requires reader { HasConsumer log.old reader }
+    requires room { log.old.identity.geometry.mtu ≤ length block.old }
     ensures same_length { length block.new ≡ length block.old }
-    ensures reads { IfOk result (λ line. ReadsLine (L.stream log.old) reader (line_content line) (L.stream log.new)) }
-    ensures stays { OnErr result (L.stream log.new ≡ L.stream log.old) }
-    ensures moves { MovesReader reader (L.stream log.old) reader (L.stream log.new) }
+    ensures reads { IfOk result (λ line. ReadsLine log.old reader (line_content line) log.new) }
+    ensures stays { OnErr result (log.new ≡ log.old) }
+    ensures moves { MovesReader reader log.old reader log.new }
 {
     let Some(head) = log.next(reader, block) else {
         return Ok(Line::NoMessage);
@@ -134,9 +134,9 @@ pub fn read_line<L: OneHandLog>(
 }
 
 /// A reader joins, unless somebody has its number.
-pub fn join_line<L: OneHandLog>(log: &mut L, reader: usize) -> Line
+pub fn join_line(log: &mut LogHand, reader: usize) -> Line
     requires { reader < 8 }
-    ensures { JoinsLine (L.stream log.old) reader (line_content result) (L.stream log.new) }
+    ensures { JoinsLine log.old reader (line_content result) log.new }
 {
     // What always holds of it, for the proof.
     log.is_whole();
@@ -147,10 +147,10 @@ pub fn join_line<L: OneHandLog>(log: &mut L, reader: usize) -> Line
 }
 
 /// A reader leaves, unless nobody has its number, or the sender has it.
-pub fn leave_line<L: OneHandLog>(log: &mut L, reader: usize) -> Line
+pub fn leave_line(log: &mut LogHand, reader: usize) -> Line
     requires low { reader < 8 }
-    requires sender { HasConsumer (L.stream log.old) 0 }
-    ensures { LeavesLine (L.stream log.old) reader (line_content result) (L.stream log.new) }
+    requires sender { HasConsumer log.old 0 }
+    ensures { LeavesLine log.old reader (line_content result) log.new }
 {
     if reader == 0 || !log.has_consumer(reader) {
         return Line::Bad;

@@ -5,7 +5,7 @@ ghost use Rattle.simulation.specs.Books.{ShowsBook};
 use crate::packets::Packets;
 use block::Block;
 use flow_control::StreamFlow;
-use one_hand::{Claims, HandReader, OneHandLog};
+use one_hand::{HandReader, LogHand};
 use receiver::Subscriber;
 use sender::{Outbox, SenderCore};
 use shared_log::Book;
@@ -15,8 +15,9 @@ use std::marker::Model;
 pub const RECEIVERS: usize = 8;
 
 /// What a script plays on.
-pub struct Simulation<L: OneHandLog> {
-    pub log: L,
+#[derive(Drop)]
+pub struct Simulation {
+    pub log: LogHand,
     /// A reader's frame.
     pub block: Block,
     pub sender: SenderCore<HandReader, StreamFlow>,
@@ -25,31 +26,22 @@ pub struct Simulation<L: OneHandLog> {
     pub packets: Packets,
 }
 
-impl<L: OneHandLog> Model for Simulation<L> {
+impl Model for Simulation {
     ghost use Rattle.std.specs.Prelude.{length};
     ghost use Rattle.simulation.specs.Simulated.{IsStage, Simulated};
 
     ghost Value = { Simulated };
 
-    ghost view = { λ s. record { log = L.stream s.log; sender = s.sender; subscribers = s.subscribers.items; packets = s.packets } };
+    ghost view = { λ s. record { log = s.log; sender = s.sender; subscribers = s.subscribers.items; packets = s.packets } };
 
-    ghost invariant = { λ s. IsStage (record { log = L.stream s.log; sender = s.sender; subscribers = s.subscribers.items; packets = s.packets }) (length s.block) s.outbox.mtu };
+    ghost invariant = { λ s. IsStage (record { log = s.log; sender = s.sender; subscribers = s.subscribers.items; packets = s.packets }) (length s.block) s.outbox.mtu };
 }
 
-impl<L: OneHandLog> Simulation<L> {
+impl Simulation {
     /// Ends the log. A claim that is open counts for its publisher.
     pub fn end(self) -> Book
         ensures { ShowsBook self.log result }
     {
-        let Simulation {
-            log,
-            block: _,
-            sender,
-            outbox: _,
-            subscribers: _,
-            packets: _,
-        } = self;
-        let _ = sender.into_reads();
-        log.close()
+        self.log.close()
     }
 }

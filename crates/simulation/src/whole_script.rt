@@ -10,28 +10,20 @@ ghost use Rattle.simulation.specs.Lines.{line_contents};
 ghost use Rattle.script_meaning.specs.Standing.{Begins};
 ghost use Rattle.theory.specs.Position.{IsGeometry};
 ghost use Rattle.simulation.specs.Simulated.{RepresentsState, StandsSomewhere};
-ghost use Rattle.simulation.specs.Runs.{AreListening, AreReady, Continues, ContinuesOpen, RunsTo};
+ghost use Rattle.simulation.specs.Runs.{AreListening, Continues, RunsTo};
 ghost use Rattle.script.specs.Meaning as meaning;
 
 use crate::{Line, Packets, RECEIVERS, Simulation, add_line};
 use block::Block;
 use flow_control::StreamFlow;
-use one_hand::{HandReader, LogHand, OneHandLog};
+use one_hand::{HandReader, LogHand};
 use position::{Geometry, Identity};
 use receiver::{ReceiverCore, Subscriber};
 use script::{Command, LogLine, Script};
 use script_meaning::{images_stay_in_bounds, polls_a_prefix, shares_are_counted};
-use sender::{Denied, Outbox, SenderCore};
+use sender::{Outbox, SenderCore};
 use shared_log::LogError;
 use std::alloc::{AllocError, Global};
-
-/// What a script is played with beside its log.
-#[derive(Drop)]
-struct Parts {
-    outbox: Outbox,
-    block: Block,
-    subscribers: Vec<Subscriber>,
-}
 
 /// The lines that a script prints, or that memory was refused.
 pub fn play(alloc: Global, script: &Script) -> Result<Vec<Line>, AllocError>
@@ -61,7 +53,6 @@ fn log_lines(
     ensures { IfOk result (λ lines. IsOutputOf (meaning.script_content script.now) (line_contents lines.items)) }
 {
     let log = &script.log;
-    let parts = prepare(alloc, log, &geometry)?;
     let consumers = log.readers as usize + 1;
     match LogHand::open(
         alloc,
@@ -71,7 +62,7 @@ fn log_lines(
         log.start,
         consumers,
     ) {
-        Ok(hand) => opened_lines(alloc, hand, script, geometry, parts, lines),
+        Ok(hand) => opened_lines(alloc, hand, script, geometry, lines),
         Err(LogError::Start) => {
             add_line(&mut lines, Line::BadLog(LogError::Start))?;
             Ok(lines)
@@ -82,19 +73,17 @@ fn log_lines(
 }
 
 /// Plays a script on its log that was just opened.
-fn opened_lines<L: OneHandLog>(
+fn opened_lines(
     alloc: Global,
-    log: L,
+    log: LogHand,
     script: &Script,
     geometry: Geometry,
-    parts: Parts,
     lines: Vec<Line>,
 ) -> Result<Vec<Line>, AllocError>
-    requires opened { L.stream log ≡ opened (record { geometry = geometry; session = script.now.log.session; stream = script.now.log.stream }) script.now.log.start (suc script.now.log.readers) }
+    requires opened { log ≡ opened (record { geometry = geometry; session = script.now.log.session; stream = script.now.log.stream }) script.now.log.start (suc script.now.log.readers) }
     requires start { IsStart geometry script.now.log.start }
     requires legal { IsGeometry geometry }
     requires made { geometry ≡ geometry_of (meaning.opening script.now.log) }
-    requires ready { AreReady (record { geometry = geometry; session = script.now.log.session; stream = script.now.log.stream }) parts }
     requires empty { lines.items ≡ [] }
     ensures { IfOk result (λ lines. IsOutputOf (meaning.script_content script.now) (line_contents lines.items)) }
 {
@@ -102,7 +91,7 @@ fn opened_lines<L: OneHandLog>(
     polls_a_prefix();
     images_stay_in_bounds();
     let group = group_of(&script.commands);
-    let simulation = simulation(alloc, log, &script.log, geometry, group, parts)?;
+    let simulation = simulation(alloc, log, &script.log, geometry, group)?;
     ended_lines(simulation, script, lines)
 }
 
@@ -115,20 +104,6 @@ fn group_of(commands: &[Command]) -> Option<usize>
         [Command::Group { size }, ..] => Some(size.receivers),
         _ => None,
     }
-}
-
-/// Makes the parts for a log of this geometry.
-fn prepare(alloc: Global, log: &LogLine, geometry: &Geometry) -> Result<Parts, AllocError>
-    ensures { IfOk result (λ p. AreReady (record { geometry = geometry.now; session = log.now.session; stream = log.now.stream }) p) }
-{
-    let outbox = Outbox::new(alloc, geometry.mtu())?;
-    let block = Block::new(alloc, geometry.mtu() as usize)?;
-    let subscribers = subscribers(alloc, log, geometry)?;
-    Ok(Parts {
-        outbox,
-        block,
-        subscribers,
-    })
 }
 
 /// A receiver with half a term as its window, and its subscriber.
@@ -157,55 +132,40 @@ fn subscribers(
 }
 
 /// The simulation of a log that was just opened, as this line of a script says, to a group or to one receiver.
-fn simulation<L: OneHandLog>(
+fn simulation(
     alloc: Global,
-    log: L,
+    log: LogHand,
     line: &LogLine,
     geometry: Geometry,
     group: Option<usize>,
-    parts: Parts,
-) -> Result<Simulation<L>, AllocError>
-    requires opened { L.stream log ≡ opened (record { geometry = geometry; session = line.now.session; stream = line.now.stream }) line.now.start (suc line.now.readers) }
+) -> Result<Simulation, AllocError>
+    requires opened { log ≡ opened (record { geometry = geometry; session = line.now.session; stream = line.now.stream }) line.now.start (suc line.now.readers) }
     requires start { IsStart geometry line.now.start }
     requires small { IfSome group (λ size. size ≤ 8) }
-    requires ready { AreReady (record { geometry = geometry; session = line.now.session; stream = line.now.stream }) parts }
     ensures { IfOk result (λ s. RepresentsState s (opened_state (record { geometry = geometry; session = line.now.session; stream = line.now.stream }) group line.now.start line.now.readers)) }
 {
+    let outbox = Outbox::new(alloc, geometry.mtu())?;
+    let block = Block::new(alloc, geometry.mtu() as usize)?;
+    let subscribers = subscribers(alloc, line, &geometry)?;
     let flow = StreamFlow::new(line.start, group);
     let reads = HandReader { number: 0 };
     let identity = Identity::new(geometry, line.session, line.stream);
     match SenderCore::new(alloc, identity, line.start, reads, flow) {
         Ok(sender) => Ok(Simulation {
             log,
-            block: parts.block,
+            block,
             sender,
-            outbox: parts.outbox,
-            subscribers: parts.subscribers,
+            outbox,
+            subscribers,
             packets: Packets::new(alloc),
         }),
-        Err(Denied { reads: _, flow: _ }) => {
-            let _ = log.close();
-            Err(AllocError)
-        }
+        Err(_) => Err(AllocError),
     }
 }
 
-/// Adds the line of an opened log, and then those of the commands, one after the other.
-fn answer_opened<L: OneHandLog>(
-    simulation: &mut Simulation<L>,
-    commands: &[Command],
-    lines: &mut Vec<Line>,
-) -> Result<(), AllocError>
-    requires { StandsSomewhere simulation.old }
-    ensures { OnOk result (ContinuesOpen simulation.old (meaning.contents_of commands.now) lines.old.items lines.new.items simulation.new) }
-{
-    add_line(lines, Line::Open)?;
-    answer_all(simulation, commands, lines)
-}
-
 /// Plays the commands one after the other, and adds their lines.
-fn answer_all<L: OneHandLog>(
-    simulation: &mut Simulation<L>,
+fn answer_all(
+    simulation: &mut Simulation,
     commands: &[Command],
     lines: &mut Vec<Line>,
 ) -> Result<(), AllocError>
@@ -219,8 +179,8 @@ fn answer_all<L: OneHandLog>(
 }
 
 /// Plays a script's commands from the opened log on, and ends it.
-fn ended_lines<L: OneHandLog>(
-    mut simulation: Simulation<L>,
+fn ended_lines(
+    mut simulation: Simulation,
     script: &Script,
     mut lines: Vec<Line>,
 ) -> Result<Vec<Line>, AllocError>
@@ -230,9 +190,9 @@ fn ended_lines<L: OneHandLog>(
 {
     // A law that the proof cites.
     shares_are_counted();
-    let played = answer_opened(&mut simulation, &script.commands, &mut lines);
+    add_line(&mut lines, Line::Open)?;
+    answer_all(&mut simulation, &script.commands, &mut lines)?;
     let book = simulation.end();
-    played?;
     add_line(&mut lines, Line::Book(book))?;
     Ok(lines)
 }

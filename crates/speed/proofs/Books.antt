@@ -5,7 +5,7 @@ use Rattle.theory.specs.Entry.{Entry, entry_end, length_of}
 use Rattle.theory.specs.Position.{span}
 use Rattle.theory.specs.Tiling.{Tiles}
 use Rattle.publication.specs.declared.pass.ClaimRange.{ClaimRange}
-use Rattle.log_passes.specs.Handles.{LogValue, PublisherValue}
+use Rattle.shared_log.specs.Steps.Handles.{LogValue, PublisherValue}
 use Rattle.log_rule.specs.Claims.Rule.{entry_of}
 use Rattle.log_rule.specs.Claims.Sums.{total}
 use Rattle.log_rule.proofs.Claimed.Totals.{extent_of}

@@ -11,7 +11,7 @@ use Rattle.log_rule.specs.Claims.Sums.{total}
 use Rattle.log_rule.proofs.Claimed.Totals.{total_append}
 use Rattle.publication.specs.declared.pass.Keeping.{Keeping}
 use Rattle.publication.specs.declared.pass.Pass.{Pass}
-use Rattle.log_passes.specs.Handles.{LogValue}
+use Rattle.shared_log.specs.Steps.Handles.{LogValue}
 use Rattle.shared_log.specs.Readers.{Advances, Finds, IsReaderOf, ReaderValue, known_of}
 use Rattle.shared_log.specs.Keepers.{KeeperValue, KeepsAs}
 use Rattle.shared_log.specs.Parts.{AreReaders, IsNewKeeper}

@@ -7,7 +7,7 @@ use Rattle.std.proofs.lemmas.Bool.Decides.{nat_tests}
 use Rattle.std.specs.List.{AllByRecursion}
 use Rattle.theory.proofs.Lists.{all_append, all_behind, all_front}
 use Rattle.publication.specs.declared.pass.Pass.{Pass}
-use Rattle.log_passes.specs.Handles.{IsOf, LogValue, PublisherValue, parts_in}
+use Rattle.shared_log.specs.Steps.Handles.{IsOf, LogValue, PublisherValue, parts_in}
 use Rattle.log_rule.specs.Claims.Sums.{total}
 use Rattle.log_rule.proofs.Claimed.Totals.{total_append, total_map}
 use Rattle.shared_log.specs.Handles.{AreNew}

@@ -7,7 +7,7 @@ use Rattle.theory.proofs.Places.{power_half}
 use Rattle.theory.specs.Placed.{Among}
 use Rattle.log_rule.specs.Keepings.{least_there, numbered}
 use Rattle.log_rule.specs.Table.{first_there}
-use Rattle.log_passes.specs.Handles.{LogValue}
+use Rattle.shared_log.specs.Steps.Handles.{LogValue}
 use Rattle.shared_log.specs.Keepers.{CleansAndLimits, KeeperValue, connected_word, raised, seen_positions, there_of}
 
 -- a limit word that is connected, with the limit there or further

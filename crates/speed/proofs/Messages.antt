@@ -18,7 +18,7 @@ use Rattle.publication.specs.Steps.{Keeps, count_in, geometry_of, message_at, pa
 use Rattle.publication.specs.Claims.{Justified, Leaves, LeavesPadding}
 use Rattle.publication.specs.Offers.{Offered, Opened}
 use Rattle.theory.specs.Bytes.{Identity}
-use Rattle.log_passes.specs.Handles.{IsOf, LogValue, PublisherValue}
+use Rattle.shared_log.specs.Steps.Handles.{IsOf, LogValue, PublisherValue}
 use Rattle.log_rule.specs.Claims.Rule.{entry_of}
 use Rattle.log_rule.specs.Claims.Sums.{total}
 use Rattle.log_rule.proofs.Claimed.Memories.{maps_append}

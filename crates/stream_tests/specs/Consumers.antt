@@ -1,5 +1,5 @@
 -- Consumers that join and leave.
-use Rattle.log_passes.specs.Handles.{LogValue}
+use Rattle.shared_log.specs.Steps.Handles.{LogValue}
 use Rattle.std.specs.Prelude.{◌≡◌, []}
 use Rattle.shared_log.specs.Readers.{IsAlone, IsReaderOf, ReaderValue, known_of}
 

@@ -1,6 +1,6 @@
 -- The threads' parts of a log.
 use Rattle.std.specs.Prelude.{◌≡◌, []}
-use Rattle.log_passes.specs.Handles.{IsOf, LogValue}
+use Rattle.shared_log.specs.Steps.Handles.{IsOf, LogValue}
 use Rattle.shared_log.specs.Readers.{IsReaderOf, ReaderValue, known_of}
 use Rattle.stream_tests.specs.declared.parties.Party.{Party}
 use Rattle.stream_tests.specs.declared.parties.Party.TheVariants.{Keeping, Publishing, Reading}

@@ -2,7 +2,7 @@
 
 ghost use Rattle.std.specs.Prelude.{◌≤◌, IfOk};
 ghost use Rattle.std.specs.List.{AllByRecursion};
-ghost use Rattle.log_passes.specs.Handles.{IsOf};
+ghost use Rattle.shared_log.specs.Steps.Handles.{IsOf};
 ghost use Rattle.shared_log.specs.Readers.{IsAlone, IsReaderOf};
 ghost use Rattle.stream_tests.specs.Consumers.{IsNewcomer, IsSingle};
 ghost use Rattle.stream_tests.specs.Parties.{IsParty};

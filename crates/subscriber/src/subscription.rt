@@ -7,20 +7,20 @@ ghost use Rattle.endpoint.specs.declared.device_error.DeviceError.TheVariants.{D
 ghost use Rattle.peer.specs.StatusSockets.{unused};
 ghost use Rattle.peer.specs.declared.fault.BindError.{BindError};
 ghost use Rattle.subscriber.specs.Apart.{AreApart};
-ghost use Rattle.subscriber.specs.Answering.{IsTicked, StaysAnswered};
+ghost use Rattle.subscriber.specs.Answering.{IsTicked};
 ghost use Rattle.subscriber.specs.Attending.{AnswersTurn};
 ghost use Rattle.subscriber.specs.Breaking.{BreaksActs, BreaksPlaces};
 ghost use Rattle.subscriber.specs.Endings.{AreDone, AreQuiet, EndsWithSessions, HasEnded, HasEnoughOfAll, HasStood, IsDone, IsEndingOfAll, have_lost};
 ghost use Rattle.subscriber.specs.Faults.{IsCycleFault, IsFollowFault, IsOnesFault, IsRunFault, IsSubscribeFault, IsTurnFault};
 ghost use Rattle.subscriber.specs.Leavings.{IsOpenFault, IsQuietEnding, NotesHeard, enough_ending, of_bind};
 ghost use Rattle.subscriber.specs.Living.{FollowsAll, LivesOn, Writes, WritesPlaces};
-ghost use Rattle.subscriber.specs.Losing.{AsksEach, JudgesTurn};
+ghost use Rattle.subscriber.specs.Losing.{AsksEach};
 ghost use Rattle.subscriber.specs.Places.{most_places};
 ghost use Rattle.subscriber.specs.Sessions.{BreaksOffFrom, FollowsOn, HasLeft, HasLooked, AreSettled, IsBegun, IsSettledSo, IsSized, LeavesAll, news_told};
-ghost use Rattle.subscriber.specs.Standing.{HasAll, Stands};
+ghost use Rattle.subscriber.specs.Standing.{HasAll};
 ghost use Rattle.subscriber.specs.Telling.{TellsCounters};
 ghost use Rattle.subscriber.specs.Texts.{nobody_line};
-ghost use Rattle.subscriber.specs.Watches.{AttendsEach, IsWithinTurn, JudgesEach, TellsWhereDue, beginning};
+ghost use Rattle.subscriber.specs.Watches.{AttendsEach, IsWithinTurn, JudgesEach, TellsWhereDue};
 ghost use Rattle.subscriber.specs.declared.ending.Ending.TheVariants.{Short};
 ghost use Rattle.subscriber.specs.declared.fault.SubscribeFault.TheVariants.{Failed};
 
@@ -38,11 +38,11 @@ use crate::repeating::repeater::StatusRepeater;
 use crate::repeating::{Repeating, Slots};
 use crate::reporting::sessions::{tell_counters_of, tell_ending_of, tell_refused_of, totals_of};
 use crate::reporting::{Line, SessionId, tell, tell_refused, tell_totals};
-use crate::watch::{SECOND, Watch};
+use crate::watch::Watch;
 use agents::{IdleStrategy, REPLY};
 use endpoint::{Binding, DeviceError};
 use frames::FaultCounts;
-use options::SubscribePlan;
+use options::{SECOND, SubscribePlan};
 use peer::{BindError, Listener, StatusSocket};
 use std::alloc::Global;
 use std::io;
@@ -108,40 +108,28 @@ fn enough_ending(lost: bool) -> Ending
 fn is_each_done(sessions: &[Session]) -> bool
     ensures { IsTrue result ↔ AllByRecursion IsDone sessions.now }
 {
-    match sessions {
-        [] => true,
-        [first, others @ ..] => first.is_done() && is_each_done(others),
-    }
+    sessions.iter().all(|session| session.is_done())
 }
 
 /// Whether none has all of its stream.
 fn is_none_whole(sessions: &[Session]) -> bool
     ensures { IsTrue result ↔ AllByRecursion (λ j. ¬ HasAll j.stood) sessions.now }
 {
-    match sessions {
-        [] => true,
-        [first, others @ ..] => !first.stood.has_all() && is_none_whole(others),
-    }
+    sessions.iter().all(|session| !session.stood.has_all())
 }
 
 /// Whether none came for a second.
 fn are_settling(sessions: &[Session]) -> bool
     ensures { IsTrue result ↔ AllByRecursion (λ j. 1000000000 ≤ j.watch.moment - j.came) sessions.now }
 {
-    match sessions {
-        [] => true,
-        [first, others @ ..] => first.is_settling() && are_settling(others),
-    }
+    sessions.iter().all(|session| session.is_settling())
 }
 
 /// Whether all are quiet.
 fn are_quiet(sessions: &[Session], plan: &SubscribePlan) -> bool
     ensures { IsTrue result ↔ AreQuiet plan.now sessions.now }
 {
-    match sessions {
-        [] => true,
-        [first, others @ ..] => first.watch.is_quiet(plan) && are_quiet(others, plan),
-    }
+    sessions.iter().all(|session| session.watch.is_quiet(plan))
 }
 
 /// Whether each session that was heard has all of its stream, one at the least, and no other came for a second.

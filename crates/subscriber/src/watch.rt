@@ -7,12 +7,9 @@ ghost use Rattle.subscriber.specs.Watches.{GivesNotice, HasWaited, IsBroken, IsD
 use crate::listening::untaken::{Notice, UntakenSetup};
 use agents::nanoseconds;
 use endpoint::DeviceError;
-use options::SubscribePlan;
+use options::{SECOND, SubscribePlan};
 use std::marker::Model;
 use std::time::{Clock, Instant};
-
-/// Nanoseconds from one line of counters to the next. A longer time in which nobody looked at the clock is no silence.
-pub(crate) const SECOND: u64 = 1_000_000_000;
 
 /// Nanoseconds after which a socket is given up all of whose calls fail.
 const PATIENCE: u64 = 5_000_000_000;
@@ -42,7 +39,8 @@ impl Model for Watch {
     ghost view = { λ w. record { moment = w.moment; heard = w.heard; worked = w.worked; told = w.told; written = w.written; strangers = w.strangers; calls = w.calls; lost = w.lost; notice = w.notice } };
 }
 
-/// What an earlier moment counts as now, where the clock was looked at last at `moment`.
+/// What an earlier moment counts as now, where the clock was looked at last at `moment`: a time of a second or longer in
+/// which nobody looked at it is no silence.
 pub(crate) fn later_by(moment: u64, now: u64, earlier: u64) -> u64
     ensures { result ≡ later_by moment now earlier }
 {

@@ -13,7 +13,7 @@ use Rattle.theory.specs.Position.{Geometry, span}
 use Rattle.theory.specs.Refusal.{is_closed, is_connected, limit_in}
 use Rattle.theory.specs.Tiling.{Tiles}
 use Rattle.theory.proofs.Lists.{all_map, all_pushed, among_right}
-use Rattle.frame_words.specs.Words.{IsLegal}
+use Rattle.position.specs.Words.{IsLegal}
 use Rattle.publication.specs.declared.pass.FrameWords.{FrameWords}
 use Rattle.publication.specs.declared.pass.Pass.{Pass}
 use Rattle.publication.specs.declared.pass.Reading.{Reading}

@@ -15,7 +15,7 @@ use Rattle.theory.specs.Placed.{Among, IsReached, Placed, end_of}
 use Rattle.theory.specs.Refusal.{is_closed, is_connected, limit_in}
 use Rattle.theory.proofs.Follow.{passed_along}
 use Rattle.theory.proofs.Lists.{all_at, among_cases}
-use Rattle.frame_words.specs.Words.{IsLegal}
+use Rattle.position.specs.Words.{IsLegal}
 use Rattle.publication.specs.declared.pass.FrameWords.{FrameWords}
 use Rattle.publication.specs.declared.pass.Keeping.{Keeping}
 use Rattle.publication.specs.declared.pass.Pass.{Pass}

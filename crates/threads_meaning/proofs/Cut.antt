@@ -6,8 +6,8 @@ use Rattle.theory.specs.Entry.{ArePieces, Entry, IsPiece, committed, flags_of}
 use Rattle.theory.specs.Placed.{Among, Frame, Pad, Placed, frame_length, place_all}
 use Rattle.theory.specs.Position.{aligned, span}
 use Rattle.theory.proofs.Frames.{AreCut}
-use Rattle.frame_words.specs.Words.{frame_words}
-use Rattle.frame_words.proofs.Wordings.{words_length}
+use Rattle.position.specs.Words.{frame_words}
+use Rattle.position.proofs.Wordings.{words_length}
 use Rattle.publication.specs.declared.pass.FrameWords.{FrameWords}
 use Rattle.publication.specs.Steps.{Extent, extent_of, extents}
 use Rattle.log_rule.specs.Claims.Sums.{total}

@@ -6,10 +6,10 @@ use Rattle.theory.specs.Entry.{Entry, committed}
 use Rattle.theory.specs.Placed.{Among, Frame, Placed, end_of, frame_length, place_all}
 use Rattle.theory.specs.Position.{IsGeometry, aligned}
 use Rattle.theory.proofs.Lists.{all_append}
-use Rattle.frame_words.specs.Contents.{frame_of}
-use Rattle.frame_words.specs.Words.{IsLegal, frame_words}
-use Rattle.frame_words.proofs.Contents.{legal_said}
-use Rattle.frame_words.proofs.Wordings.{words_length}
+use Rattle.position.specs.Contents.{frame_of}
+use Rattle.position.specs.Words.{IsLegal, frame_words}
+use Rattle.position.proofs.Contents.{legal_said}
+use Rattle.position.proofs.Wordings.{words_length}
 use Rattle.publication.specs.declared.pass.FrameWords.{FrameWords}
 use Rattle.log_rule.specs.Claims.Sums.{total}
 use Rattle.log_rule.proofs.Known.{either_frame}

@@ -8,7 +8,7 @@ use Rattle.atomic_table.specs.Table.{State, homes_after}
 use Rattle.theory.specs.Placed.{Data, Frame}
 use Rattle.theory.specs.Position.{Geometry, IsGeometry, framed_length, greatest_claim}
 use Rattle.theory.specs.Words.{id_before, tail_word}
-use Rattle.frame_words.specs.Words.{frame_words}
+use Rattle.position.specs.Words.{frame_words}
 use Rattle.publication.specs.declared.pass.ClaimRange.{ClaimRange}
 use Rattle.publication.specs.declared.pass.FrameWords.{FrameWords}
 use Rattle.publication.specs.declared.pass.Pass.{Pass}

@@ -12,7 +12,7 @@ use Rattle.theory.specs.Placed.{Among, Data, Frame, Pad, Placed, frame_length, p
 use Rattle.theory.specs.Position.{Geometry, aligned, span}
 use Rattle.theory.proofs.Frames.{AreCut, are_cut}
 use Rattle.theory.proofs.Lists.{all_at, all_behind, all_front, among_left, among_right}
-use Rattle.frame_words.specs.Words.{IsLegal}
+use Rattle.position.specs.Words.{IsLegal}
 use Rattle.publication.specs.declared.pass.ClaimRange.{ClaimRange}
 use Rattle.publication.specs.declared.pass.FrameWords.{FrameWords}
 use Rattle.publication.specs.declared.pass.Pass.{Pass}

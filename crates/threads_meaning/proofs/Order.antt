@@ -9,7 +9,7 @@ use Rattle.theory.specs.Position.{Geometry, aligned, cuts_of, span}
 use Rattle.theory.specs.Wire.{IsDataFlags}
 use Rattle.theory.proofs.Cuts.{cut_short, cut_units}
 use Rattle.theory.proofs.Lists.{all_weaker, among_cases, among_right}
-use Rattle.frame_words.specs.Words.{IsLegal, frame_words}
+use Rattle.position.specs.Words.{IsLegal, frame_words}
 use Rattle.publication.specs.declared.pass.ClaimRange.{ClaimRange}
 use Rattle.publication.specs.declared.pass.FrameWords.{FrameWords}
 use Rattle.publication.specs.declared.pass.Pass.{Pass}

@@ -24,7 +24,7 @@ use Rattle.publication.specs.declared.pass.ClaimRange.{ClaimRange}
 use Rattle.publication.specs.declared.pass.Pass.{Pass}
 use Rattle.publication.specs.declared.pass.Reading.{Reading}
 use Rattle.publication.specs.Steps.{addition, count_in, disarmed, geometry_of, message_at, noted, opened, padding_at, start_in, tail_step, term_of, with_armed, with_full, with_work, written}
-use Rattle.frame_words.specs.Words.{IsLegal}
+use Rattle.position.specs.Words.{IsLegal}
 use Rattle.log_rule.specs.declared.claims.view.View.{View}
 use Rattle.log_rule.specs.declared.rule.Key.{Key}
 use Rattle.log_rule.specs.Claims.Events.{committed_weight}

@@ -12,7 +12,7 @@ use Rattle.theory.specs.Entry.{Entry, IsEntry, committed}
 use Rattle.theory.specs.Placed.{Among, IsReached, Pad, Placed}
 use Rattle.theory.specs.Refusal.{is_closed, is_connected, limit_in}
 use Rattle.theory.specs.Tiling.{Tiles}
-use Rattle.frame_words.specs.Words.{IsLegal}
+use Rattle.position.specs.Words.{IsLegal}
 use Rattle.publication.specs.declared.pass.FrameWords.{FrameWords}
 use Rattle.publication.specs.declared.pass.Keeping.{Keeping}
 use Rattle.publication.specs.declared.pass.Pass.{Pass}

@@ -8,7 +8,7 @@ use Rattle.atomic_table.specs.Table.{State}
 use Rattle.theory.specs.Entry.{IsPiece, pieces_of}
 use Rattle.theory.specs.Placed.{Among, Frame, frame_length}
 use Rattle.theory.specs.Position.{IsGeometry, aligned, cuts_of}
-use Rattle.frame_words.specs.Words.{IsLegal}
+use Rattle.position.specs.Words.{IsLegal}
 use Rattle.publication.specs.declared.pass.ClaimRange.{ClaimRange}
 use Rattle.publication.specs.declared.pass.Pass.{Pass}
 use Rattle.publication.specs.Claims.{Claimed, Fills, HasBlank}

@@ -10,7 +10,7 @@ use Rattle.theory.specs.Placed.{Among, Frame, Pad, Placed}
 use Rattle.theory.specs.Position.{framed_length, id_of, max_message}
 use Rattle.theory.specs.Refusal.{limit_in}
 use Rattle.theory.specs.Words.{id_before, id_in, tail_word}
-use Rattle.frame_words.specs.Words.{IsLegal}
+use Rattle.position.specs.Words.{IsLegal}
 use Rattle.publication.specs.declared.pass.ClaimRange.{ClaimRange}
 use Rattle.publication.specs.declared.pass.FrameWords.{FrameWords}
 use Rattle.publication.specs.declared.pass.Pass.{Pass}

@@ -13,7 +13,7 @@ use Rattle.theory.specs.Placed.{Among, Frame, Pad, Placed}
 use Rattle.theory.specs.Position.{framed_length, id_of, max_message, span}
 use Rattle.theory.specs.Refusal.{is_closed, is_connected, limit_in}
 use Rattle.theory.specs.Words.{offset_in, tail_word}
-use Rattle.frame_words.specs.Words.{IsLegal}
+use Rattle.position.specs.Words.{IsLegal}
 use Rattle.publication.specs.declared.pass.ClaimRange.{ClaimRange}
 use Rattle.publication.specs.declared.pass.FrameWords.{FrameWords}
 use Rattle.publication.specs.declared.pass.Pass.{Pass}

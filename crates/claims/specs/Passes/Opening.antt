@@ -3,7 +3,7 @@ use Rattle.std.specs.Prelude.{◌≡◌, true, [], ◌∷◌}
 use Rattle.std.specs.Arc.{arc_value}
 use Rattle.std.specs.declared.option.Option.TheVariants.{None, Some}
 use Rattle.position.specs.Openings.{IsConsumerCount, IsStart}
-use Rattle.log_passes.specs.Handles.{IsLogOf}
+use Rattle.shared_log.specs.Steps.Handles.{IsLogOf}
 use Rattle.shared_log.specs.Keepers.{KeeperValue}
 use Rattle.shared_log.specs.Parts.{AreDealt}
 use Rattle.claims.specs.declared.passes.fault.Fault.{Fault}

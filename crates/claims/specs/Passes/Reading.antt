@@ -4,7 +4,7 @@ use Rattle.std.specs.Arc.{arc_value}
 use Rattle.position.specs.declared.head.FrameHead.{FrameHead}
 use Rattle.shared_log.specs.declared.reader.whole.Unread.{Unread}
 use Rattle.shared_log.specs.declared.reader.whole.Unread.TheVariants as unread
-use Rattle.log_passes.specs.Handles.{LogValue}
+use Rattle.shared_log.specs.Steps.Handles.{LogValue}
 use Rattle.shared_log.specs.Readers.{Advances, IsReaderOf, ReaderValue, ReadsFrame, known_of}
 use Rattle.shared_log.specs.Whole.{LeavesUnread}
 use Rattle.claims.specs.declared.passes.reading.ReaderPass.{ReaderPass}

@@ -3,7 +3,7 @@
 ghost use Rattle.std.specs.Prelude.{◌≡◌, ◌+◌, ◌≤◌, ◌∷◌, [], IfErr, IfOk, OnOk, length};
 ghost use Rattle.std.specs.Arc.{arc_value};
 ghost use Rattle.theory.specs.Placed.{Data, Pad};
-ghost use Rattle.log_passes.specs.Handles.{IsOf};
+ghost use Rattle.shared_log.specs.Steps.Handles.{IsOf};
 ghost use Rattle.claims.specs.Holdings.{end_of, size_of};
 ghost use Rattle.claims.specs.Passes.Parts.{with_part};
 

@@ -3,7 +3,7 @@
 ghost use Rattle.std.specs.Prelude.{◌≡◌, IfErr, IfOk, OnErr};
 ghost use Rattle.std.specs.Arc.{arc_value};
 ghost use Rattle.theory.specs.Refusal.{limit_in};
-ghost use Rattle.log_passes.specs.Handles.{IsOf};
+ghost use Rattle.shared_log.specs.Steps.Handles.{IsOf};
 ghost use Rattle.shared_log.specs.Joining.{AreEight, Joins};
 ghost use Rattle.shared_log.specs.Keepers.{CleansAndLimits, KeepsAs, TookSteps, closed_word, connected_word, there_of, with_limit};
 ghost use Rattle.claims.specs.Passes.Reading.{IsUnread};

@@ -4,7 +4,7 @@ ghost use Rattle.std.specs.Prelude.{◌≡◌, ◌≤◌, IfErr, IfOk, length};
 ghost use Rattle.std.specs.Arc.{arc_value};
 ghost use Rattle.theory.specs.Position.{max_message};
 ghost use Rattle.log_rule.specs.Shares.{claimed_bytes};
-ghost use Rattle.log_passes.specs.Handles.{IsOf};
+ghost use Rattle.shared_log.specs.Steps.Handles.{IsOf};
 ghost use Rattle.claims.specs.Claimings.{AcceptsMessage, DeniesMessage};
 
 use crate::claimant::{Claimant, offer};

@@ -15,9 +15,8 @@ use crate::inserter::frame_store::FrameStore;
 use crate::inserter::hand::{Hand, change_as, fetch_as, free_as, see_as, take_as};
 use crate::inserter::room::{Room, gather_parts};
 use crate::words::{Image, Words, mask};
-use frame_words::head_in;
 use image_rule::Changing;
-use position::align32;
+use position::{align32, head_in};
 use region::ReadAccess;
 use std::marker::Brand;
 

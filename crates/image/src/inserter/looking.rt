@@ -10,8 +10,7 @@ ghost use Rattle.image.specs.Looking.{IsHeadOf, TellsUnits};
 use crate::inserter::frame_store::FrameStore;
 use crate::inserter::hand::{Hand, fetch_as};
 use crate::words::{Image, Words, mask};
-use frame_words::head_in;
-use position::FrameHead;
+use position::{FrameHead, head_in};
 use std::marker::Brand;
 
 /// Whether none of these units was stored, from the floor on and at most a ring above it.

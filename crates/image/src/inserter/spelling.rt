@@ -11,9 +11,8 @@ ghost use Rattle.image.specs.Inserting.{IsComing};
 ghost use Rattle.image.specs.Stored.{IsOfStream, stream_frame};
 
 use crate::held::measure;
-use frame_words::first_word;
 use frames::{Frame, Header};
-use position::{Identity, UNFRAGMENTED};
+use position::{Identity, UNFRAGMENTED, first_word};
 
 /// The header of a frame of this length at a position, but for its kind, flags and length.
 fn header(identity: &Identity, start: u64, frame_length: u32) -> Header

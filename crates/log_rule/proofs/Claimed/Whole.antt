@@ -17,7 +17,7 @@ use Rattle.publication.specs.declared.pass.FrameWords.{FrameWords}
 use Rattle.publication.specs.declared.pass.Pass.{Pass}
 use Rattle.publication.specs.declared.step.WordStep.TheVariants as steps
 use Rattle.publication.specs.Steps.{Adds, Arms, Commits, Counts, ExchangesCount, Extent, HasWord, Nexts, Rotates, Sees, Stores, addition, count_in, disarmed, extent_of, frames_of, geometry_of, message_at, noted, padding_at, tail_exchange, tail_step, term_of, with_armed, with_begun, with_count, with_full, with_limit, with_work, written}
-use Rattle.frame_words.specs.Words.{frame_words}
+use Rattle.position.specs.Words.{frame_words}
 use Rattle.publication.specs.Frames.{CompletesFrame}
 use Rattle.log_rule.specs.Claims.Packs.{count_place, limit_place, slot, tail_place}
 use Rattle.log_rule.specs.Claims.Sums.{covers, total}

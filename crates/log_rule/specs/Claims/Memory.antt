@@ -12,7 +12,7 @@ use Rattle.theory.specs.Bytes.{Identity}
 use Rattle.publication.specs.declared.pass.FrameWords.{FrameWords}
 use Rattle.publication.specs.declared.pass.Pass.{Pass}
 use Rattle.publication.specs.Steps.{Extent, extent_of, frames_of, ranges_of}
-use Rattle.frame_words.specs.Words.{IsLegal, frame_words}
+use Rattle.position.specs.Words.{IsLegal, frame_words}
 use Rattle.log_rule.specs.Claims.Packs.{slot}
 use Rattle.log_rule.specs.Claims.Sums.{total}
 use Rattle.log_rule.specs.Claims.Rule.{Bounds, ClaimsHold, shape_of, size_of, weight}

@@ -1,6 +1,5 @@
 //! The keeper's calls, by the pass that has all.
 
-ghost use Rattle.std.specs.Prelude.{◌≡◌};
 ghost use Rattle.one_hand.specs.Keepings.{Cleans, MayKeep, SetsLimit};
 ghost use Rattle.shared_log.specs.Keepers.{closed_word, connected_word};
 

@@ -11,7 +11,7 @@ use loss_injector::Rates;
 use messages::Form;
 
 /// The nanoseconds of a second.
-pub(crate) const NANOSECONDS_PER_SECOND: u64 = 1_000_000_000;
+pub const SECOND: u64 = 1_000_000_000;
 
 /// What both ends are made of.
 pub(crate) fn end_plan<'a>(

@@ -5,7 +5,7 @@ ghost use Rattle.theory.specs.Position.{IsGeometry, IsMtu, IsTermLength, count_o
 ghost use Rattle.position.specs.Openings.{IsStart};
 ghost use Rattle.options.specs.Ends.Plans.{ExplainsNoPublishPlan, IsPlace, IsPublishFault, IsPublishPlanOf, IsPublishPlanWith, StartsAt, are_several, first_term, geometry_of, mtu_of, term_of};
 
-use crate::ends::end_plan::{NANOSECONDS_PER_SECOND, end_plan};
+use crate::ends::end_plan::{SECOND, end_plan};
 use crate::ends::fault::EndFault;
 use crate::ends::ids::Drawn;
 use crate::ends::options::PublishOptions;
@@ -112,7 +112,7 @@ fn named_start(geometry: &Geometry, start: Start) -> Option<u64>
 fn nanoseconds(seconds: u32) -> u64
     ensures { result ≡ seconds * 1000000000 }
 {
-    u64::from(seconds) * NANOSECONDS_PER_SECOND
+    u64::from(seconds) * SECOND
 }
 
 /// Whether there are further endpoints.

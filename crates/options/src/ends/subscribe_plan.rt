@@ -4,7 +4,7 @@ ghost use Rattle.std.specs.Prelude.{◌≡◌, ◌<◌, ◌^◌, IfErr, IfOk};
 ghost use Rattle.theory.specs.Position.{IsTermLength};
 ghost use Rattle.options.specs.Ends.Plans.{ExplainsNoSubscribePlan, IsSubscribeFault, IsSubscribePlanOf, IsSubscribePlanWith, greatest_term_of, quiet_of};
 
-use crate::ends::end_plan::{NANOSECONDS_PER_SECOND, end_plan};
+use crate::ends::end_plan::{SECOND, end_plan};
 use crate::ends::fault::EndFault;
 use crate::ends::ids::Drawn;
 use crate::ends::options::SubscribeOptions;
@@ -64,7 +64,7 @@ fn plan_of<'a>(
         greatest_term,
         receiver: drawn.receiver,
         messages: options.messages,
-        quiet: u64::from(quiet(options)) * NANOSECONDS_PER_SECOND,
+        quiet: u64::from(quiet(options)) * SECOND,
         once: options.once,
         sessions: options.sessions,
     })

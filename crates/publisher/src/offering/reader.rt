@@ -6,8 +6,8 @@ ghost use Rattle.theory.specs.Position.{max_message};
 ghost use Rattle.shared_log.specs.Books.{IsDone};
 ghost use Rattle.publisher.specs.InputEnds.{EndsInput};
 ghost use Rattle.publisher.specs.Inputs.{StopsReading};
-ghost use Rattle.publisher.specs.Offers.{GivesUp, OffersOne, PublishesInput, PublishesNone, PublishesOne};
-ghost use Rattle.publisher.specs.Refusals.{IsRefused, IsRefusedForGood};
+ghost use Rattle.publisher.specs.Offers.{GivesUp, OffersOne, PublishesInput, PublishesNone};
+ghost use Rattle.publisher.specs.Refusals.{IsRefusedForGood};
 
 use crate::offering::offering_state::OfferingState;
 use crate::offering::reading::{Offered, Reading, ReadingEnd, ReadingFault};

@@ -4,15 +4,16 @@ ghost use Rattle.std.specs.Prelude.{◌≡◌, ◌↔◌, ◌<◌, ◌≤◌, �
 ghost use Rattle.theory.specs.Position.{max_position};
 ghost use Rattle.log_rule.specs.Keepings.{MayJoin, joined, newly};
 ghost use Rattle.log_rule.specs.Table.{other_readings};
-ghost use Rattle.log_passes.specs.Handles.{IsOf};
+ghost use Rattle.shared_log.specs.Steps.Handles.{IsOf};
 ghost use Rattle.shared_log.specs.Joining.{AreEight, Becomes, Begins, Ends, HasConsumer, HasOther, IsFirstFree, IsJoined, IsLast, Joins, KnowsControls, Leaves};
 ghost use Rattle.shared_log.specs.Keepers.{TookSteps, there_of};
 ghost use Rattle.shared_log.specs.Readers.{IsAlone, IsReaderOf};
 
 use crate::fault::LogError;
+use crate::handle::Handle;
 use crate::keeper::{Keeper, sweep};
 use crate::reader::LogReader;
-use log_passes::Log;
+use crate::steps::log::Log;
 
 /// Stores where a consumer begins whose number nobody has: the keeper's own pass is that consumer
 /// then, at a place among those that it is.
@@ -24,19 +25,8 @@ fn begin_there(log: &Log, keeper: &mut Keeper, number: u64, place: u64, position
     ensures controls { KnowsControls keeper.old keeper.new }
     ensures once { TookSteps keeper.old 1 keeper.new }
 {
-    log.begin_consumer(&mut keeper.pass, number, place, position);
+    log.begin_consumer(&mut keeper.handle.pass, number, place, position);
     keeper.there[number as usize] = true;
-}
-
-/// Stores zero for a consumer of the keeper's own pass, which is none any more.
-fn end_there(log: &Log, keeper: &mut Keeper, number: u64, place: u64)
-    requires fits { IsOf log.now keeper.old.held }
-    requires consumer { HasConsumer keeper.old.held.pass place number }
-    requires other { HasOther (there_of keeper.old) number }
-    ensures { Ends keeper.old place number keeper.new }
-{
-    log.end_consumer(&mut keeper.pass, number, place);
-    keeper.there[number as usize] = false;
 }
 
 /// A consumer with a number that nobody has begins in the keeper's own pass, at this place of those
@@ -49,20 +39,21 @@ pub fn begin_consumer(log: &Log, keeper: &mut Keeper, number: u64, place: u64) -
     ensures begins { Begins log.now keeper.old number place result keeper.new }
     ensures low { result ≤ max_position log.now.identity.geometry }
 {
-    let _ = &keeper.pass;
+    let _ = &keeper.handle;
     let position = sweep(log, keeper);
     begin_there(log, keeper, number, place, position);
     position
 }
 
-/// A consumer of the keeper's own pass ends, where another one is there.
+/// A consumer of the keeper's own pass ends, where another one is there: zero is stored for it.
 pub fn end_consumer(log: &Log, keeper: &mut Keeper, number: u64, place: u64)
     requires fits { IsOf log.now keeper.old.held }
     requires consumer { HasConsumer keeper.old.held.pass place number }
     requires other { HasOther (there_of keeper.old) number }
     ensures { Ends keeper.old place number keeper.new }
 {
-    end_there(log, keeper, number, place);
+    log.end_consumer(&mut keeper.handle.pass, number, place);
+    keeper.there[number as usize] = false;
 }
 
 /// The first consumer of the keeper's own pass goes to a seat of its own.
@@ -79,17 +70,20 @@ fn deal_consumer(log: &Log, keeper: &mut Keeper, number: u64, position: u64) -> 
     ensures steps { TookSteps keeper.old 0 keeper.new }
     ensures reader { IsJoined log.now number position result }
 {
-    let pass = log.deal_reader(&mut keeper.pass);
-    LogReader {
+    let pass = log.deal_reader(&mut keeper.handle.pass);
+    let handle = Handle {
         pass,
         home: None,
-        freed: keeper.freed,
+        freed: keeper.handle.freed,
+        identity: log.identity(),
+        start: log.start(),
+    };
+    LogReader {
+        handle,
         place: 0,
         number,
         position,
         read_to: position,
-        identity: log.identity(),
-        start: log.start(),
     }
 }
 
@@ -106,7 +100,7 @@ fn take_back(log: &Log, keeper: &mut Keeper, reader: LogReader)
     ensures steps { TookSteps keeper.old 0 keeper.new }
     ensures consumer { HasConsumer keeper.new.held.pass 0 reader.number }
 {
-    log.take_consumer(&mut keeper.pass, reader.pass);
+    log.take_consumer(&mut keeper.handle.pass, reader.handle.pass);
 }
 
 impl Keeper {
@@ -128,7 +122,7 @@ impl Keeper {
         ensures some { IsTrue result → HasOther (there_of self.now) number }
         ensures none { result ≡ false → IsLast (there_of self.now) number }
     {
-        let _ = &self.pass;
+        let _ = &self.handle;
         for other in 0..8 {
             if other != number && self.has_consumer(other) {
                 return true;
@@ -149,7 +143,7 @@ impl Keeper {
         ensures error { IfErr result (λ error. error ≡ LogError.Full) }
         ensures refused { OnErr result (self.new ≡ self.old) }
     {
-        let _ = &self.pass;
+        let _ = &self.handle;
         let Some(number) = self.free_number() else {
             return Err(LogError::Full);
         };

@@ -2,16 +2,15 @@
 
 ghost use Rattle.std.specs.Prelude.{◌≡◌, []};
 ghost use Rattle.log_memory.specs.Drafts.{IsDraft};
-ghost use Rattle.log_passes.specs.Drafts.{IsOpenDraft, Stores};
-ghost use Rattle.log_passes.specs.Handles.{IsOf, LogValue, Stepped, Took};
-ghost use Rattle.log_passes.specs.Leading.{took_more, took_none};
+ghost use Rattle.shared_log.specs.Steps.Drafts.{IsOpenDraft, Stores};
+ghost use Rattle.shared_log.specs.Steps.Handles.{IsOf, LogValue, Stepped, Took};
+ghost use Rattle.shared_log.specs.Steps.Leading.{took_more, took_none};
 
 use crate::home::Home;
 use crate::publisher::Publisher;
-use frame_words::{first_word, header_words};
+use crate::steps::log::Log;
 use log_memory::Draft;
-use log_passes::Log;
-use position::{Identity, UNFRAGMENTED, align32};
+use position::{Identity, UNFRAGMENTED, align32, first_word, header_words};
 use publication::{InOrder, WordCalls};
 use std::marker::Model;
 
@@ -22,7 +21,7 @@ pub struct OnLog<'a> {
 }
 
 impl<'a> Model for OnLog<'a> {
-    ghost use Rattle.log_passes.specs.Handles.{LogValue};
+    ghost use Rattle.shared_log.specs.Steps.Handles.{LogValue};
 
     ghost Value = { LogValue };
 
@@ -38,11 +37,11 @@ fn commit(log: &Log, publisher: &mut Publisher, draft: &Draft<'_>)
     ensures stepped { Stepped [] publisher.old publisher.new }
     ensures told { Stores draft.now publisher.old.pass publisher.new.pass }
 {
-    let Some(home) = publisher.home.take() else {
+    let Some(home) = publisher.handle.home.take() else {
         unreachable!();
     };
-    let region = log.commit(&mut publisher.pass, home.region, draft);
-    publisher.home = Some(Home { region });
+    let region = log.commit(&mut publisher.handle.pass, home.region, draft);
+    publisher.handle.home = Some(Home { region });
 }
 
 impl<'a> OnLog<'a> {
@@ -76,41 +75,41 @@ impl<'a> WordCalls for OnLog<'a> {
 
     #[inline(always)]
     fn load_limit(&mut self, pass: &mut Publisher) -> u64 {
-        self.log.see(&mut pass.pass)
+        self.log.see(&mut pass.handle.pass)
     }
 
     #[inline(always)]
     fn load_count(&mut self, pass: &mut Publisher) -> u32 {
-        self.log.count(&mut pass.pass)
+        self.log.count(&mut pass.handle.pass)
     }
 
     #[inline(always)]
     fn load_tail(&mut self, pass: &mut Publisher, count: u32) -> u64 {
-        self.log.arm(&mut pass.pass, count)
+        self.log.arm(&mut pass.handle.pass, count)
     }
 
     #[inline(always)]
     fn add(&mut self, _order: &InOrder, pass: &mut Publisher, count: u32, size: u32) -> u64 {
         let log = self.log;
         let _ = log.identity();
-        let (word, bytes) = log.add(&mut pass.pass, count, size);
+        let (word, bytes) = log.add(&mut pass.handle.pass, count, size);
         pass.share += u64::from(bytes);
         word
     }
 
     #[inline(always)]
     fn load_next(&mut self, pass: &mut Publisher, count: u32) -> u64 {
-        self.log.next_tail(&mut pass.pass, count)
+        self.log.next_tail(&mut pass.handle.pass, count)
     }
 
     #[inline(always)]
     fn exchange_next(&mut self, pass: &mut Publisher, count: u32, from: u64) -> u64 {
-        self.log.rotate(&mut pass.pass, count, from)
+        self.log.rotate(&mut pass.handle.pass, count, from)
     }
 
     #[inline(always)]
     fn exchange_count(&mut self, pass: &mut Publisher, count: u32) -> u32 {
-        self.log.exchange_count(&mut pass.pass, count)
+        self.log.exchange_count(&mut pass.handle.pass, count)
     }
 
     #[inline(always)]

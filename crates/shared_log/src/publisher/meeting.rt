@@ -3,10 +3,10 @@
 ghost use Rattle.std.specs.Prelude.{◌≡◌};
 ghost use Rattle.log_rule.specs.Claims.Plays.{no_keeping};
 ghost use Rattle.shared_log.specs.Books.{IsIdle};
-ghost use Rattle.log_passes.specs.Meets.{Meets};
+ghost use Rattle.shared_log.specs.Steps.Meets.{Meets};
 
 use crate::publisher::Publisher;
-use log_passes::Log;
+use crate::steps::log::Log;
 
 /// Two publishers meet: what they have claimed is apart. The answer is the greatest position that
 /// the three raw tails show, each loaded in this call; none that either has claimed or was shown
@@ -18,6 +18,6 @@ pub fn meet(log: &Log, mut one: Publisher, mut other: Publisher) -> (Publisher, 
     requires publisher { other.pass.keeping ≡ no_keeping }
     ensures { Meets one other result.0 result.1 result.2 }
 {
-    let tail = log.meet(&mut one.pass, &mut other.pass);
+    let tail = log.meet(&mut one.handle.pass, &mut other.handle.pass);
     (one, other, tail)
 }

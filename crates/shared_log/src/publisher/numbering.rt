@@ -1,10 +1,10 @@
 //! A publisher that claims under another number.
 
 ghost use Rattle.std.specs.Prelude.{◌≡◌, ◌<◌};
-ghost use Rattle.log_passes.specs.Handles.{IsOf};
+ghost use Rattle.shared_log.specs.Steps.Handles.{IsOf};
 
 use crate::publisher::Publisher;
-use log_passes::Log;
+use crate::steps::log::Log;
 
 /// The publisher, which has all parts, claims under this number from then on. It keeps what it has
 /// and what it knows, and makes no step.
@@ -16,6 +16,6 @@ pub fn renumber(log: &Log, publisher: &mut Publisher, number: u64)
       pass = record publisher.old.pass { number = number };
     } }
 {
-    log.renumber(&mut publisher.pass, number);
+    log.renumber(&mut publisher.handle.pass, number);
     publisher.number = number;
 }

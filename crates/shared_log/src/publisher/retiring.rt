@@ -4,7 +4,7 @@ ghost use Rattle.std.specs.Prelude.{◌≡◌};
 ghost use Rattle.shared_log.specs.Books.{IsIdle, Retires};
 
 use crate::publisher::Publisher;
-use log_passes::Log;
+use crate::steps::log::Log;
 
 /// Ends the second publisher: its parts, its claims and their frames, the open ones too, and its
 /// share go to the first, which keeps its number and owns all that it has.
@@ -15,8 +15,8 @@ pub fn retire(log: &Log, mut publisher: Publisher, other: Publisher) -> Publishe
 {
     let _ = log.identity();
     let share = other.share();
-    log.take_over(&mut publisher.pass, other.pass);
-    log.weigh(&mut publisher.pass);
+    log.take_over(&mut publisher.handle.pass, other.handle.pass);
+    log.weigh(&mut publisher.handle.pass);
     publisher.share += share;
     publisher
 }

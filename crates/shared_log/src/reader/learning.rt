@@ -1,12 +1,12 @@
 //! A reader is told what a publisher committed.
 
 ghost use Rattle.std.specs.Prelude.{◌≡◌};
-ghost use Rattle.log_passes.specs.Handles.{IsOf};
+ghost use Rattle.shared_log.specs.Steps.Handles.{IsOf};
 ghost use Rattle.shared_log.specs.Readers.{IsAlone, IsReaderOf, Learns};
 
 use crate::publisher::Publisher;
 use crate::reader::LogReader;
-use log_passes::Log;
+use crate::steps::log::Log;
 
 /// Tells a reader each frame that a publisher has committed: it finds these, and never none, where
 /// they are.
@@ -17,5 +17,5 @@ pub fn learn(log: &Log, reader: &mut LogReader, publisher: &mut Publisher)
     ensures alone { IsAlone log.now reader.old → IsAlone log.now reader.new }
     ensures same { publisher.new ≡ publisher.old }
 {
-    log.learn(&mut reader.pass, &mut publisher.pass);
+    log.learn(&mut reader.handle.pass, &mut publisher.handle.pass);
 }

@@ -5,9 +5,9 @@ ghost use Rattle.shared_log.specs.Readers.{IsReaderOf, misses_of};
 ghost use Rattle.shared_log.specs.Sourced.{Grows, StaysOn, frames_stay, grows_on, source_of, stays_on};
 
 use crate::reader::LogReader;
+use crate::steps::log::Log;
 use block::Block;
 use frame_source::FrameSource;
-use log_passes::Log;
 use position::FrameHead;
 
 /// The committed frames of a log that threads share, as one of its readers gets them. Nothing is

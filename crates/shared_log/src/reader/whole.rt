@@ -5,7 +5,7 @@ ghost use Rattle.shared_log.specs.Readers.{IsAlone, IsReaderOf, ReadsFrame};
 ghost use Rattle.shared_log.specs.Whole.{LeavesUnread};
 
 use crate::reader::{LogReader, look};
-use log_passes::Log;
+use crate::steps::log::Log;
 use position::{FrameHead, FrameKind};
 
 /// Why no frame was read.

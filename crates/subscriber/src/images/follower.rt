@@ -1,6 +1,6 @@
 //! A subscriber with an image, the end that was told of its session's stream, and whether that was heard.
 
-ghost use Rattle.std.specs.Prelude.{◌≡◌, ◌⊎◌, ◌↔◌, IsTrue, OnErr, OnOk, ⊤};
+ghost use Rattle.std.specs.Prelude.{◌≡◌, ◌⊎◌, ◌↔◌, IsTrue, ⊤};
 ghost use Rattle.theory.specs.Wire.{IsFrame, IsHeader};
 ghost use Rattle.frames.specs.Frames.{header_of, setup_of, wire};
 ghost use Rattle.subscriber.specs.Followers.{BringsStream, FollowerHears, FollowerTicks, IsOwn, IsStreamFrame, NotesDatagramsEnd, NotesEnd, NotesGreatestEnds, names_above, with_end};

@@ -1,6 +1,6 @@
 //! A session that a subscriber follows.
 
-ghost use Rattle.std.specs.Prelude.{◌≡◌, ◌≢◌, ◌≤◌, ◌-◌, ◌↔◌, ℕ, IfErr, IfOk, IsTrue, OnErr, OnOk};
+ghost use Rattle.std.specs.Prelude.{◌≡◌, ◌≢◌, ◌≤◌, ◌-◌, ◌↔◌, ℕ, IfErr, IfOk, IsTrue, OnOk};
 ghost use Rattle.std.specs.Io.KnownBytes.{Appends};
 ghost use Rattle.endpoint.specs.declared.device_error.DeviceError.TheVariants.{Device, Memory};
 ghost use Rattle.subscriber.specs.declared.fault.SubscribeFault.TheVariants.{Failed};
@@ -26,9 +26,10 @@ use crate::images::session_watch::SessionWatch;
 use crate::images::{CutOff, Images, Loss, Unheard, first_cut};
 use crate::listening::setup_offer::{ImageParams, SetupOffer};
 use crate::reporting::{Counted, Counts, Line, SessionId, Unfinished, tell};
-use crate::watch::{SECOND, Watch};
+use crate::watch::Watch;
 use agents::{Duty, REPLY};
 use endpoint::DeviceError;
+use options::SECOND;
 use peer::StreamEnd;
 use receiver::STATUS_INTERVAL;
 use std::io;

@@ -10,9 +10,9 @@ ghost use Rattle.subscriber.specs.Routing.{IsOf};
 
 use crate::listening::first_frame::{FirstFrame, HeardFrame};
 use endpoint::{Datagrams, DeviceFailed};
-use frames::Setup;
+use frames::{NAK_LENGTH, STATUS_LENGTH, Setup};
 use loss_injector::Lossy;
-use peer::{PatientDevice, PeerDevice, STATUS_BYTES};
+use peer::{PatientDevice, PeerDevice};
 use std::alloc::{AllocError, Global};
 use std::collections::VecDeque;
 use std::marker::Model;
@@ -54,9 +54,6 @@ impl RoutedDatagram {
     }
 }
 
-/// The bytes of a negative acknowledgement: no other frame that a receiver sends has so many.
-const NAK_BYTES: usize = 28;
-
 /// What was heard of a session.
 #[derive(Clone, Copy, Debug, PartialEq, Eq)]
 pub struct Notes {
@@ -72,7 +69,7 @@ pub struct Notes {
 #[derive(Clone, Copy)]
 pub struct SentStatus {
     to: SocketAddr,
-    bytes: [u8; STATUS_BYTES],
+    bytes: [u8; STATUS_LENGTH],
 }
 
 impl Model for SentStatus {
@@ -97,7 +94,7 @@ impl SentStatus {
     }
 
     /// What was sent.
-    pub fn bytes(&self) -> &[u8; STATUS_BYTES]
+    pub fn bytes(&self) -> &[u8; STATUS_LENGTH]
         ensures { result.now ≡ self.now.bytes }
     {
         &self.bytes
@@ -119,7 +116,7 @@ pub enum PendingStatus {
     /// It was given none.
     Nothing,
     /// The bytes of the last one.
-    Given([u8; STATUS_BYTES]),
+    Given([u8; STATUS_LENGTH]),
     /// The session or the peer is another, and it was given none since.
     Cleared,
 }
@@ -160,10 +157,10 @@ fn names_no_other(first: &FirstFrame, session: i32) -> bool
 fn noted_after(before: PendingStatus, datagram: &[u8]) -> PendingStatus
     ensures { result ≡ noted_after before datagram.now }
 {
-    if datagram.len() != STATUS_BYTES {
+    if datagram.len() != STATUS_LENGTH {
         return before;
     }
-    let mut bytes = [0; STATUS_BYTES];
+    let mut bytes = [0; STATUS_LENGTH];
     bytes.copy_from_slice(datagram);
     PendingStatus::Given(bytes)
 }
@@ -334,7 +331,8 @@ impl<D: Datagrams> Datagrams for SessionDevice<D> {
         ensures sends { Sends ⊥ (device_of (D.device self.old.inner) self.old.nones) datagram.now result (device_of (D.device self.new.inner) self.new.nones) }
         ensures given { self.new ≡ after_sending self.old datagram.now self.new.inner }
     {
-        if datagram.len() == NAK_BYTES {
+        // no other frame that a receiver sends has so many bytes
+        if datagram.len() == NAK_LENGTH {
             self.naks = self.naks.saturating_add(1);
         }
         self.noted = noted_after(self.noted, datagram);

@@ -3,8 +3,8 @@
 ghost use Rattle.std.specs.Prelude.{◌≡◌, ◌≤◌, ◌-◌, ◌↔◌, IsTrue};
 ghost use Rattle.subscriber.specs.Watches.{IsBehind, IsHearing, IsQuiet, IsSilent, attending, beginning, hearing, judging, keeping, looking, noting};
 
-use crate::watch::{SECOND, later_by};
-use options::SubscribePlan;
+use crate::watch::later_by;
+use options::{SECOND, SubscribePlan};
 use std::marker::Model;
 
 /// Nanoseconds after which a session is silent, and after which an image that lacks something is lost.

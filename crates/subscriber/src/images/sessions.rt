@@ -11,12 +11,13 @@ use crate::images::session::Session;
 use crate::listening::reception::{Read, Reception};
 use crate::watch::Watch;
 use agents::IdleStrategy;
+use options::SECOND;
 use std::alloc::{AllocError, Global};
 use std::sync::Wait;
 use std::time::Clock;
 
 /// How long a subscriber that has ended still tells where it stands, in nanoseconds.
-const FAREWELL: u64 = 1_000_000_000;
+const FAREWELL: u64 = SECOND;
 
 /// How many datagrams are read in a turn at the most.
 const MOST_READ: u32 = 272;

@@ -1,19 +1,19 @@
 //! A SETUP that would open an image, and the subscriber that it opens.
 
-ghost use Rattle.std.specs.Prelude.{◌≡◌, ◌≤◌, ◌↔◌, None, option_map, IfNone, IfOk, IfSome, IsTrue};
-ghost use Rattle.frames.specs.Frames.{header_of, setup_of, wire};
+ghost use Rattle.std.specs.Prelude.{◌≡◌, ◌≤◌, ◌↔◌, None, IfNone, IfOk, IfSome, IsTrue};
+ghost use Rattle.frames.specs.Frames.{setup_of};
 ghost use Rattle.receiver.specs.Representing.{Represents};
 ghost use Rattle.subscriber.specs.Calls.{IsMeeting};
-ghost use Rattle.subscriber.specs.Meetings.{Admits, HasMet, IsOngoing, Opens, OpensNothing, TakesSession, TellsHeader, bytes_of, header_told, id_of, invited, window_in};
+ghost use Rattle.subscriber.specs.Meetings.{Admits, HasMet, IsOngoing, Opens, OpensNothing, TakesSession, bytes_of, id_of, invited, window_in};
 ghost use Rattle.subscriber.specs.Turning.{GivesWay, GoesOn, IsAgain, IsAhead, IsAnother, IsLoss, IsNext, IsUnheard};
 ghost use Rattle.subscriber.specs.Windows.{AloneGetsAll, datagrams_of, room_of, whole_window, window_of};
 ghost use Rattle.theory.specs.Image.{IsWindow};
 ghost use Rattle.theory.specs.Position.{IsMtu, IsTermLength};
-ghost use Rattle.theory.specs.Wire.{IsFrame, IsHeader, SETUP, spelling};
+ghost use Rattle.theory.specs.Wire.{SETUP, spelling};
 
 use crate::images::session::Session;
 use crate::images::{Loss, loss_between};
-use frames::{Frame, Setup, write_frame};
+use frames::{Frame, SETUP_LENGTH, Setup, write_frame};
 use options::SubscribePlan;
 use peer::end_told;
 use position::Geometry;
@@ -23,9 +23,6 @@ use std::net::SocketAddr;
 
 /// The greatest message that any stream has, in bytes.
 pub const GREATEST_MESSAGE: usize = 2_097_152;
-
-/// The bytes of a SETUP.
-const SETUP_BYTES: usize = 40;
 
 /// The bytes of a receive buffer that a window may take: of the system's 212,992 three quarters, less an eighth of these.
 const SURE_ROOM: u64 = 139_776;
@@ -252,10 +249,10 @@ pub fn id_of(plan: &SubscribePlan, number: u64) -> i64
 }
 
 /// The datagram that a SETUP is.
-fn datagram_of(setup: Setup) -> [u8; SETUP_BYTES]
+fn datagram_of(setup: Setup) -> [u8; SETUP_LENGTH]
     ensures { result ≡ spelling (SETUP (setup_of setup)) }
 {
-    let mut datagram = [0; SETUP_BYTES];
+    let mut datagram = [0; SETUP_LENGTH];
     write_frame(&Frame::Setup(setup), &mut datagram);
     datagram
 }

@@ -2,7 +2,6 @@
 
 ghost use Rattle.std.specs.Prelude.{◌≡◌, ◌<◌, ◌≤◌, ◌↔◌, IfErr, IfNone, IfSome, IsTrue, OnErr, OnOk, Some, length};
 ghost use Rattle.std.specs.List.{AllZip};
-ghost use Rattle.std.specs.Io.KnownBytes.{Appends};
 ghost use Rattle.endpoint.specs.declared.device_error.DeviceError.TheVariants.{Memory};
 ghost use Rattle.subscriber.specs.Apart.{AreApart};
 ghost use Rattle.subscriber.specs.Choosing.{AttendsAll, IsChosen, IsEnded, IsFirst, IsItsOwn, IsNone, IsOldest, IsOver, IsPlaced, IsSilentNow, Joins, unheard_count};

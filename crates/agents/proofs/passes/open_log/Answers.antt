@@ -1,5 +1,5 @@
 use Rattle.std.proofs.Common.{rules, ◌≡◌, slice_index_or, length, List, [], ◌∷◌, subst, sym, ◌∙◌, arith}
-use Rattle.log_passes.specs.Handles.{LogValue}
+use Rattle.shared_log.specs.Steps.Handles.{LogValue}
 use Rattle.shared_log.specs.Parts.{AreReaders, IsNewReader}
 use Rattle.shared_log.specs.Readers.{ReaderValue}
 use Rattle.agents.proofs.passes.open_log.Goals as goal

@@ -1,6 +1,6 @@
 use Rattle.std.proofs.Common.{subst, sym, ◌∙◌}
 use Rattle.publication.specs.declared.refusal.Refusal.{Refusal}
-use Rattle.log_passes.specs.Handles.{IsOf, LogValue, PublisherValue}
+use Rattle.shared_log.specs.Steps.Handles.{IsOf, LogValue, PublisherValue}
 use Rattle.claims.specs.Claimings.{DeniesMessage, GoesOn}
 use Rattle.claims.proofs.Boxed.{publisher_is}
 use Rattle.claims.proofs.Halves.{refused_looking_at, refused_turning}

@@ -1,6 +1,6 @@
 use Rattle.std.proofs.Common.{ℕ, sym, subst}
 use Rattle.std.proofs.lemmas.Result.{IfErr-weaker, IfOk-weaker}
-use Rattle.log_passes.specs.Handles.{PublisherValue}
+use Rattle.shared_log.specs.Steps.Handles.{PublisherValue}
 use Rattle.claims.specs.Claimings.{ArmsFor, DeniesMessage, OpensClaim}
 use Rattle.claims.proofs.armed.try_claim.Goals as goal
 

@@ -1,6 +1,6 @@
 use Rattle.std.proofs.Common.{length, subst, ◌∙◌}
 use Rattle.std.specs.Prelude.{IfErr}
-use Rattle.log_passes.specs.Handles.{IsOf, LogValue, PublisherValue}
+use Rattle.shared_log.specs.Steps.Handles.{IsOf, LogValue, PublisherValue}
 use Rattle.claims.specs.Claimings.{DeniesMessage}
 use Rattle.claims.proofs.Boxed.{publisher_is}
 use Rattle.claims.proofs.Halves.{offer_refused}

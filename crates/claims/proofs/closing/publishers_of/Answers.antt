@@ -1,5 +1,5 @@
 use Rattle.std.proofs.Common.{rules, ◌≡◌, ◌+◌, List, [], ◌∷◌, ◌++◌, All, length, vec_len, sym, ap, ◌∙◌, subst, append_assoc, arith}
-use Rattle.log_passes.specs.Handles.{IsOf, PublisherValue}
+use Rattle.shared_log.specs.Steps.Handles.{IsOf, PublisherValue}
 use Rattle.shared_log.specs.Books.{IsDone}
 use Rattle.claims.proofs.Handed.{all_rest, all_snoc, append_none}
 use Rattle.claims.proofs.closing.publishers_of.Goals as goal

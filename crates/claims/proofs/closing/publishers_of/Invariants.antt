@@ -1,6 +1,6 @@
 use Rattle.std.proofs.Common.{◌≡◌, ◌≤◌, All, length, vec_capacity, vec_len, ◌+◌, ◌++◌}
 use Rattle.shared_log.specs.Books.{IsDone}
-use Rattle.log_passes.specs.Handles.{IsOf}
+use Rattle.shared_log.specs.Steps.Handles.{IsOf}
 use Rattle.claims.proofs.closing.publishers_of.Given as goal
 
 abbrev pub invariant-loop-claimant : goal.invariant-loop-claimant

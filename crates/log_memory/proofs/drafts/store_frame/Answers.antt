@@ -1,5 +1,5 @@
 use Rattle.std.proofs.Common.{◌≡◌, ℕ, suc, ◌-◌, ◌*◌, ◌/◌, ◌%◌, ◌^◌, ◌<◌, ◌++◌, drop, length, sym, ap, ◌∙◌, subst, arith}
-use Rattle.frame_words.specs.Contents.{bytes_in}
+use Rattle.position.specs.Contents.{bytes_in}
 use Rattle.region.specs.declared.access.ReadAccess.{ReadAccess}
 use Rattle.region.specs.declared.access.WriteAccess.{WriteAccess}
 use Rattle.region.specs.declared.region.Region.{Region}
@@ -8,7 +8,7 @@ use Rattle.log_memory.specs.declared.view.Site.{Site}
 use Rattle.log_memory.specs.Drafts.{words_of}
 use Rattle.log_memory.specs.Rights.{IsEighthAt}
 use Rattle.log_memory.specs.Steps.{Carries, IsPartAt}
-use Rattle.frame_words.proofs.Wordings.{words_length}
+use Rattle.position.proofs.Wordings.{words_length}
 use Rattle.log_memory.proofs.Drafted.{carries_as, eighths_are_parts, written_items}
 use Rattle.log_memory.proofs.Frees.{bytes_long}
 use Rattle.log_memory.proofs.drafts.store_frame.Goals as goal

@@ -1,5 +1,5 @@
 use Rattle.std.proofs.Common.{◌≡◌, suc}
-use Rattle.log_passes.specs.Handles.{IsOf}
+use Rattle.shared_log.specs.Steps.Handles.{IsOf}
 use Rattle.log_tests.proofs.turns.turn.Given as goal
 
 abbrev pub invariant-loop : goal.invariant-loop

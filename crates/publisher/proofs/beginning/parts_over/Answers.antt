@@ -2,7 +2,7 @@ use Rattle.std.proofs.Common.{◌≡◌, ◌∙◌, ap, subst, sym}
 use Rattle.theory.specs.Bytes.{Identity}
 use Rattle.shared_log.specs.Books.{IsDone}
 use Rattle.shared_log.specs.Handles.{IsNew}
-use Rattle.log_passes.specs.Handles.{LogValue}
+use Rattle.shared_log.specs.Steps.Handles.{LogValue}
 use Rattle.shared_log.specs.Parts.{IsNewReader}
 use Rattle.conductor.specs.Parties.{ClientSeen, TakerSeen}
 use Rattle.agents.specs.NewPasses.{AreNewPasses}

@@ -2,7 +2,7 @@ use Rattle.std.proofs.Common.{◌≡◌, ◌∙◌, ℕ, IfSome, length, subst, 
 use Rattle.theory.specs.Bytes.{Identity}
 use Rattle.position.specs.Openings.{IsStart}
 use Rattle.options.specs.declared.ends.plans.PublishPlan.{PublishPlan}
-use Rattle.log_passes.specs.Handles.{LogValue}
+use Rattle.shared_log.specs.Steps.Handles.{LogValue}
 use Rattle.shared_log.specs.Keepers.{KeeperValue}
 use Rattle.shared_log.specs.Readers.{IsReaderOf, ReaderValue}
 use Rattle.sender_meaning.specs.StreamLives.{StreamLived}
@@ -10,7 +10,6 @@ use Rattle.publisher.specs.Ended.{ArrivesAt, HasSent, reading_left}
 use Rattle.publisher.specs.Openings.{IsKept, IsPlanned}
 use Rattle.publisher.specs.Shorts.{EndsShort}
 use Rattle.publisher.specs.declared.offering.offering_state.OfferingState.{OfferingState}
-use Rattle.publisher.proofs.AllPublished.{as_given}
 use Rattle.publisher.proofs.Sent.{has_sent, still_reads}
 use Rattle.publisher.proofs.channel_publisher.publish_over.Goals as goal
 

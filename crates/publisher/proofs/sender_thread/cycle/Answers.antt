@@ -1,4 +1,4 @@
-use Rattle.std.proofs.Common.{◌≡◌, ◌∙◌, ap, map, subst, sym}
+use Rattle.std.proofs.Common.{◌≡◌, ◌∙◌, ap, map, subst}
 use Rattle.publisher.specs.Seeing.{LivesAlong, begun, seen_along}
 use Rattle.sender_meaning.proofs.Moments.{ways_cycle}
 use Rattle.sender_meaning.proofs.StreamLiving.{cycle_lived_to, ways_lived}

@@ -1,10 +1,9 @@
-use Rattle.std.proofs.Common.{◌≡◌, ◌∙◌, ℕ, Bool, true, IfOk, IfSome, Err, List, Option, ap, map, subst, sym}
+use Rattle.std.proofs.Common.{◌≡◌, ◌∙◌, Bool, true, IfOk, IfSome, Err, Option, ap, map, subst, sym}
 use Rattle.publisher.specs.Ended.{AllHaveArrived, reading_left}
 use Rattle.publisher.specs.Endings.{heard_along}
 use Rattle.publisher.specs.Farewells.{are_told_alone, are_told_no_other, ends_along}
 use Rattle.publisher.specs.Judging.{fault_in, stream_end_in}
 use Rattle.publisher.specs.declared.offering.reading.Reading.{Reading}
-use Rattle.publisher.specs.Seeing.{ChannelDestination}
 use Rattle.peer.specs.declared.farewell.StreamEnd.{StreamEnd}
 use Rattle.publisher.proofs.Short.{fault_still, no_other, says_why, whole_still}
 use Rattle.publisher.proofs.WholeAlong.{all_arrived, still_faulted, told_alone, whole_before}

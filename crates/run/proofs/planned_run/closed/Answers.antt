@@ -1,5 +1,5 @@
 use Rattle.std.proofs.Common.{List, subst}
-use Rattle.log_passes.specs.Handles.{PublisherValue}
+use Rattle.shared_log.specs.Steps.Handles.{PublisherValue}
 use Rattle.shared_log.specs.Books.{ShowsBook}
 use Rattle.run.proofs.Closing.{all_there, shown}
 use Rattle.run.proofs.planned_run.closed.Goals as goal

@@ -4,7 +4,7 @@ use Rattle.theory.proofs.Lists.{all_behind, all_front}
 use Rattle.publication.specs.declared.pass.FrameWords.{FrameWords}
 use Rattle.publication.specs.declared.pass.Pass.{Pass}
 use Rattle.publication.specs.declared.pass.Reading.{Reading}
-use Rattle.log_passes.specs.Handles.{parts_in}
+use Rattle.shared_log.specs.Steps.Handles.{parts_in}
 use Rattle.log_rule.specs.Claims.Sums.{total}
 use Rattle.log_rule.specs.Table.{all_known}
 use Rattle.shared_log.specs.Books.{IsCommittedBy}

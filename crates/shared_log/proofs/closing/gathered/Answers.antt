@@ -1,7 +1,7 @@
 use Rattle.std.proofs.Common.{◌≡◌, ℕ, ◌+◌, List, [], ◌∷◌, length, sym, refl, ◌∙◌, subst, arith}
 use Rattle.std.specs.Prelude.{Some, slice_index, slice_set}
 use Rattle.std.proofs.lemmas.List.Elements.{All-pop}
-use Rattle.log_passes.specs.Handles.{PublisherValue}
+use Rattle.shared_log.specs.Steps.Handles.{PublisherValue}
 use Rattle.shared_log.specs.Books.{IsDone, ShowsBook}
 use Rattle.shared_log.proofs.Gathered.{IsGathering, begun, gathered_on, knows_committed, shows, sums_low}
 use Rattle.shared_log.proofs.closing.gathered.Goals as goal

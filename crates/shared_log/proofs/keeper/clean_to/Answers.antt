@@ -10,6 +10,6 @@ returns-then-end-keeper c =
 
 pub returns : goal.returns
 returns c =
-    let k : KeeperValue = record { held = c.keeper.inside.pass; limit = c.keeper.inside.limit; cleaned = c.keeper.inside.cleaned } in
+    let k : KeeperValue = record { held = c.keeper.inside.handle.pass; limit = c.keeper.inside.limit; cleaned = c.keeper.inside.cleaned } in
     subst (λ (x : KeeperValue). CleansTo c.args.log.now.identity c.args.end x (record k { held = c.clean-region.new.pass; cleaned = c.args.end })) c.keeper.view_is
     (cleans_some c.args.log.now.identity k c.args.end c.clean-region.result.1 c.clean-region.new.pass c.keeper.invariant.keeping (subst KnowsLimit (sym c.keeper.view_is) c.requires.knows) (let gt = c.if-end-keeper.false in omega (arith, gt)) c.clean-region.ensures.cleans)

@@ -1,7 +1,7 @@
 use Rattle.std.proofs.Common.{◌≡◌, sym, ap, ◌∙◌, arith}
 use Rattle.publication.specs.declared.pass.Pass.{Pass}
 use Rattle.log_rule.specs.Shares.{claimed_bytes}
-use Rattle.log_passes.specs.Handles.{LogId}
+use Rattle.shared_log.specs.Steps.Handles.{LogId}
 use Rattle.shared_log.proofs.Owned.{owns_all}
 use Rattle.shared_log.proofs.opening.open_whole.Goals as goal
 

@@ -5,7 +5,7 @@ use Rattle.log_rule.specs.Table.{first_there as first_flags, whole_pass}
 use Rattle.log_rule.specs.declared.rule.Key.{Key}
 use Rattle.log_rule.proofs.Beginning.{first_is}
 use Rattle.publication.specs.declared.pass.Pass.{Pass}
-use Rattle.log_passes.specs.Handles.{LogId, LogValue, PublisherValue}
+use Rattle.shared_log.specs.Steps.Handles.{LogId, LogValue, PublisherValue}
 use Rattle.shared_log.specs.Keepers.{IsKeeping, KnowsWho, flag_of}
 use Rattle.shared_log.proofs.parts.deal_keeper.Goals as goal
 
@@ -14,7 +14,7 @@ first_there-there-requires c = let few = c.consumers.ensures.some.1 in let e = c
 
 pub invariant_of-result : goal.invariant_of-result
 invariant_of-result c =
-    let l : LogValue = c.args.log.now in let key : Key = record { identity = l.identity; start = l.start; consumers = l.consumers } in let pv : c.pass.inside.pass ≡ c.args.pass.now = c.pass.view_is in
+    let l : LogValue = c.args.log.now in let key : Key = record { identity = l.identity; start = l.start; consumers = l.consumers } in let pv : c.pass.inside.handle.pass ≡ c.args.pass.now = c.pass.view_is in
     let vi = ap (λ (p : PublisherValue). p.pass) pv ∙ c.requires.pass.pass in let d = c.deal_keeper.ensures.dealt in
     let is : c.deal_keeper.result.pass ≡ record (newcomer l.identity l.start 0 8) { keeping = (whole_pass key).keeping } = ap (λ (p : PublisherValue). p.pass) d ∙ ap (λ (p : Pass). record (newcomer p.identity p.start 0 8) { keeping = p.keeping }) vi in
     let flags : map flag_of c.first_there-there.result ≡ first_flags l.consumers = c.first_there-there.ensures.flags ∙ ap first_flags c.consumers.ensures.is in record {

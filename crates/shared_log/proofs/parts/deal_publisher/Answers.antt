@@ -2,14 +2,14 @@ use Rattle.std.proofs.Common.{◌≡◌, ℕ, suc, ◌+◌, ◌-◌, ◌*◌, �
 use Rattle.publication.specs.declared.pass.Pass.{Pass}
 use Rattle.log_rule.specs.Claims.Plays.{dealer, newcomer}
 use Rattle.log_rule.specs.Shares.{claimed_bytes}
-use Rattle.log_passes.specs.Handles.{LogValue, PublisherValue}
+use Rattle.shared_log.specs.Steps.Handles.{LogValue, PublisherValue}
 use Rattle.shared_log.specs.Handles.{OwnsClaims}
 use Rattle.shared_log.proofs.Dealt.{dealer_is, owns_dealer}
 use Rattle.shared_log.proofs.Holding.{publisher_kept}
 use Rattle.shared_log.proofs.parts.deal_publisher.Goals as goal
 
 -- who deals has what a publisher with the number below has
-left_is : (c : goal.After-result-1) → c.deal_publisher-dealt.new.pass.pass ≡ newcomer c.args.log.now.identity c.args.log.now.start (c.args.pass.now.pass.number - 1) (120 * (c.args.pass.now.pass.number - 1) + 176)
+left_is : (c : goal.After-handle-1) → c.deal_publisher-dealt.new.pass.pass ≡ newcomer c.args.log.now.identity c.args.log.now.start (c.args.pass.now.pass.number - 1) (120 * (c.args.pass.now.pass.number - 1) + 176)
 left_is c =
     let l : LogValue = c.args.log.now in let k : ℕ = c.args.pass.now.pass.number in let some = c.requires.number in
     let vi = ap (λ (p : PublisherValue). p.pass) c.pass.view_is ∙ c.requires.dealer.1.pass_is in let below : k ≡ suc (k - 1) = omega (arith, some) in

@@ -4,7 +4,7 @@ use Rattle.log_rule.specs.Keepings.{newly}
 use Rattle.log_rule.specs.Table.{first_reading, other_readings, reader_alone}
 use Rattle.publication.specs.declared.pass.Pass.{Pass}
 use Rattle.publication.specs.declared.pass.Reading.{Reading}
-use Rattle.log_passes.specs.Handles.{LogValue, PublisherValue}
+use Rattle.shared_log.specs.Steps.Handles.{LogValue, PublisherValue}
 use Rattle.shared_log.specs.Readers.{IsReading}
 use Rattle.shared_log.proofs.Dealt.{dealing_on, next_is}
 use Rattle.shared_log.proofs.Joined.{alone_reading}
@@ -31,6 +31,6 @@ invariant_of-result c =
 
 pub returns-clause-dealing : goal.returns-clause-dealing
 returns-clause-dealing c =
-    let left = c.deal_reader.ensures.left in let pv : c.pass.inside.pass ≡ c.args.pass.now = c.pass.view_is in
+    let left = c.deal_reader.ensures.left in let pv : c.pass.inside.handle.pass ≡ c.args.pass.now = c.pass.view_is in
     dealing_on c.args.log.now c.args.number c.args.pass.now _ c.requires.dealing c.requires.inside (ap (λ (p : PublisherValue). p.of) left ∙ ap (λ (p : PublisherValue). p.of) pv)
     (ap (λ (p : PublisherValue). p.pass) left ∙ ap (λ (p : PublisherValue). record p.pass { reading = other_readings p.pass.reading }) pv) (ap (λ (p : PublisherValue). p.steps) left ∙ ap (λ (p : PublisherValue). p.steps) pv) (ap (λ (p : PublisherValue). p.sure) left ∙ ap (λ (p : PublisherValue). p.sure) pv ∙ c.requires.dealing.sure)

@@ -2,10 +2,10 @@ use Rattle.std.proofs.Common.{◌≡◌, length, ◌+◌, ◌^◌, ◌<◌, ℕ,
 use Rattle.theory.specs.Position.{IsGeometry}
 use Rattle.position.specs.declared.head.FrameHead.{FrameHead}
 use Rattle.std.specs.Int.{w64, to_le_bytes}
-use Rattle.frame_words.specs.Contents.{head_by}
+use Rattle.position.specs.Contents.{head_by}
 use Rattle.log_memory.specs.declared.reader.Consumer.{Consumer}
 use Rattle.log_rule.specs.Readings.{Looks}
-use Rattle.log_passes.specs.Readers.{CopiesKnown, part_bytes}
+use Rattle.shared_log.specs.Steps.Readers.{CopiesKnown, part_bytes}
 use Rattle.shared_log.specs.Readers.{Finds, FindsPart, IsReading, ReaderValue, ReadsNone}
 use Rattle.shared_log.proofs.Finding.{finds_none, finds_part, finds_seen, found_reading, looked_by, low_end, short_head}
 use Rattle.shared_log.proofs.Holding.{looked_rest, reader_kept}
@@ -24,7 +24,7 @@ returns-then-word-eq0-clause-none c =
 pub invariant_of-reader : goal.invariant_of-reader
 invariant_of-reader c =
     let is = c.reader.invariant.reading in
-    let told : Looks c.reader.inside.pass.pass c.reader.inside.place c.look-word.result c.look-word.new.pass.pass = subst (λ (x : ℕ). Looks c.reader.inside.pass.pass x c.look-word.result c.look-word.new.pass.pass) (ap (λ (x : Consumer). x.place) c.consumer-consumer.ensures ∙ sym (ap (λ (r : ReaderValue). r.place) c.reader.view_is)) c.look-word.ensures.told in
+    let told : Looks c.reader.inside.handle.pass.pass c.reader.inside.place c.look-word.result c.look-word.new.pass.pass = subst (λ (x : ℕ). Looks c.reader.inside.handle.pass.pass x c.look-word.result c.look-word.new.pass.pass) (ap (λ (x : Consumer). x.place) c.consumer-consumer.ensures ∙ sym (ap (λ (r : ReaderValue). r.place) c.reader.view_is)) c.look-word.ensures.told in
     reader_kept c.reader.invariant c.look-word.ensures.seat (looked_rest _ _ _ _ _ _ c.look-word.result is told) (looked_still _ _ _ _ _ _ c.look-word.result is told)
 
 pub align32-requires : goal.align32-requires
@@ -60,7 +60,7 @@ returns-clause-found c =
 pub invariant_of-reader-2 : goal.invariant_of-reader-2
 invariant_of-reader-2 c =
     let is = c.reader.invariant.reading in let l = c.args.log.now in let r : ReaderValue = c.args.reader.now in let w = c.look-word.new.pass in let n : ℕ = c.look-word.result in let head : FrameHead = c.head_in-head.result in let end : ℕ = c.reader.inside.position + c.from.result in
-    let told : Looks c.reader.inside.pass.pass c.reader.inside.place n w.pass = subst (λ (x : ℕ). Looks c.reader.inside.pass.pass x n w.pass) (ap (λ (x : Consumer). x.place) c.consumer-consumer.ensures ∙ sym (ap (λ (x : ReaderValue). x.place) c.reader.view_is)) c.look-word.ensures.told in
+    let told : Looks c.reader.inside.handle.pass.pass c.reader.inside.place n w.pass = subst (λ (x : ℕ). Looks c.reader.inside.handle.pass.pass x n w.pass) (ap (λ (x : Consumer). x.place) c.consumer-consumer.ensures ∙ sym (ap (λ (x : ReaderValue). x.place) c.reader.view_is)) c.look-word.ensures.told in
     let k = looked_by _ r w c.consumer-consumer.result n c.reader.view_is c.consumer-consumer.ensures c.look-word.ensures.seat c.look-word.ensures.told in
     let found : Finds l r head (record r { held = w; read_to = end }) =
     finds_seen l _ r w n end head c.reader.view_is c.identity.ensures.legal c.requires.fits is k.0 k.1 c.if-word-eq0.false c.head_in-head.ensures (ap (λ (m : ℕ). c.reader.inside.position + m) (c.from.ensures ∙ c.align32.ensures)) in

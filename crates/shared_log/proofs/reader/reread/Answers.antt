@@ -1,7 +1,7 @@
 use Rattle.std.proofs.Common.{ℕ, List, length, ap, sym, ◌∙◌, subst, refl}
 use Rattle.publication.specs.declared.pass.Pass.{Pass}
 use Rattle.log_memory.specs.declared.reader.Consumer.{Consumer}
-use Rattle.log_passes.specs.Readers.{CopiesHad, MayRereadAt, ReadsAgain, SameSeat, part_bytes}
+use Rattle.shared_log.specs.Steps.Readers.{CopiesHad, MayRereadAt, ReadsAgain, SameSeat, part_bytes}
 use Rattle.position.specs.declared.head.FrameHead.{FrameHead}
 use Rattle.shared_log.specs.Readers.{IsReading, ReaderValue, Rereads, consumer_of}
 use Rattle.shared_log.proofs.Finding.{may_reread, rereads_by, whole_again}

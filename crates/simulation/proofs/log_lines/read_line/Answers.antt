@@ -29,5 +29,5 @@ reads_frame l n m r end head before after line h told same goes =
     )
 
 pub returns-clause-reads : goal.returns-clause-reads
-returns-clause-reads g c =
-    reads_frame (g.L.Claims.stream c.args.log.now) (g.L.Claims.stream c.next.new.self) (g.L.Claims.stream c.advance.new.self) c.args.reader c.advance.result c.in-Some.head c.args.block.now c.next.new.block (line_content c.in_ok-line.line) c.in-Some.ensures.found c.in_ok-line.ensures c.in-Some.ensures.same c.advance.ensures
+returns-clause-reads c =
+    reads_frame c.args.log.now c.next.new.self c.advance.new.self c.args.reader c.advance.result c.in-Some.head c.args.block.now c.next.new.block (line_content c.in_ok-line.line) c.in-Some.ensures.found c.in_ok-line.ensures c.in-Some.ensures.same c.advance.ensures

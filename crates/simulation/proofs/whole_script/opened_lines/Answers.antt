@@ -14,7 +14,7 @@ use Rattle.simulation.proofs.ScriptRuns.{stage_plays}
 use Rattle.simulation.proofs.whole_script.opened_lines.Goals as goal
 
 pub returns : goal.returns
-returns g c =
+returns c =
     let log = c.args.script.now.log in
     let script = script_content c.args.script.now in
     let session : FitsSigned w32 c.args.script.now.log.session = search rules in

@@ -1,15 +1,29 @@
-use Rattle.std.proofs.Common.{◌∙◌, ap, sym, refl, rules, w32, to_z, of_z, FitsSigned}
+use Rattle.std.proofs.Common.{◌≡◌, ◌∙◌, ap, arith, length, sym, refl, rules, w32, to_z, of_z, FitsSigned}
 use Rattle.std.proofs.lemmas.Int.{to_z-of_z}
+use Rattle.std.proofs.lemmas.List.{length-replicate}
 use Rattle.theory.specs.Bytes.{Identity}
 use Rattle.flow_control.specs.declared.stream.StreamFlow.{StreamFlow}
+use Rattle.one_hand.specs.Stream.{Stream}
 use Rattle.one_hand.specs.declared.hand_reader.HandReader.{HandReader}
 use Rattle.sender.specs.Sending.{begun}
 use Rattle.simulation.proofs.Identities.{same_identity}
 use Rattle.simulation.proofs.SimulationOpens.{opened_shown}
 use Rattle.simulation.proofs.whole_script.simulation.Goals as goal
 
+pub invariant_of-result : goal.invariant_of-result
+invariant_of-result c = record {
+  room =
+      let size : length c.in_ok-block.block ≡ c.mtu-2.result = ap length c.in_ok-block.ensures ∙ length-replicate c.mtu-2.result 0 in
+      let log = ap (λ (s : Stream). s.identity.geometry.mtu) c.requires.opened in let mtu = c.mtu-2.ensures.value in omega (arith, size, log, mtu);
+  size = search rules;
+  first = search rules;
+  from = search rules;
+  there = search rules;
+  eight = search rules;
+}
+
 pub returns-in-Ok : goal.returns-in-Ok
-returns-in-Ok g c =
+returns-in-Ok c =
     let line = c.args.line.now in
     let session : FitsSigned w32 c.args.line.now.session = search rules in
     let stream : FitsSigned w32 c.args.line.now.stream = search rules in
@@ -22,7 +36,7 @@ returns-in-Ok g c =
       sender = c.in-Ok.ensures.made ∙ ap (λ (j : Identity). begun j line.start first c.new-flow.result) (c.new-identity.ensures ∙ sym same) ∙ ap (λ (f : StreamFlow). begun i line.start first f) c.new-flow.ensures.made;
       packets = c.new-in-Ok.ensures;
     })
-    c.requires.ready.listening
+    c.in_ok-subscribers.ensures.listening
 
-pub new-requires-clause-begins : goal.new-requires-clause-begins
-new-requires-clause-begins g c = record { limit = c.new-flow.ensures.limit; most = c.new-flow.ensures.allowed }
+pub new-requires-3-clause-begins : goal.new-requires-3-clause-begins
+new-requires-3-clause-begins c = record { limit = c.new-flow.ensures.limit; most = c.new-flow.ensures.allowed }

@@ -1,4 +1,4 @@
-use Rattle.log_passes.specs.Handles.{IsOf}
+use Rattle.shared_log.specs.Steps.Handles.{IsOf}
 use Rattle.stream_tests.proofs.consumers_among_threads.keep_and_join.Given as goal
 
 abbrev pub invariant-loop : goal.invariant-loop

@@ -1,6 +1,6 @@
 use Rattle.std.proofs.Common.{subst, sym, ◌∙◌}
 use Rattle.publication.specs.declared.refusal.Refusal.{Refusal}
-use Rattle.log_passes.specs.Handles.{PublisherValue}
+use Rattle.shared_log.specs.Steps.Handles.{PublisherValue}
 use Rattle.claims.specs.Holdings.{ArmedValue, ClaimValue}
 use Rattle.claims.specs.Claimings.{AddsRange, ArmsFor, OpensClaim, TripsTerm}
 use Rattle.claims.proofs.Boxed.{armed_is, may_add}

@@ -5,7 +5,7 @@ use Rattle.theory.specs.Placed.{Pad}
 use Rattle.theory.specs.Position.{IsGeometry}
 use Rattle.publication.specs.Claims.{HasBlank}
 use Rattle.publication.specs.Steps.{geometry_of}
-use Rattle.log_passes.specs.Handles.{IsOf, LogValue}
+use Rattle.shared_log.specs.Steps.Handles.{IsOf, LogValue}
 use Rattle.claims.specs.Holdings.{ClaimValue}
 use Rattle.claims.specs.Claimings.{EndsClaim}
 use Rattle.claims.proofs.Rests.{filled, filled_rests, open_blank}

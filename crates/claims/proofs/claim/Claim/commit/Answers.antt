@@ -2,7 +2,7 @@ use Rattle.std.proofs.Common.{ℕ, ◌+◌, List, subst, sym, ap, ◌∙◌}
 use Rattle.std.specs.Prelude.{vec_len}
 use Rattle.theory.specs.Placed.{Data}
 use Rattle.publication.specs.Claims.{HasBlank}
-use Rattle.log_passes.specs.Handles.{IsOf, LogValue}
+use Rattle.shared_log.specs.Steps.Handles.{IsOf, LogValue}
 use Rattle.claims.specs.Holdings.{ClaimValue}
 use Rattle.claims.specs.Claimings.{EndsClaim}
 use Rattle.claims.proofs.Rests.{filled, filled_rests, open_blank}

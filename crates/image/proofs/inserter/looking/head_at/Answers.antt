@@ -1,4 +1,4 @@
-use Rattle.frame_words.specs.Contents.{head_by}
+use Rattle.position.specs.Contents.{head_by}
 use Rattle.std.specs.Int.{to_le_bytes, w64}
 use Rattle.std.proofs.Common.{ℕ, List, ◌≡◌, ◌+◌, ◌*◌, ◌/◌, ◌%◌, ◌^◌, ◌<◌, ◌≤◌, ap, sym, subst, refl, ◌∙◌}
 use Rattle.std.specs.Prelude.{◌↔◌, bit_and, slice_index}

@@ -1,4 +1,4 @@
-use Rattle.std.proofs.Common.{◌∙◌, length, subst, sym}
+use Rattle.std.proofs.Common.{◌∙◌, subst, sym}
 use Rattle.std.specs.Prelude.{None, slice_set}
 use Rattle.one_hand.specs.Stream.{Aborts, Stream}
 use Rattle.one_hand.specs.Hands.{stream_in}
@@ -7,11 +7,11 @@ use Rattle.one_hand.proofs.InHand.{held_at, may_end}
 use Rattle.one_hand.proofs.log_hand.LogHandClaims.abort.Goals as goal
 
 pub abort_as-end-requires-clause-may : goal.abort_as-end-requires-clause-may
-abort_as-end-requires-clause-may c = may_end c.self.inside.log c.in-Some.all c.self.inside.held c.args.publisher c.in-Some-held.held c.requires.publisher (there c.self.inside.log c.self.inside.all c.in-Some.all c.self.inside.held _ c.self.invariant (sym c.take.ensures.value ∙ c.in-Some.is)).hand (held_at c.self.inside.held c.args.publisher c.in-Some-held.held c.in-Some-held.is)
+abort_as-end-requires-clause-may c = may_end c.self.inside.log c.in-Some.all c.self.inside.held c.args.publisher c.in-Some-held.held c.requires.publisher (there c.self.inside c.in-Some.all c.self.invariant (sym c.take.ensures.value ∙ c.in-Some.is)).hand (held_at c.self.inside.held c.args.publisher c.in-Some-held.held c.in-Some-held.is)
 
 pub invariant_of-self : goal.invariant_of-self
-invariant_of-self c = let s = (there c.self.inside.log c.self.inside.all c.in-Some.all c.self.inside.held (record { shares = c.self.inside.shares; positions = c.self.inside.positions; limit = c.self.inside.limit; cleaned = c.self.inside.cleaned; there = c.self.inside.there; block = length c.self.inside.block }) c.self.invariant (sym c.take.ensures.value ∙ c.in-Some.is)) in ends_on c.self.inside.log c.in-Some.all c.abort_as-end.new.all (slice_set c.self.inside.held c.args.publisher None) _ _ s.numbers (c.abort_as-end.ensures c.self.inside.held s.hand (held_at c.self.inside.held c.args.publisher c.in-Some-held.held c.in-Some-held.is))
+invariant_of-self c = let s = (there c.self.inside c.in-Some.all c.self.invariant (sym c.take.ensures.value ∙ c.in-Some.is)) in ends_on c.self.inside.log c.in-Some.all c.abort_as-end.new.all (slice_set c.self.inside.held c.args.publisher None) _ _ s.numbers (c.abort_as-end.ensures c.self.inside.held s.hand (held_at c.self.inside.held c.args.publisher c.in-Some-held.held c.in-Some-held.is))
 
 pub returns : goal.returns
-returns c = subst (λ (s : Stream). Aborts s c.args.publisher c.abort_as-end.result (stream_in c.abort_as-end.new.all (slice_set c.self.inside.held c.args.publisher None))) (shown c.self.inside.all c.in-Some.all c.self.inside.held _ c.self.view_is (sym c.take.ensures.value ∙ c.in-Some.is))
-    (c.abort_as-end.ensures c.self.inside.held (there c.self.inside.log c.self.inside.all c.in-Some.all c.self.inside.held (record { shares = c.self.inside.shares; positions = c.self.inside.positions; limit = c.self.inside.limit; cleaned = c.self.inside.cleaned; there = c.self.inside.there; block = length c.self.inside.block }) c.self.invariant (sym c.take.ensures.value ∙ c.in-Some.is)).hand (held_at c.self.inside.held c.args.publisher c.in-Some-held.held c.in-Some-held.is)).ends
+returns c = subst (λ (s : Stream). Aborts s c.args.publisher c.abort_as-end.result (stream_in c.abort_as-end.new.all (slice_set c.self.inside.held c.args.publisher None))) (shown c.self.inside c.in-Some.all _ c.self.view_is (sym c.take.ensures.value ∙ c.in-Some.is))
+    (c.abort_as-end.ensures c.self.inside.held (there c.self.inside c.in-Some.all c.self.invariant (sym c.take.ensures.value ∙ c.in-Some.is)).hand (held_at c.self.inside.held c.args.publisher c.in-Some-held.held c.in-Some-held.is)).ends

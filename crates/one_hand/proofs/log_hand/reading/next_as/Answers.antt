@@ -1,7 +1,7 @@
 use Rattle.std.proofs.Common.{◌≡◌, ℕ, List, subst, sym, refl}
 use Rattle.std.specs.Prelude.{IfSome, Option, None, Some}
 use Rattle.position.specs.declared.head.FrameHead.{FrameHead}
-use Rattle.log_passes.specs.Handles.{LogValue, PublisherValue}
+use Rattle.shared_log.specs.Steps.Handles.{LogValue, PublisherValue}
 use Rattle.shared_log.specs.Readers.{ReaderValue, ReadsFrame}
 use Rattle.one_hand.specs.Readers.{Found, reader_of}
 use Rattle.one_hand.specs.declared.log_hand.consumer.Consumer.{Consumer}

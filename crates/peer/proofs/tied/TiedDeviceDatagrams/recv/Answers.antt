@@ -11,6 +11,6 @@ returns-clause-takes c =
       count = s.count;
       middle = s.middle;
       passes = s.passes;
-      ends = handed s.middle c.seek.new.self c.settle.new.self c.hand_over.new.self c.hand_over.result c.hand_over.new.buffer
+      ends = handed s.middle c.seek.new.self c.settle.new.self c.hand_over.result c.hand_over.new.buffer
           (subst (λ (b : Bool). EndsSeeking s.middle (Ok b) c.seek.new.self) c.if-not-branch.false s.ends) c.settle.ensures.settles c.settle.ensures.socket c.hand_over.ensures.hands;
     }

@@ -9,7 +9,7 @@ use Rattle.shared_log.proofs.keeper.joining.begin_there.Goals as goal
 
 pub invariant_of-keeper : goal.invariant_of-keeper
 invariant_of-keeper c =
-    let v : Pass = c.keeper.inside.pass.pass in let is = c.keeper.invariant.keeping in let seat = c.begin_consumer.ensures.seat in
+    let v : Pass = c.keeper.inside.handle.pass.pass in let is = c.keeper.invariant.keeping in let seat = c.begin_consumer.ensures.seat in
     let after : c.begin_consumer.new.pass.pass ≡ joined v c.args.number c.args.place c.args.position = c.begin_consumer.ensures.joins in
     keeper_kept c.keeper.invariant seat.of seat.freed (ap (λ (p : Pass). p.identity) after) (ap (λ (p : Pass). p.start) after)
     (subst (λ (p : Pass). IsKeeping p c.keeper.inside.limit c.keeper.inside.cleaned) (sym after) record { some = is.some; keeper = is.keeper; limit_is = is.limit_is; cleaned_is = is.cleaned_is })

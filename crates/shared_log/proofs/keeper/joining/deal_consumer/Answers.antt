@@ -3,7 +3,7 @@ use Rattle.publication.specs.declared.pass.Pass.{Pass}
 use Rattle.log_rule.specs.Claims.Plays.{newcomer}
 use Rattle.log_rule.specs.Keepings.{newly}
 use Rattle.log_rule.specs.Table.{first_reading, reader_alone}
-use Rattle.log_passes.specs.Handles.{PublisherValue}
+use Rattle.shared_log.specs.Steps.Handles.{PublisherValue}
 use Rattle.shared_log.specs.Keepers.{KeeperValue}
 use Rattle.shared_log.proofs.Joined.{alone_reading}
 use Rattle.shared_log.proofs.keeper.joining.deal_consumer.Goals as goal
@@ -11,7 +11,7 @@ use Rattle.shared_log.proofs.keeper.joining.deal_consumer.Goals as goal
 -- the new pass
 given : (c : goal.After-start) → c.deal_reader-pass.result.pass ≡ reader_alone c.args.log.now.identity c.args.log.now.start (newly c.args.number c.args.position)
 given c =
-    let same : c.keeper.inside.pass.pass ≡ c.args.keeper.now.held.pass = ap (λ (k : KeeperValue). k.held.pass) c.keeper.view_is in
+    let same : c.keeper.inside.handle.pass.pass ≡ c.args.keeper.now.held.pass = ap (λ (k : KeeperValue). k.held.pass) c.keeper.view_is in
     ap (λ (p : PublisherValue). p.pass) c.deal_reader-pass.ensures.dealt ∙ ap (λ (p : Pass). record (newcomer p.identity p.start 0 0) { reading = first_reading p.reading }) same
     ∙ (λ i. record (newcomer (c.requires.fits.identity i) (c.requires.fits.start i) 0 0) { reading = first_reading (c.requires.first i) })
 

@@ -4,8 +4,8 @@ use Rattle.simulation.proofs.Simulations.{log_answered, seen_as}
 use Rattle.simulation.proofs.simulation.Simulation.abort.Goals as goal
 
 pub returns : goal.returns
-returns g c =
+returns c =
     let command = commands.Abort c.args.publisher.number in
     let before = c.args.lines.now.items in
     let after = c.add_line.new.lines.items in
-    on_ok_weaker c.add_line.result (λ told. seen_as _ _ _ command before after c.self.view_is (log_answered _ (g.L.Claims.stream c.abort_line-line.new.log) command c.abort_line-line.result before after c.abort_line-line.ensures.still c.abort_line-line.ensures.leads told)) c.add_line.ensures
+    on_ok_weaker c.add_line.result (λ told. seen_as _ _ _ command before after c.self.view_is (log_answered _ c.abort_line-line.new.log command c.abort_line-line.result before after c.abort_line-line.ensures.still c.abort_line-line.ensures.leads told)) c.add_line.ensures

@@ -9,12 +9,12 @@ use Rattle.simulation.proofs.Simulations.{deliver_answered, missing_deliver, see
 use Rattle.simulation.proofs.simulation.Simulation.deliver.Goals as goal
 
 pub returns-in_default : goal.returns-in_default
-returns-in_default g c =
+returns-in_default c =
     let none : slice_get c.self.inside.packets c.args.packet ≡ None = search rules in
     on_ok_weaker c.add_line.result (λ told. unchanged _ _ (commands.Deliver c.args.packet c.args.receiver.number c.args.now) c.args.lines.now.items c.add_line.new.lines.items c.self.view_is (missing_deliver _ c.args.packet c.args.receiver.number c.args.now _ c.args.lines.now.items c.add_line.new.lines.items none refl told)) c.add_line.ensures
 
 pub returns : goal.returns
-returns g c =
+returns c =
     let n = c.args.receiver.number in
     let before = c.args.lines.now.items in
     let after = c.tell.new.lines.items in

@@ -6,7 +6,7 @@ use Rattle.simulation.proofs.Simulations.{image_answered, unchanged}
 use Rattle.simulation.proofs.simulation.Simulation.image.Goals as goal
 
 pub returns : goal.returns
-returns g c =
+returns c =
     let k = c.args.receiver.number in
     let before = c.args.lines.now.items in
     let after = c.add_line.new.lines.items in

@@ -7,7 +7,7 @@ use Rattle.simulation.proofs.Simulations.{poll_answered, seen_as}
 use Rattle.simulation.proofs.simulation.Simulation.poll.Goals as goal
 
 pub returns : goal.returns
-returns g c =
+returns c =
     let k = c.args.receiver.number in
     let before = c.args.lines.now.items in
     let after = c.add_line.new.lines.items in

@@ -8,7 +8,7 @@ use Rattle.simulation.proofs.Simulations.{raw_answered, seen_as}
 use Rattle.simulation.proofs.simulation.Simulation.raw.Goals as goal
 
 pub returns : goal.returns
-returns g c =
+returns c =
     let n = c.args.receiver.number in
     let before = c.args.lines.now.items in
     let after = c.tell.new.lines.items in

@@ -10,7 +10,7 @@ use Rattle.simulation.proofs.Simulations.{alone_bytes, on_both, seen_as, tick_an
 use Rattle.simulation.proofs.simulation.Simulation.tick.Goals as goal
 
 pub returns : goal.returns
-returns g c =
+returns c =
     let n = c.args.receiver.number in
     let before = c.args.lines.now.items in
     let after = c.tell_replies.new.lines.items in

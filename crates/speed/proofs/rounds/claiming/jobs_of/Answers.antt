@@ -1,6 +1,6 @@
 use Rattle.std.proofs.Common.{subst, sym, ◌∙◌}
 use Rattle.std.specs.List.{AllByRecursion}
-use Rattle.log_passes.specs.Handles.{IsOf}
+use Rattle.shared_log.specs.Steps.Handles.{IsOf}
 use Rattle.claims.specs.Holdings.{IsResting}
 use Rattle.speed.proofs.Lanes.{job_parts_are, jobs_are, of_lanes, resting_lanes}
 use Rattle.speed.proofs.rounds.claiming.jobs_of.Goals as goal

@@ -1,5 +1,5 @@
 use Rattle.std.proofs.Common.{List, sym, ◌∙◌, subst}
-use Rattle.log_passes.specs.Handles.{PublisherValue}
+use Rattle.shared_log.specs.Steps.Handles.{PublisherValue}
 use Rattle.shared_log.specs.Books.{AreAll, ShowsBook}
 use Rattle.speed.proofs.Books.{filled}
 use Rattle.speed.proofs.Lanes.{all_there}

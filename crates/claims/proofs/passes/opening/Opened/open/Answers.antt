@@ -1,6 +1,6 @@
 use Rattle.std.proofs.Common.{◌≡◌, ◌+◌, ◌≤◌, List, All, length, sym, ◌∙◌, subst, arith}
 use Rattle.std.specs.declared.option.Option.TheVariants.{Some}
-use Rattle.log_passes.specs.Handles.{IsOf, LogValue, PublisherValue}
+use Rattle.shared_log.specs.Steps.Handles.{IsOf, LogValue, PublisherValue}
 use Rattle.shared_log.specs.Keepers.{KeeperValue}
 use Rattle.claims.specs.Passes.Reading.{IsUnread}
 use Rattle.claims.proofs.Openers.{keeper_fits, publishers_fit, readers_fit}

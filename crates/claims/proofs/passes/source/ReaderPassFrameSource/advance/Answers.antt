@@ -2,7 +2,7 @@ use Rattle.std.proofs.Common.{rules, subst}
 use Rattle.theory.specs.Position.{IsGeometry}
 use Rattle.theory.specs.Bytes.{Identity}
 use Rattle.frame_source.specs.Sources.{Passes}
-use Rattle.log_passes.specs.Handles.{LogValue}
+use Rattle.shared_log.specs.Steps.Handles.{LogValue}
 use Rattle.shared_log.specs.Sourced.{source_of}
 use Rattle.shared_log.proofs.Sourced.{advance_looked, passes}
 use Rattle.claims.proofs.passes.source.ReaderPassFrameSource.advance.Goals as goal

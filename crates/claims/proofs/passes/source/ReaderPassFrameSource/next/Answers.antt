@@ -2,7 +2,7 @@ use Rattle.std.proofs.Common.{rules, subst}
 use Rattle.std.specs.Prelude.{IfNone, IfSome, None, Option, Some}
 use Rattle.std.proofs.lemmas.Option.{IfSome_then}
 use Rattle.frame_source.specs.Sources.{FindsNone, ReadsNext}
-use Rattle.log_passes.specs.Handles.{LogValue}
+use Rattle.shared_log.specs.Steps.Handles.{LogValue}
 use Rattle.shared_log.specs.Sourced.{Grows, source_of}
 use Rattle.shared_log.proofs.Sourced.{found, next_looked, none}
 use Rattle.claims.proofs.passes.source.ReaderPassFrameSource.next.Goals as goal

@@ -1,6 +1,6 @@
 use Rattle.std.proofs.Common.{rules, subst, sym}
 use Rattle.frame_source.specs.Sources as sources
-use Rattle.log_passes.specs.Handles.{LogValue}
+use Rattle.shared_log.specs.Steps.Handles.{LogValue}
 use Rattle.shared_log.specs.Sourced.{source_of}
 use Rattle.shared_log.proofs.Sourced.{again, may_reread, reread_looked}
 use Rattle.claims.proofs.passes.source.ReaderPassFrameSource.reread.Goals as goal

@@ -2,9 +2,9 @@ use Rattle.std.proofs.Common.{◌≡◌, ℕ, ◌+◌, ◌≤◌, ◌∷◌, [],
 use Rattle.theory.specs.Bytes.{Identity}
 use Rattle.theory.specs.Placed.{Data}
 use Rattle.theory.specs.Position.{aligned}
-use Rattle.frame_words.specs.Words.{header_words}
-use Rattle.frame_words.proofs.Fields.{all_bytes}
-use Rattle.log_passes.specs.Handles.{LogValue}
+use Rattle.position.specs.Words.{header_words}
+use Rattle.position.proofs.Fields.{all_bytes}
+use Rattle.shared_log.specs.Steps.Handles.{LogValue}
 use Rattle.shared_log.proofs.Filling.{data_first, data_spelt, fills, opens}
 use Rattle.shared_log.proofs.publisher.calls.OnLogWordCalls.fill_data.Goals as goal
 

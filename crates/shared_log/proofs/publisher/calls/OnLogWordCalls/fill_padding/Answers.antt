@@ -1,8 +1,8 @@
 use Rattle.std.proofs.Common.{◌≡◌, ◌≤◌, ◌∷◌, [], ap, sym, ◌∙◌, subst, arith}
 use Rattle.theory.specs.Bytes.{Identity}
 use Rattle.theory.specs.Placed.{Pad}
-use Rattle.frame_words.specs.Words.{header_words}
-use Rattle.log_passes.specs.Handles.{LogValue}
+use Rattle.position.specs.Words.{header_words}
+use Rattle.shared_log.specs.Steps.Handles.{LogValue}
 use Rattle.shared_log.proofs.Filling.{fills, opens, pad_spelt}
 use Rattle.shared_log.proofs.publisher.calls.OnLogWordCalls.fill_padding.Goals as goal
 

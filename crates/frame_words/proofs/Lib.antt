@@ -1,5 +1,0 @@
-pub mod Wordings
-pub mod Contents
-pub mod Copying
-pub mod Fields
-mod WordRows

@@ -1,7 +1,0 @@
-mod Resting
-mod Works
-mod Picked
-mod Heads
-mod Read
-mod Cleaned
-mod Together

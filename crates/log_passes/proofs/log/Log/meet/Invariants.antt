@@ -1,4 +1,0 @@
-use Rattle.log_passes.proofs.log.Log.meet.Given as goal
-
-abbrev pub ghosts-meet_as : goal.ghosts-meet_as
-ghosts-meet_as a = record { one = a.one.now.pass; other = a.other.now.pass }

@@ -1,8 +1,0 @@
-pub mod Rows
-pub mod Growing
-pub mod Ending
-pub mod Parts
-pub mod Opening
-pub mod Agreements
-pub mod Steps
-pub mod ClaimRows
